@@ -43,11 +43,11 @@ none_found : (first : ℕ) (b : Bool) (n : ℕ) → option_map (λ i. i + first)
 none_found first false n h = refl
 none_found first true n h = absurd (true≢false (ap is_some h))
 
-record LinesAgree (entries : List Entry) (j : Journal) : Type 0 where
-  steps : list_all (λ b. b) (map (step_agrees entries) j.plan.steps) ≡ true
-  log : list_all (λ b. b) (log_agrees entries j.plan.steps [] j.plan.steps j.log) ≡ true
+pub record LinesAgree (entries : List Entry) (j : Journal) : Type 0 where
+  pub steps : list_all (λ b. b) (map (step_agrees entries) j.plan.steps) ≡ true
+  pub log : list_all (λ b. b) (log_agrees entries j.plan.steps [] j.plan.steps j.log) ≡ true
 
-lines_of_agreed : (entries : List Entry) (j : Journal) → Agrees entries j → LinesAgree entries j
+pub lines_of_agreed : (entries : List Entry) (j : Journal) → Agrees entries j → LinesAgree entries j
 lines_of_agreed entries j h =
     let lines = lines_agree entries j in
     let steps = map (step_agrees entries) j.plan.steps in
@@ -80,7 +80,7 @@ sources_unnamed entries side uid (s ∷ steps) agrees h =
     ]
 
 -- no old entry names a UID of this entry
-abbrev IsUnnamed : List Entry → Side → Entry → Type 0
+abbrev pub IsUnnamed : List Entry → Side → Entry → Type 0
 IsUnnamed entries side x = All (λ e. uid_of side e ≡ uid_of side x → ⊥) entries
 
 unnamed : (entries : List Entry) (side : Side) (x : Entry) → is_named entries side (uid_of side x) ≡ false → IsUnnamed entries side x
@@ -89,7 +89,7 @@ unnamed (e ∷ entries) side x h =
     let u = or_parts (uid_of side e == uid_of side x) (is_named entries side (uid_of side x)) h in
     All-cons (λ e. uid_of side e ≡ uid_of side x → ⊥) e entries (eqb-false (uid_of side e) (uid_of side x) u.0) (unnamed entries side x u.1)
 
-fresh_unnamed : (entries : List Entry) (steps : List Step) (x : Entry) → list_all (λ b. b) (map (step_agrees entries) steps) ≡ true → Fresh entries steps [] steps x
+pub fresh_unnamed : (entries : List Entry) (steps : List Step) (x : Entry) → list_all (λ b. b) (map (step_agrees entries) steps) ≡ true → Fresh entries steps [] steps x
     → (side : Side) → IsUnnamed entries side x
 fresh_unnamed entries steps x agrees fresh side = unnamed entries side x (elim (fresh side) [
   | inl planned ↦ sources_unnamed entries side (uid_of side x) steps agrees planned
@@ -106,7 +106,7 @@ uid_after : (j : Journal) (side : Side) (e : Entry) → (uid_of side (entry_afte
 uid_after j Far e = same_or_none (is_gone j.plan.steps Pull e) e.far
 uid_after j Near e = same_or_none (is_gone j.plan.steps Push e) e.near
 
-apart_numbers : (m n a b : ℕ) → (m ≡ n → m ≡ 0) → (a ≡ m) ⊎ (a ≡ 0) → (b ≡ n) ⊎ (b ≡ 0) → a ≡ b → a ≡ 0
+pub apart_numbers : (m n a b : ℕ) → (m ≡ n → m ≡ 0) → (a ≡ m) ⊎ (a ≡ 0) → (b ≡ n) ⊎ (b ≡ 0) → a ≡ b → a ≡ 0
 apart_numbers m n a b h (inr none) right e = none
 apart_numbers m n a b h left (inr none) e = e ∙ none
 apart_numbers m n a b h (inl x) (inl y) e = x ∙ h (sym x ∙ e ∙ y)
@@ -154,9 +154,9 @@ after_fits j e notes fits = record {
   flags = recorded_fits e j.plan.notes notes fits.flags;
 }
 
-record IsWhole (e : Entry) : Type 0 where
-  fits : IsEntry Two e
-  some : has_a_side e ≡ true
+pub record IsWhole (e : Entry) : Type 0 where
+  pub fits : IsEntry Two e
+  pub some : has_a_side e ≡ true
 
 copy_whole : (s : Step) (logged : Logged) → IsStep s → FitsStep s logged → All IsWhole (entry_of_copy s logged)
 copy_whole (step.New Pull uid flags mark) (Copied copy) h f =
@@ -171,7 +171,7 @@ copy_whole (step.Gone d far near) logged h f = All-nil IsWhole
 copy_whole (step.Flags d far near set cleared) logged h f = All-nil IsWhole
 copy_whole (step.Expunge side uid) logged h f = All-nil IsWhole
 
-copies_whole : (steps : List Step) (log : List Logged) → All IsStep steps → IsLog steps log → All IsWhole (entries_of_copies steps log)
+pub copies_whole : (steps : List Step) (log : List Logged) → All IsStep steps → IsLog steps log → All IsWhole (entries_of_copies steps log)
 copies_whole [] log h f = All-nil IsWhole
 copies_whole (s ∷ steps) [] h f = All-nil IsWhole
 copies_whole (s ∷ steps) (logged ∷ log) h f =

@@ -12,6 +12,9 @@ pub mod CopiedUids
 pub mod EntryOrderLemmas
 pub mod EntryPairLemmas
 pub mod FreshAgreement
+pub mod GiveUpLemmas
+pub mod GivenUpPairs
+pub mod GivenUpSteps
 pub mod GoParts
 pub mod HeldBooks
 pub mod KnownBooks

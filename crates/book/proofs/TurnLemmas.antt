@@ -15,7 +15,7 @@ use Rattle.book.specs.Commits.{LeavesCommit, HoldsMade, CommitsTo, CommitsHalf}
 use Rattle.book.proofs.KnownBooks.{book_known}
 
 -- the book that the files hold is the one that was found
-same_state : (old : Files) (state s : SyncState) (p : Pending) → Holds old state p → Holds old s p → state ≡ s
+pub same_state : (old : Files) (state s : SyncState) (p : Pending) → Holds old state p → Holds old s p → state ≡ s
 same_state old state s p found held = (book_known old state s p p found held).0
 
 pub turned : (old new : Files) (state : SyncState) (p q : Pending) → Holds old state p → Holds new state q → Turns p q old new

@@ -10,6 +10,8 @@ pub mod Commits
 pub mod Committed
 pub mod DiskShelves
 pub mod EntryOrders
+pub mod GivenUpParts
+pub mod GivingUp
 pub mod MemShelves
 pub mod PlacedLists
 pub mod Shelves

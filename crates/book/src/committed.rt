@@ -23,7 +23,7 @@ use rules::state::SyncState;
 use std::alloc::{AllocError, Global};
 use sync_state::journal::{Journal, Logged};
 
-fn is_pair(entry: &Entry, far: Option<Uid>, near: Option<Uid>) -> bool
+pub(crate) fn is_pair(entry: &Entry, far: Option<Uid>, near: Option<Uid>) -> bool
     ensures { result ≡ is_pair far near entry.now }
 {
     entry.far == far && entry.near == near
@@ -164,7 +164,11 @@ fn push_all_kept(
     merge(list, journal, &gones, entries)
 }
 
-fn push_copies(list: &mut Vec<Entry>, steps: &[Step], log: &[Logged]) -> Result<(), AllocError>
+pub(crate) fn push_copies(
+    list: &mut Vec<Entry>,
+    steps: &[Step],
+    log: &[Logged],
+) -> Result<(), AllocError>
     ensures { OnOk result (list.new.items ≡ list.old.items ++ entries_of_copies steps.now log.now) }
 {
     for (step, logged) in steps.iter().zip(log) {
@@ -202,7 +206,7 @@ fn push_copy(list: &mut Vec<Entry>, step: &Step, logged: &Logged) -> Result<(), 
 }
 
 /// Puts entries in the order in which they stand in a state.
-fn sort(list: &mut Vec<Entry>)
+pub(crate) fn sort(list: &mut Vec<Entry>)
     ensures same { IsPermutation list.old.items list.new.items }
     ensures in_order { AllPairs IsNotAfter list.new.items }
 {

@@ -9,6 +9,8 @@ mod changes;
 pub mod commit;
 pub mod committed;
 pub mod disk_shelf;
+pub mod give_up;
+pub mod given_up;
 pub mod laws;
 pub mod mem_shelf;
 mod places;

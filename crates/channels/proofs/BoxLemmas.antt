@@ -1,5 +1,6 @@
 -- Names that are put among names that rise.
 use Rattle.std.proofs.Common.{◌≡◌, ℕ, ◌+◌, ◌-◌, ◌<◌, ◌≤◌, Bool, true, false, cond, List, [], ◌∷◌, ◌++◌, Option, None, Some, get_or, take, length, refl, ap, sym, ◌∙◌, arith, subst, suc}
+use Rattle.std.proofs.lemmas.List.{take_more}
 use Rattle.std.proofs.lemmas.List.Elements.{filter-append, filter_more}
 use Rattle.std.specs.Ordering.{match_ordering, nat_cmp, ordering_reverse}
 use Rattle.std.specs.declared.cmp.Ordering.{Ordering}
@@ -72,6 +73,11 @@ goes_there name names place e =
     let at = subst (PutsAt 0 name names) e (place_from-PutsAt 0 name names) in
     let all : place ≡ place - 0 = omega arith in
     ap (λ k. insert names k name) all ∙ at.puts
+
+pub put_names-next : (boxes names : List (List ℕ)) (i : ℕ) (d : List ℕ) → i < length names
+    → put_names boxes (take (i + 1) names) ≡ put_name (get_or names i d) (put_names boxes (take i names))
+put_names-next boxes names i d h =
+    ap (put_names boxes) (take_more names i d h) ∙ put_names-append boxes (take i names) (get_or names i d ∷ [])
 
 -- a name more
 pub put_names-more : (is_chosen : List ℕ → Bool) (boxes names : List (List ℕ)) (i : ℕ) (d : List ℕ) → i < length names

@@ -1,5 +1,5 @@
 -- What was asked, one thing behind another, and how it ended.
-use Rattle.std.proofs.Common.{◌≡◌, Bool, true, false, is_some, ◌||◌, List, [], ◌∷◌, ◌++◌, Result, Ok, Err, OnOk, refl, ap, sym, ◌∙◌, subst, append-nil, inl, inr, if◌then◌else◌}
+use Rattle.std.proofs.Common.{◌≡◌, Bool, true, false, Option, None, Some, is_some, ◌||◌, List, [], ◌∷◌, ◌++◌, Result, Ok, Err, OnOk, refl, ap, sym, ◌∙◌, subst, append-nil, inl, inr, if◌then◌else◌}
 use Rattle.std.proofs.lemmas.Grind.{fold-append}
 use Rattle.std.specs.List.{fold}
 use Rattle.mailcore.specs.declared.side.Side.TheVariants.{Far, Near}
@@ -7,7 +7,7 @@ use Rattle.rules.specs.declared.options.Sides.{Sides}
 use Rattle.channels.specs.Scope.{uncovered}
 use Rattle.channels.specs.Asked.{Asked, FoundNew, Made, Outcome, Done, Failed, Unopened, Place}
 use Rattle.channels.specs.declared.fault.BoxFault.{BoxFault}
-use Rattle.channels.specs.declared.fault.BoxFault.TheVariants.{Absent, Removed, CannotOpen, Server, Locked, Refused, Stopped, GivenAgain, LeftOut, Run}
+use Rattle.channels.specs.declared.fault.BoxFault.TheVariants.{Absent, Removed, CannotOpen, Server, Locked, Refused, Stopped, GivenAgain, LeftOut, AtStep, Run}
 use Rattle.channels.specs.declared.verdict.Verdict.{Verdict}
 use Rattle.channels.specs.declared.verdict.Verdict.TheVariants.{Clean, Faulty, Over}
 use Rattle.channels.specs.Asks.{finding, making, makings}
@@ -30,8 +30,9 @@ fault_is_fault (Server store why) = tt
 fault_is_fault Locked = tt
 fault_is_fault (Refused number step) = tt
 fault_is_fault (Stopped cause) = tt
-fault_is_fault (GivenAgain uid) = tt
+fault_is_fault (GivenAgain uid side) = tt
 fault_is_fault (LeftOut path) = tt
+fault_is_fault (AtStep fault number step) = tt
 fault_is_fault (Run fault) = tt
 
 abbrev IsGoingOn : Verdict → Type 0
@@ -99,7 +100,7 @@ Follows-ends noted old new Unopened first next n h =
 
 abbrev making_by : Place → (far near : Bool) → (found_new made_far made_near ran : Outcome) → Course
 making_by place far near found_new made_far made_near ran =
-    making_course place (record { far = far; near = near }) (record { found_new = found_new; made_far = made_far; made_near = made_near; ran = ran })
+    making_course place (record { far = far; near = near }) (record { found_new = found_new; made_far = made_far; made_near = made_near; ran = ran; gave_up = None })
 
 -- what was made is so by how it ended
 made_by : (place : Place) (far near : Bool) (found_new made_far made_near ran : Outcome)
@@ -121,13 +122,14 @@ made_by place false true Done made_far Unopened ran = inr (inr (inr refl))
 
 -- it may not be made
 pub Makes-uncovered : {L : Type 0} (noted : L → Asked → L) (place : Place) (absent : Sides) (old new : L)
-    → is_some (uncovered absent place.of.channel.create) ≡ true → new ≡ old → Makes noted place absent Failed old new
-Makes-uncovered noted place absent old new e h =
-    let ends : BoxEnds = record { found_new = Done; made_far = Done; made_near = Done; ran = Done } in
+    → is_some (uncovered absent place.of.channel.create) ≡ true → (found : Outcome) → new ≡ fold noted old (FoundNew place found ∷ [])
+    → Makes noted place absent Failed old new
+Makes-uncovered noted place absent old new e found h =
+    let ends : BoxEnds = record { found_new = found; made_far = Done; made_near = Done; ran = Done; gave_up = None } in
     record {
       ends = ends;
-      follows = subst (λ b. Follows noted old new Failed (if b then record { asked = []; outcome = Failed } else making_course place absent ends)) (sym e) (record { grown = h; ended = refl });
-      made = subst (λ b. IsMadeUpTo Failed place absent (if b then record { asked = []; outcome = Failed } else making_course place absent ends).asked) (sym e) (inl refl);
+      follows = subst (λ b. Follows noted old new Failed (if b then record { asked = FoundNew place found ∷ []; outcome = Failed } else making_course place absent ends)) (sym e) (record { grown = h; ended = refl });
+      made = subst (λ b. IsMadeUpTo Failed place absent (if b then record { asked = FoundNew place found ∷ []; outcome = Failed } else making_course place absent ends).asked) (sym e) (inl (e, (found, refl)));
     }
 
 Makes-covered : {L : Type 0} (noted : L → Asked → L) (place : Place) (absent : Sides) (ends : BoxEnds) (outcome : Outcome) (old new : L)
@@ -135,8 +137,8 @@ Makes-covered : {L : Type 0} (noted : L → Asked → L) (place : Place) (absent
     → Makes noted place absent outcome old new
 Makes-covered noted place absent ends outcome old new e h = record {
   ends = ends;
-  follows = subst (λ b. Follows noted old new outcome (if b then record { asked = []; outcome = Failed } else making_course place absent ends)) (sym e) h;
-  made = subst (λ b. IsMadeBy outcome place absent (if b then record { asked = []; outcome = Failed } else making_course place absent ends).asked) (sym e)
+  follows = subst (λ b. Follows noted old new outcome (if b then record { asked = FoundNew place ends.found_new ∷ []; outcome = Failed } else making_course place absent ends)) (sym e) h;
+  made = subst (λ b. IsMadeBy outcome place absent (if b then record { asked = FoundNew place ends.found_new ∷ []; outcome = Failed } else making_course place absent ends).asked) (sym e)
       (subst (λ o. IsMadeBy o place absent (making_course place absent ends).asked) (sym h.ended)
       (made_by place absent.far absent.near ends.found_new ends.made_far ends.made_near ends.ran));
 }
@@ -151,7 +153,7 @@ pub Makes-old : {L : Type 0} (noted : L → Asked → L) (place : Place) (absent
     → Makes noted place absent (outcome_of_box_fault fault) old new
 Makes-old noted place absent fault old new e h =
     let o : Outcome = outcome_of_box_fault fault in
-    let ends : BoxEnds = record { found_new = o; made_far = Done; made_near = Done; ran = Done } in
+    let ends : BoxEnds = record { found_new = o; made_far = Done; made_near = Done; ran = Done; gave_up = None } in
     Makes-covered noted place absent ends o old new e
     (Follows-ends noted old new o (found_course place absent o) (onward (asking_if absent.far (Made Far place) Done) (asking_if absent.near (Made Near place) Done)) (fault_is_fault fault) h)
 
@@ -163,7 +165,7 @@ pub Makes-no_far : {L : Type 0} (noted : L → Asked → L) (place : Place) (abs
     → Makes noted place absent (outcome_of_box_fault fault) old new
 Makes-no_far noted place absent fault old middle new e h k =
     let o : Outcome = outcome_of_box_fault fault in
-    let ends : BoxEnds = record { found_new = Done; made_far = o; made_near = Done; ran = Done } in
+    let ends : BoxEnds = record { found_new = Done; made_far = o; made_near = Done; ran = Done; gave_up = None } in
     let far : Course = asking_if absent.far (Made Far place) o in
     let near : Course = asking_if absent.near (Made Near place) Done in
     Makes-covered noted place absent ends o old new e
@@ -178,7 +180,7 @@ pub Makes-near : {L : Type 0} (noted : L → Asked → L) (place : Place) (absen
     → Follows noted behind new outcome (asking_if absent.near (Made Near place) outcome)
     → Makes noted place absent outcome old new
 Makes-near noted place absent o old middle behind new e h k l =
-    let ends : BoxEnds = record { found_new = Done; made_far = Done; made_near = o; ran = Done } in
+    let ends : BoxEnds = record { found_new = Done; made_far = Done; made_near = o; ran = Done; gave_up = None } in
     let far : Course = asking_if absent.far (Made Far place) Done in
     let near : Course = asking_if absent.near (Made Near place) o in
     Makes-covered noted place absent ends o old new e

@@ -5,3 +5,4 @@ pub mod AskLemmas
 pub mod CourseLemmas
 pub mod OrderLemmas
 pub mod ChannelLemmas
+pub mod SearchLemmas

@@ -1,5 +1,5 @@
 -- What was asked of several, one behind another, and how far it came.
-use Rattle.std.proofs.Common.{◌≡◌, ℕ, suc, ◌+◌, ◌<◌, Bool, true, false, List, [], ◌∷◌, ◌++◌, length, get_or, drop, Result, Ok, Err, IfOk, refl, ap, sym, ◌∙◌, subst, append_assoc, append-nil, drop-cons, arith}
+use Rattle.std.proofs.Common.{◌≡◌, ℕ, suc, ◌+◌, ◌<◌, Bool, true, false, List, [], ◌∷◌, ◌++◌, length, get_or, drop, Option, None, Result, Ok, Err, IfOk, refl, ap, sym, ◌∙◌, subst, append_assoc, append-nil, drop-cons, arith}
 use Rattle.std.specs.List.{fold}
 use Rattle.rules.specs.declared.options.Options.{Options}
 use Rattle.rules.specs.declared.options.Sides.{Sides}
@@ -8,7 +8,7 @@ use Rattle.channels.specs.declared.fault.BoxFault.{BoxFault}
 use Rattle.channels.specs.declared.verdict.Verdict.{Verdict}
 use Rattle.channels.specs.declared.verdict.Verdict.TheVariants.{Clean, Faulty, Over}
 use Rattle.channels.specs.Asks.{run_attempts}
-use Rattle.channels.specs.Courses.{Begun, Behind, Course, Follows, Goes, InOrder, IsBoxAsked, IsRunAsked, Makes, NextOf, SoFar, asking_if, is_over, covered_course, onward, onward_by}
+use Rattle.channels.specs.Courses.{Begun, Behind, Course, Follows, Goes, InOrder, IsBoxAsked, IsRunAsked, Makes, NextOf, SoFar, is_over, covered_course, onward, onward_by, run_course}
 use Rattle.channels.specs.Outcomes.{IsToldOf, outcome_of_box_fault, verdict_of}
 use Rattle.channels.specs.Verdicts.{both}
 use Rattle.channels.proofs.CourseLemmas.{Follows-ends, IsToldOf-verdict, fold_behind, fault_is_fault, is_not_over}
@@ -58,10 +58,10 @@ IsBoxAsked-ran : {L : Type 0} (noted : L → Asked → L) (options : Options) (p
     → IsRunAsked options place verdict asked → IsBoxAsked options place absent verdict ((covered_course place absent made.ends).asked ++ asked)
 IsBoxAsked-ran noted options place absent old middle made verdict asked run =
     let first : Course = covered_course place absent made.ends in
-    let next : Course = record { asked = Ran place options run_attempts run.ran ∷ []; outcome = run.ran } in
+    let next : Course = run_course options place run.ran run.gave_up in
     let e : onward first next ≡ record { asked = first.asked ++ next.asked; outcome = next.outcome } = is_onward first next made.follows.ended in
     record {
-      ends = record { found_new = made.ends.found_new; made_far = made.ends.made_far; made_near = made.ends.made_near; ran = run.ran };
+      ends = record { found_new = made.ends.found_new; made_far = made.ends.made_far; made_near = made.ends.made_near; ran = run.ran; gave_up = run.gave_up };
       all = ap (λ a. first.asked ++ a) run.all ∙ sym (ap (λ c. c.asked) e);
       told = subst (λ o. IsToldOf o verdict) (sym (ap (λ c. c.outcome) e)) run.told;
     }
@@ -81,7 +81,7 @@ pub SoFar-unmade : {L E : Type 0} (noted : L → Asked → L) (options : Options
 SoFar-unmade noted options place absent old new fault result made e =
     let o : Outcome = outcome_of_box_fault fault in
     let first : Course = covered_course place absent made.ends in
-    let next : Course = asking_if true (Ran place options run_attempts) made.ends.ran in
+    let next : Course = run_course options place made.ends.ran made.ends.gave_up in
     let whole : Follows noted old new o (onward first next) = Follows-ends noted old new o first next (fault_is_fault fault) made.follows in
     SoFar-all noted old new (IsBoxAsked options place absent) (verdict_of o) result (onward first next).asked
     (record { ends = made.ends; all = refl; told = subst (λ x. IsToldOf x (verdict_of o)) whole.ended (IsToldOf-verdict o) }) whole.grown e
@@ -279,39 +279,39 @@ Begun-unrun noted options place old new e = record {
   is = record {
     verdict = Clean;
     rest = Ran place options run_attempts Done ∷ [];
-    is = record { ran = Done; all = refl; told = is_not_over Clean tt };
+    is = record { ran = Done; gave_up = None; all = refl; told = is_not_over Clean tt };
   };
   grown = e;
 }
 
-pub Begun-run : {L : Type 0} (noted : L → Asked → L) (options : Options) (place : Place) (ran : Outcome) (old new : L)
-    → new ≡ noted old (Ran place options run_attempts ran) → Goes noted old new (Begun (IsRunAsked options place))
-Begun-run noted options place ran old new e = record {
-  more = Ran place options run_attempts ran ∷ [];
+pub Begun-run : {L : Type 0} (noted : L → Asked → L) (options : Options) (place : Place) (ran : Outcome) (gave_up : Option Outcome) (old new : L)
+    → new ≡ fold noted old (run_course options place ran gave_up).asked → Goes noted old new (Begun (IsRunAsked options place))
+Begun-run noted options place ran gave_up old new e = record {
+  more = (run_course options place ran gave_up).asked;
   is = record {
     verdict = verdict_of ran;
     rest = [];
-    is = record { ran = ran; all = refl; told = IsToldOf-verdict ran };
+    is = record { ran = ran; gave_up = gave_up; all = append-nil (run_course options place ran gave_up).asked; told = IsToldOf-verdict ran };
   };
   grown = e;
 }
 
-pub Goes-run : {L : Type 0} (noted : L → Asked → L) (options : Options) (place : Place) (ran : Outcome) (verdict : Verdict) (old new : L)
-    → new ≡ noted old (Ran place options run_attempts ran) → IsToldOf ran verdict → Goes noted old new (IsRunAsked options place verdict)
-Goes-run noted options place ran verdict old new e h = record {
-  more = Ran place options run_attempts ran ∷ [];
-  is = record { ran = ran; all = refl; told = h };
+pub Goes-run : {L : Type 0} (noted : L → Asked → L) (options : Options) (place : Place) (ran : Outcome) (gave_up : Option Outcome) (verdict : Verdict) (old new : L)
+    → new ≡ fold noted old (run_course options place ran gave_up).asked → IsToldOf ran verdict → Goes noted old new (IsRunAsked options place verdict)
+Goes-run noted options place ran gave_up verdict old new e h = record {
+  more = (run_course options place ran gave_up).asked;
+  is = record { ran = ran; gave_up = gave_up; all = refl; told = h };
   grown = e;
 }
 
 -- its fault was told
-pub SoFar-fault : {L E : Type 0} (noted : L → Asked → L) (options : Options) (place : Place) (fault : BoxFault) (result : Result Verdict E) (old new : L)
-    → new ≡ noted old (Ran place options run_attempts (outcome_of_box_fault fault))
+pub SoFar-fault : {L E : Type 0} (noted : L → Asked → L) (options : Options) (place : Place) (fault : BoxFault) (gave_up : Option Outcome) (result : Result Verdict E) (old new : L)
+    → new ≡ fold noted old (run_course options place (outcome_of_box_fault fault) gave_up).asked
     → IfOk result (λ verdict. verdict ≡ verdict_of (outcome_of_box_fault fault)) → Goes noted old new (SoFar result (IsRunAsked options place))
-SoFar-fault noted options place fault (Ok verdict) old new e h =
+SoFar-fault noted options place fault gave_up (Ok verdict) old new e h =
     let o : Outcome = outcome_of_box_fault fault in
-    Goes-run noted options place o verdict old new e (subst (λ v. IsToldOf o v) (sym h) (IsToldOf-verdict o))
-SoFar-fault noted options place fault (Err why) old new e h = Begun-run noted options place (outcome_of_box_fault fault) old new e
+    Goes-run noted options place o gave_up verdict old new e (subst (λ v. IsToldOf o v) (sym h) (IsToldOf-verdict o))
+SoFar-fault noted options place fault gave_up (Err why) old new e h = Begun-run noted options place (outcome_of_box_fault fault) gave_up old new e
 
 -- of numbers, of a list that is another one by name
 pub places_next : (places items : List ℕ) (i : ℕ) → items ≡ places → i < length items → drop i places ≡ get_or items i 0 ∷ drop (i + 1) places

@@ -48,14 +48,15 @@ pub data Outcome : Type 0 where
   Unopened : Outcome
 
 -- what is asked: the names of a store's mailboxes, which are those that it answers; that no former run has synchronised a mailbox; that
--- it is made on a side; that work is done over it, with these options and in up to so many attempts; and that what stands at servers
--- is ended
+-- it is made on a side; that it is run, with these options and in up to so many attempts; that its unfinished run is given up; and that
+-- what stands at servers is ended
 pub data Asked : Type 0 where
   FarListed : (store : ImapStore) → (names : Option (List (List ℕ))) → Asked
   NearListed : (store : MaildirStore) → (names : Option (List (List ℕ))) → Asked
   FoundNew : (place : Place) → (outcome : Outcome) → Asked
   Made : (side : Side) → (place : Place) → (outcome : Outcome) → Asked
   Ran : (place : Place) → (options : Options) → (attempts : ℕ) → (outcome : Outcome) → Asked
+  GaveUp : (place : Place) → (outcome : Outcome) → Asked
   Ended : Asked
 
 abbrev pub names_of : {E : Type 0} → Result (Vec (List ℕ) Global) E → Option (List (List ℕ))

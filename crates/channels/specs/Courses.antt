@@ -1,7 +1,9 @@
 -- What is asked of the stores, whatever they answer.
-use Rattle.std.specs.Prelude.{◌≡◌, ℕ, Bool, true, false, is_some, ◌||◌, ◌⊎◌, List, [], ◌∷◌, ◌++◌, Option, None, Some, Result, Ok, Err, if◌then◌else◌}
+use Rattle.std.specs.Prelude.{◌≡◌, ℕ, Bool, true, false, is_some, IsSome, ◌||◌, ◌⊎◌, List, [], ◌∷◌, ◌++◌, Option, None, Some, Result, Ok, Err, if◌then◌else◌}
 use Rattle.std.specs.List.{fold}
+use Rattle.mailcore.specs.declared.side.Side.{Side}
 use Rattle.mailcore.specs.declared.side.Side.TheVariants.{Far, Near}
+use Rattle.runner.specs.declared.pass.Pass.{Pass}
 use Rattle.rules.specs.declared.options.Cells.{Cells}
 use Rattle.rules.specs.declared.options.Options.{Options}
 use Rattle.rules.specs.declared.options.Sides.{Sides}
@@ -13,12 +15,15 @@ use Rattle.config.specs.Cells.{line_cells}
 use Rattle.channels.specs.Boxes.{Tells, boxes_among}
 use Rattle.channels.specs.Chosen.{chosen_among}
 use Rattle.channels.specs.Scope.{options_of, uncovered}
-use Rattle.channels.specs.Asked.{Asked, Ended, FarListed, FoundNew, IsJoined, IsUnjoined, Joined, Made, NearListed, Outcome, Done, Failed, Unopened, Place, Ran}
+use Rattle.channels.specs.Asked.{Asked, Ended, FarListed, FoundNew, GaveUp, IsJoined, IsUnjoined, Joined, Made, NearListed, Outcome, Done, Failed, Unopened, Place, Ran, outcome_of_state}
+use Rattle.channels.specs.declared.fault.BoxFault.{BoxFault}
+use Rattle.channels.specs.declared.fault.RunFailure.{RunFailure}
+use Rattle.channels.specs.declared.store_fault.StoreFault.{StoreFault}
 use Rattle.channels.specs.declared.verdict.Verdict.{Verdict}
 use Rattle.channels.specs.declared.verdict.Verdict.TheVariants.{Clean, Faulty, Over}
 use Rattle.channels.specs.Asks.{Ways, making, makings, run_attempts, ways_of}
 use Rattle.channels.specs.Founds.{absent_in}
-use Rattle.channels.specs.Outcomes.{IsToldOf}
+use Rattle.channels.specs.Outcomes.{IsToldOf, absence_by, gave_up_of, outcome_of_settled}
 use Rattle.channels.specs.Refusals.{IsToldUndone, IsUndone}
 use Rattle.channels.specs.Verdicts.{both, status_of}
 
@@ -49,18 +54,19 @@ pub record BoxEnds : Type 0 where
   pub made_far : Outcome
   pub made_near : Outcome
   pub ran : Outcome
+  pub gave_up : Option Outcome
 
 -- where it is absent it is made, the far side first, if it is a new one
 abbrev pub making_course : Place → (absent : Sides) → BoxEnds → Course
 making_course place absent ends = onward (asking_if (absent.far || absent.near) (FoundNew place) ends.found_new)
     (onward (asking_if absent.far (Made Far place) ends.made_far) (asking_if absent.near (Made Near place) ends.made_near))
 
--- what was asked of a mailbox that is not made on each side on which it is absent: nothing, since Create does not cover one; or whether it
--- is a new one, which it is not, or is not known; or that it is made far, which it is not; or that it is made near, which it is not, and
+-- what was asked of a mailbox that is not made on each side on which it is absent: whether it is a new one, and nothing more, since Create
+-- does not cover one of them; or whether it is a new one, which it is not, or is not known; or that it is made far, which it is not; or that it is made near, which it is not, and
 -- then it is made far, where it was absent there, and nothing takes that back
 abbrev pub IsMadeUpTo : (fault : Outcome) → Place → (absent : Sides) → List Asked → Type 0
 IsMadeUpTo fault place absent asked =
-    (asked ≡ [])
+    (IsSome (uncovered absent place.of.channel.create) × ((found : Outcome) × (asked ≡ FoundNew place found ∷ [])))
     ⊎ ((asked ≡ FoundNew place fault ∷ [])
     ⊎ ((asked ≡ FoundNew place Done ∷ Made Far place fault ∷ [])
     ⊎ (asked ≡ FoundNew place Done ∷ making Far absent.far place ++ Made Near place fault ∷ [])))
@@ -71,19 +77,41 @@ IsMadeBy Done place absent asked = asked ≡ makings place absent
 IsMadeBy Failed place absent asked = IsMadeUpTo Failed place absent asked
 IsMadeBy Unopened place absent asked = IsMadeUpTo Unopened place absent asked
 
--- if it is absent on a side that Create does not cover, nothing is made
+-- if it is absent on a side that Create does not cover, it is asked whether it is a new one, and nothing is made
 abbrev pub covered_course : Place → (absent : Sides) → BoxEnds → Course
 covered_course place absent ends =
-    if is_some (uncovered absent place.of.channel.create) then record { asked = []; outcome = Failed } else making_course place absent ends
+    if is_some (uncovered absent place.of.channel.create) then record { asked = FoundNew place ends.found_new ∷ []; outcome = Failed } else making_course place absent ends
+
+-- so that is asked, and this is told of it
+pub record FindsAbsence {L : Type 0} (noted : L → Asked → L) (place : Place) (side : Side) (fault : BoxFault) (old new : L) : Type 0 where
+  pub answer : Result Bool StoreFault
+  pub grown : new ≡ fold noted old (FoundNew place (outcome_of_state answer) ∷ [])
+  pub told : fault ≡ absence_by side answer
+
+-- where a run failed, its plan may be given up, once
+abbrev pub giving_asked : (gave_up : Option Outcome) → (ran : Outcome) → Place → List Asked
+giving_asked None ran place = []
+giving_asked (Some outcome) Done place = []
+giving_asked (Some outcome) Failed place = GaveUp place outcome ∷ []
+giving_asked (Some outcome) Unopened place = []
+
+abbrev pub run_course : Options → Place → (ran : Outcome) → (gave_up : Option Outcome) → Course
+run_course options place ran gave_up =
+    record { asked = Ran place options run_attempts ran ∷ giving_asked gave_up ran place; outcome = ran }
+
+-- so a run and giving up ended
+abbrev pub settled_asked : Options → Place → Result Pass RunFailure → List Asked
+settled_asked options place result = (run_course options place (outcome_of_settled result) (gave_up_of result)).asked
 
 -- then it is run, once
 abbrev pub box_course : Options → Place → (absent : Sides) → BoxEnds → Course
-box_course options place absent ends = onward (covered_course place absent ends) (asking_if true (Ran place options run_attempts) ends.ran)
+box_course options place absent ends = onward (covered_course place absent ends) (run_course options place ends.ran ends.gave_up)
 
--- it is run, and this is told of it
+-- it is run, its plan given up where the run failed, or not, and this is told of the run
 pub record IsRunAsked (options : Options) (place : Place) (verdict : Verdict) (asked : List Asked) : Type 0 where
   pub ran : Outcome
-  pub all : asked ≡ Ran place options run_attempts ran ∷ []
+  pub gave_up : Option Outcome
+  pub all : asked ≡ (run_course options place ran gave_up).asked
   pub told : IsToldOf ran verdict
 
 -- so much is asked of a mailbox, and this is told of it

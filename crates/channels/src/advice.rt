@@ -1,22 +1,51 @@
-//! What is told behind a fault: what can be done, on a line that begins with two spaces.
+//! What is told after a fault: what was found, and what can be done, on lines that begin with two spaces.
 
-use crate::fault::BoxFault;
-use crate::run_advice::{advise_refused, advise_run};
+use crate::fault::{BoxFault, GivingUp};
+use crate::run_advice::{advise_refused, advise_run, advise_step};
 use crate::server_advice::advise_server;
 use crate::stop_cause::StopCause;
+use crate::telling::BoxFaultText;
 use device::trouble::Trouble;
 use mailcore::side::Side;
 use std::io;
 use std::io::Write;
 
+/// Tells what was found, how giving up the unfinished run ended, and what can be done, where that is known.
+pub(crate) fn advise<E: Write>(
+    err: &mut E,
+    fault: &BoxFault,
+    giving_up: Option<&GivingUp>,
+) -> io::Result<()> {
+    match giving_up {
+        None | Some(GivingUp::NothingPending) => advise_on(err, fault),
+        Some(GivingUp::GivenUp) => {
+            tell_stale(err, fault)?;
+            writeln!(
+                err,
+                "\n  the unfinished run was given up: it removes nothing more; run again"
+            )
+        }
+        Some(GivingUp::Failed(why)) => {
+            tell_stale(err, fault)?;
+            writeln!(
+                err,
+                "\n  the unfinished run could not be given up: {}",
+                BoxFaultText(why)
+            )?;
+            advise_on(err, why)
+        }
+    }
+}
+
 /// Tells what can be done, where that is known.
-pub(crate) fn advise<E: Write>(err: &mut E, fault: &BoxFault) -> io::Result<()> {
+fn advise_on<E: Write>(err: &mut E, fault: &BoxFault) -> io::Result<()> {
+    if fault.is_stale() {
+        tell_stale(err, fault)?;
+        return writeln!(err, ": run again");
+    }
     match fault {
         BoxFault::Absent(side) => advise_create(err, *side),
-        BoxFault::Removed(_) => writeln!(
-            err,
-            "  it was there at the last run, and is not made anew: the manual page says what to do under \"How to recover\""
-        ),
+        BoxFault::Removed(side) => advise_removed(err, *side),
         BoxFault::CannotOpen(_) => Ok(()),
         BoxFault::Server(store, why) => advise_server(err, store.as_str(), *why),
         BoxFault::Locked => writeln!(
@@ -29,8 +58,29 @@ pub(crate) fn advise<E: Write>(err: &mut E, fault: &BoxFault) -> io::Result<()> 
             err,
             "  its name is not UTF-8, or is too long to get a UID: rename it, and run again"
         ),
-        BoxFault::GivenAgain(uid) => advise_given_again(err, *uid),
+        BoxFault::GivenAgain(uid, side) => advise_given_again(err, *uid, *side),
+        BoxFault::AtStep(fault, number, step) => advise_step(err, *fault, *number, step),
         BoxFault::Run(fault) => advise_run(err, *fault),
+    }
+}
+
+/// Tells why the plan of an unfinished run is wrong, without an end of line: which message is not as it took it to be, or that its keywords
+/// have other letters.
+fn tell_stale<E: Write>(err: &mut E, fault: &BoxFault) -> io::Result<()> {
+    match fault {
+        BoxFault::Stopped(StopCause::Standing(path, uid)) => write!(
+            err,
+            "  {path} is there, but its message (UID {uid}) was about to count as removed"
+        ),
+        BoxFault::Stopped(StopCause::Kept(path, uid)) => write!(
+            err,
+            "  {path} is not marked as deleted, but its message (UID {uid}) was about to be removed"
+        ),
+        BoxFault::Stopped(StopCause::Undeleted(store, uid)) => write!(
+            err,
+            "  the server of IMAPStore {store} did not remove the message with UID {uid}, which is no longer marked as deleted there"
+        ),
+        _ => write!(err, "  an unfinished run goes by other Keyword lines"),
     }
 }
 
@@ -46,6 +96,22 @@ fn advise_create<E: Write>(err: &mut E, side: Side) -> io::Result<()> {
     )
 }
 
+/// Tells what can be done where a mailbox is gone that a former run has synchronised. No way leads to a message that comes twice.
+fn advise_removed<E: Write>(err: &mut E, side: Side) -> io::Result<()> {
+    match side {
+        Side::Far => writeln!(
+            err,
+            "  a former run has synchronised it, so it is not created again: if it was removed on purpose, remove its near folder, too\n  \
+             if it is gone by mistake, take .mbsyncstate and .mbsyncstate.journal out of that folder and run with Create Far: all near messages are pushed"
+        ),
+        Side::Near => writeln!(
+            err,
+            "  a former run has synchronised it, but cur, new or tmp is missing: create it again if it was empty, else put it back with its messages\n  \
+             if its messages are gone, remove the whole folder and run with Create Near: all far messages are pulled"
+        ),
+    }
+}
+
 /// Tells what stopped a run.
 fn advise_stop<E: Write>(err: &mut E, cause: &StopCause) -> io::Result<()> {
     match cause {
@@ -55,12 +121,9 @@ fn advise_stop<E: Write>(err: &mut E, cause: &StopCause) -> io::Result<()> {
             err,
             "  the server of IMAPStore {store} gives UIDs from {next} on, and UID {known} was given before: the manual page says what to do under \"How to recover\""
         ),
-        StopCause::Standing(path) => writeln!(
-            err,
-            "  {path} is there, but its message was about to count as removed: run again"
-        ),
         StopCause::Withheld(store, uid) => advise_withheld(err, store.as_str(), *uid),
-        StopCause::GivenAgain(uid) => advise_given_again(err, *uid),
+        StopCause::GivenAgain(uid) => advise_given_again(err, *uid, None),
+        StopCause::Standing(..) | StopCause::Kept(..) | StopCause::Undeleted(..) => Ok(()),
     }
 }
 
@@ -73,11 +136,18 @@ fn advise_withheld<E: Write>(err: &mut E, store: &str, uid: u32) -> io::Result<(
 }
 
 /// Tells that a state is not at fault.
-fn advise_given_again<E: Write>(err: &mut E, uid: u32) -> io::Result<()> {
-    writeln!(
-        err,
-        "  the state is sound, but UID {uid} was given a second time. Keep .mbsyncstate: the manual page says what to do under \"How to recover\""
-    )
+fn advise_given_again<E: Write>(err: &mut E, uid: u32, side: Option<Side>) -> io::Result<()> {
+    match side {
+        Some(Side::Far) => writeln!(
+            err,
+            "  the server gave UID {uid} a second time, which no server may do: the manual page says what to do under \"Starting over\"\n  \
+             the state is sound. Keep .mbsyncstate until then: without it each message would come twice"
+        ),
+        Some(Side::Near) | None => writeln!(
+            err,
+            "  the state is sound, but UID {uid} was given a second time. Keep .mbsyncstate: the manual page says what to do under \"How to recover\""
+        ),
+    }
 }
 
 /// What the system said, and what can be done.

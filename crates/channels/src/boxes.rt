@@ -1,7 +1,11 @@
 //! The mailboxes of a channel with patterns.
 
-ghost use Rattle.std.specs.Prelude.{◌≡◌, ◌≤◌, Bool, List, ℕ, length, IfOk, IfSome, OnOk};
+ghost use Rattle.std.specs.Prelude.{◌≡◌, ◌≤◌, Bool, List, [], ℕ, None, Some, length, IfOk, IfSome, MatchResult, OnOk};
 ghost use Rattle.std.specs.List.{filter, insert};
+ghost use Rattle.std.specs.Cmp.Lexicographic.{slice_cmp};
+ghost use Rattle.std.specs.List.Sorted.{IsSearchInRange};
+ghost use Rattle.std.specs.Ordering.{nat_cmp};
+ghost use Rattle.std.specs.Result.{is_ok};
 ghost use Rattle.channels.specs.Boxes.{Rises, Tells, boxes_among, place_from, put_name, put_names, stands_in};
 
 use box_patterns::patterns::{Patterns, matches};
@@ -26,6 +30,18 @@ pub fn boxes_among(
     Ok(boxes)
 }
 
+/// These names, each once, in the order of their bytes. `AllocError`: memory ran out.
+pub fn in_order(alloc: Global, names: &[MailboxName]) -> Result<Vec<MailboxName>, AllocError>
+    ensures rising { IfOk result (λ ordered. Rises ordered.items) }
+    ensures names { IfOk result (λ ordered. ordered.items ≡ put_names [] names.now) }
+{
+    let mut ordered = Vec::new(alloc);
+    for name in names {
+        put_name(alloc, &mut ordered, name)?;
+    }
+    Ok(ordered)
+}
+
 /// Puts those of these names that the patterns choose among names that rise.
 fn add_chosen(
     alloc: Global,
@@ -33,7 +49,8 @@ fn add_chosen(
     patterns: &Patterns,
     names: &[MailboxName],
 ) -> Result<(), AllocError>
-    ensures rising { Rises boxes.old.items → OnOk result (Rises boxes.new.items) }
+    requires rises { Rises boxes.old.items }
+    ensures rising { OnOk result (Rises boxes.new.items) }
     ensures boxes { OnOk result ((is_chosen : List ℕ → Bool) → Tells is_chosen patterns.now
         → boxes.new.items ≡ put_names boxes.old.items (filter is_chosen names.now)) }
 {
@@ -52,7 +69,8 @@ fn put_name(
     boxes: &mut Vec<MailboxName>,
     name: &MailboxName,
 ) -> Result<(), AllocError>
-    ensures rising { Rises boxes.old.items → OnOk result (Rises boxes.new.items) }
+    requires rises { Rises boxes.old.items }
+    ensures rising { OnOk result (Rises boxes.new.items) }
     ensures put { OnOk result (boxes.new.items ≡ put_name name.now boxes.old.items) }
 {
     match place_for(boxes, name) {
@@ -78,22 +96,37 @@ fn insert_name(
 
 /// Where a name goes among names that rise, or none if it is there.
 fn place_for(names: &[MailboxName], name: &MailboxName) -> Option<usize>
+    requires rising { Rises names.now }
     ensures found { result ≡ place_from 0 name.now names.now }
     ensures within { IfSome result (λ place. place ≤ length names.now) }
 {
-    for place in 0..names.len() {
-        match names[place].as_str().cmp(name.as_str()) {
-            Ordering::Less => {}
-            Ordering::Equal => return None,
-            Ordering::Greater => return Some(place),
-        }
+    match search(names, name) {
+        Ok(_) => None,
+        Err(place) => Some(place),
     }
-    Some(names.len())
 }
 
-/// Whether a name stands among others.
+/// Whether a name stands among others, which rise.
 pub fn stands_in(names: &[MailboxName], name: &MailboxName) -> bool
+    requires rising { Rises names.now }
     ensures { result ≡ stands_in names.now name.now }
 {
-    names.iter().any(|other| other.as_str() == name.as_str())
+    search(names, name).is_ok()
+}
+
+/// Where a name is among names that rise, or else where it goes.
+fn search(names: &[MailboxName], name: &MailboxName) -> Result<usize, usize>
+    requires rising { Rises names.now }
+    ensures within { IsSearchInRange result (length names.now) }
+    ensures place { MatchResult result (λ _. place_from 0 name.now names.now ≡ None) (λ place. place_from 0 name.now names.now ≡ Some place) }
+    ensures stands { stands_in names.now name.now ≡ is_ok result }
+{
+    names.binary_search_by(|other| order_of(other, name))
+}
+
+/// How a name stands to another, by the order of their bytes.
+fn order_of(name: &MailboxName, other: &MailboxName) -> Ordering
+    ensures { result ≡ slice_cmp nat_cmp name.now other.now }
+{
+    name.as_str().cmp(other.as_str())
 }

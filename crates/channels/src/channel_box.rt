@@ -1,9 +1,11 @@
 //! The mailboxes of a channel, with the stores that they are in.
 
-ghost use Rattle.std.specs.Prelude.{MatchOption};
+ghost use Rattle.std.specs.Prelude.{◌↔◌, IsTrue, MatchOption};
 ghost use Rattle.channels.specs.Asked.{IsJoined, IsUnjoined, joined_of};
+ghost use Rattle.channels.specs.Founds.{CouldChoose};
 
-use config::config::{Channel, Config, ImapStore, MaildirStore};
+use box_patterns::patterns::matches;
+use config::config::{Boxes, Channel, Config, ImapStore, MaildirStore};
 use mailcore::mailbox_name::MailboxName;
 
 /// A channel and its stores.
@@ -31,6 +33,21 @@ impl<'a> ChannelStores<'a> {
             far_store,
             near_store,
         })
+    }
+
+    /// Whether the channel could choose the mailbox of this name in the store of this name, if its name were within the limits: one of its
+    /// stores has it, and the patterns match it or the channel names it there.
+    pub fn could_choose(self, store: &str, name: &str) -> bool
+        ensures { IsTrue result ↔ CouldChoose (joined_of self.entry) store.now name.now }
+    {
+        let is_far = self.far_store.name.as_str() == store;
+        let is_near = self.near_store.name.as_str() == store;
+        match &self.channel.boxes {
+            Boxes::Pair { far, near } => {
+                (is_far && far.as_str() == name) || (is_near && near.as_str() == name)
+            }
+            Boxes::Matching(patterns) => (is_far || is_near) && matches(patterns, name),
+        }
     }
 }
 

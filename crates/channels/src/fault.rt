@@ -1,8 +1,8 @@
 //! Why a mailbox was not synchronised.
 
-ghost use Rattle.std.specs.Prelude.{◌≡◌};
-ghost use Rattle.channels.specs.Asked.{outcome_of_fault};
-ghost use Rattle.channels.specs.Outcomes.{outcome_of_box_fault};
+ghost use Rattle.std.specs.Prelude.{◌≡◌, true, IfSome};
+ghost use Rattle.channels.specs.Asked.{Failed, outcome_of_fault};
+ghost use Rattle.channels.specs.Outcomes.{is_stale, is_stale_cause, outcome_of_box_fault};
 
 use crate::stop_cause::StopCause;
 use crate::store_fault::{ServerFault, StoreFault};
@@ -27,24 +27,87 @@ pub(crate) enum BoxFault {
     Refused(usize, Option<Step>),
     /// The run was stopped by this.
     Stopped(StopCause),
-    /// A copy got this UID, which an entry of the state has already. The state is sound.
-    GivenAgain(u32),
+    /// A copy on this side, if it is known, got this UID, which an entry of the state has already. The state is sound.
+    GivenAgain(u32, Option<Side>),
     /// The near file of this path waits for a UID, and cannot get one. The run went on without it.
     LeftOut(String),
+    /// Another fault of the run, which stands before this step: its number, counted from 1, and the step.
+    AtStep(RunFault, usize, Step),
     /// Another fault of the run, or of a call before it.
     Run(RunFault),
 }
 
+/// Why a run over a mailbox failed, and what became of its plan.
+#[derive(Drop)]
+pub(crate) struct RunFailure {
+    /// Why it failed.
+    pub(crate) fault: BoxFault,
+    /// How giving its plan up ended. None: the plan is not at fault, and still stands.
+    pub(crate) giving_up: Option<GivingUp>,
+}
+
+/// How giving up an unfinished run ended.
+#[derive(Drop)]
+pub(crate) enum GivingUp {
+    /// It was given up: it removes nothing more.
+    GivenUp,
+    /// No run was unfinished.
+    NothingPending,
+    /// Why it was not, or perhaps not, given up. The next run that comes to the same cause gives it up.
+    Failed(BoxFault),
+}
+
 impl BoxFault {
+    /// Whether the plan of the run has become wrong: a message that it took to be removed is there, one that it is to expunge is not marked as
+    /// deleted, or its keywords have other letters now. It is to be given up.
+    pub(crate) fn is_stale(&self) -> bool
+        ensures stale { result ≡ is_stale self.now }
+        ensures failed { result ≡ true → outcome_of_box_fault self.now ≡ Failed }
+    {
+        match self {
+            BoxFault::Stopped(cause) => is_stale_cause(cause),
+            BoxFault::Run(fault) => matches!(fault, RunFault::KeywordsChanged),
+            BoxFault::Absent(_)
+            | BoxFault::Removed(_)
+            | BoxFault::CannotOpen(_)
+            | BoxFault::Server(..)
+            | BoxFault::Locked
+            | BoxFault::Refused(..)
+            | BoxFault::GivenAgain(..)
+            | BoxFault::LeftOut(_)
+            | BoxFault::AtStep(..) => false,
+        }
+    }
+
+    /// Whether a run was stopped, and it is not known by what.
+    pub(crate) fn is_stop(&self) -> bool
+        ensures { result ≡ true → outcome_of_box_fault self.now ≡ Failed }
+    {
+        matches!(self, BoxFault::Run(RunFault::Stopped))
+    }
+
+    /// The step whose copy got a UID that an entry of the state has already, if that is the fault: its number, counted from 1, and the step.
+    pub(crate) fn repeated_copy(&self) -> Option<(usize, Step)>
+        ensures { IfSome result (λ _. outcome_of_box_fault self.now ≡ Failed) }
+    {
+        match self {
+            BoxFault::AtStep(RunFault::BadState(0), number, step) => Some((*number, *step)),
+            _ => None,
+        }
+    }
+
     /// Whether an answer of a server can be the cause.
     pub(crate) fn is_of_server(&self) -> bool {
         match self {
             BoxFault::Server(..) | BoxFault::Refused(..) => true,
             BoxFault::Stopped(cause) => matches!(
                 cause,
-                StopCause::Server(..) | StopCause::Anew(..) | StopCause::Withheld(..)
+                StopCause::Server(..)
+                    | StopCause::Anew(..)
+                    | StopCause::Withheld(..)
+                    | StopCause::Undeleted(..)
             ),
-            BoxFault::Run(fault) => matches!(
+            BoxFault::AtStep(fault, ..) | BoxFault::Run(fault) => matches!(
                 fault,
                 RunFault::Stopped
                     | RunFault::Refused(_)
@@ -55,10 +118,20 @@ impl BoxFault {
             | BoxFault::Removed(_)
             | BoxFault::CannotOpen(_)
             | BoxFault::Locked
-            | BoxFault::GivenAgain(_)
+            | BoxFault::GivenAgain(..)
             | BoxFault::LeftOut(_) => false,
         }
     }
+}
+
+/// Whether a message is not as the plan of a run took it to be.
+fn is_stale_cause(cause: &StopCause) -> bool
+    ensures { result ≡ is_stale_cause cause.now }
+{
+    matches!(
+        cause,
+        StopCause::Standing(..) | StopCause::Kept(..) | StopCause::Undeleted(..)
+    )
 }
 
 impl From<StoreFault> for BoxFault {

@@ -6,7 +6,7 @@ ghost use Rattle.channels.specs.Asked.{joined_of};
 ghost use Rattle.channels.specs.Asks.{lists_asked};
 ghost use Rattle.channels.specs.Courses.{Goes, IsUnlisted};
 ghost use Rattle.channels.specs.Founds.{absent_in};
-ghost use Rattle.channels.specs.Boxes.{Tells, boxes_among};
+ghost use Rattle.channels.specs.Boxes.{Rises, Tells, boxes_among};
 
 use crate::boxes::{boxes_among, stands_in};
 use crate::channel_box::ChannelStores;
@@ -19,7 +19,7 @@ use rules::options::Sides;
 use std::alloc::{AllocError, Global};
 use std::io::Write;
 
-/// The mailboxes of both stores of a channel.
+/// The mailboxes of both stores of a channel, in the order of their bytes.
 #[derive(Drop)]
 pub(crate) struct Found {
     pub(crate) far: Vec<MailboxName>,
@@ -33,6 +33,7 @@ impl Found {
         stores: &mut ToldStores<'_, S, O, E>,
     ) -> Result<Self, ListFault>
         requires going { stores.old.write_failed ≡ false }
+        ensures rising { IfOk result (λ found. Rises found.far.items × Rises found.near.items) }
         ensures others { stores.new ≡ record stores.old { stores = stores.new.stores } }
         ensures stores { stores.new.stores.ghost_name ≡ stores.old.stores.ghost_name }
         ensures asks { IfOk result (λ found. S.asked stores.new.stores.now
@@ -61,6 +62,7 @@ impl Found {
 
     /// The sides on which a mailbox is absent.
     pub(crate) fn absent(&self, far: &MailboxName, near: &MailboxName) -> Sides
+        requires rising { Rises self.now.far.items × Rises self.now.near.items }
         ensures { result ≡ absent_in self.now.far.items self.now.near.items far.now near.now }
     {
         Sides {

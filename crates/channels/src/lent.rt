@@ -36,12 +36,13 @@ pub(crate) struct RunOnce<'a, R> {
 }
 
 impl<R: Rng> Work for RunOnce<'_, R> {
+    ghost use Rattle.channels.specs.Asked.{Ran};
     ghost use Rattle.channels.specs.Asks.{run_attempts};
     ghost use Rattle.channels.specs.Outcomes.{outcome_of_run};
 
     ghost options = { λ run. run.options.now };
 
-    ghost attempts = { λ _. run_attempts };
+    ghost asking = { λ run place outcome. Ran place run.options.now run_attempts outcome };
 
     ghost ends = { λ answer. outcome_of_run answer };
 
@@ -81,8 +82,32 @@ fn settle_lent<O: Outside, R: Rng, P: Progress>(
     match settle(alloc, outside, options, TRIES, rng, progress) {
         Ok(settled) => Ok(settled.last),
         Err(RunFault::Refused(number)) => Err(BoxFault::Refused(number, step_of(outside, number))),
+        Err(RunFault::BadState(line)) => Err(at_step(outside, RunFault::BadState(line))),
+        Err(RunFault::StoreFault(side, number)) => {
+            Err(at_step(outside, RunFault::StoreFault(side, number)))
+        }
         Err(fault) => Err(BoxFault::Run(fault)),
     }
+}
+
+/// A fault of the run, and the first step that is not logged of the plan that is pending, if one is.
+fn at_step<O: Outside>(outside: &mut O, fault: RunFault) -> BoxFault
+    ensures { result ≡ BoxFault.Run RunFault.Stopped → fault ≡ RunFault.Stopped }
+{
+    match next_step(outside) {
+        Some((number, step)) => BoxFault::AtStep(fault, number, step),
+        None => BoxFault::Run(fault),
+    }
+}
+
+/// The first step that is not logged of the plan that is pending: its number, counted from 1, and the step.
+fn next_step<O: Outside>(outside: &mut O) -> Option<(usize, Step)> {
+    outside.reopen();
+    outside.open_book().ok()?;
+    let journal = outside.pending()?;
+    let logged = journal.log.as_slice().len();
+    let step = journal.plan.steps.as_slice().get(logged).copied()?;
+    Some((logged.checked_add(1)?, step))
 }
 
 /// The step of this number, counted from 1, of the plan that is pending.

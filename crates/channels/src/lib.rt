@@ -9,6 +9,7 @@ pub mod chosen;
 mod course;
 mod fault;
 mod finding;
+mod giving_up;
 mod lent;
 mod listing;
 pub mod notice;

@@ -50,8 +50,8 @@ pub(crate) fn list_channel<S: BoxLists, O: Write, E: Write>(
             Ok(Verdict::Clean)
         }
         Boxes::Matching(patterns) => match matching(alloc, of, patterns, stores) {
-            Ok(boxes) => list_boxes(stores, of.channel, &boxes),
-            Err(fault) => stores.tell_unlisted(&fault),
+            Ok(boxes) => list_boxes(stores, of, &boxes),
+            Err(fault) => stores.tell_unlisted(of, &fault),
         },
     }
 }
@@ -78,7 +78,7 @@ fn matching<S: BoxLists, O: Write, E: Write>(
 #[tactic(auto, using(crate::proofs::StreamLemmas::stream_steps, crate::proofs::StreamLemmas::quiet_steps))]
 fn list_boxes<S: BoxLists, O: Write, E: Write>(
     stores: &mut ToldStores<'_, S, O, E>,
-    channel: &Channel,
+    of: ChannelStores<'_>,
     boxes: &[MailboxName],
 ) -> io::Result<Verdict>
     requires going { stores.old.write_failed ≡ false }
@@ -90,8 +90,8 @@ fn list_boxes<S: BoxLists, O: Write, E: Write>(
     ensures asks { Asks S.noted S.asked stores.old.stores stores.new.stores [] }
     ensures clean { IfOk result (λ verdict. verdict ≡ Clean) }
 {
-    stores.tell_notices()?;
-    print_boxes(stores, channel, boxes)?;
+    stores.tell_notices(of)?;
+    print_boxes(stores, of.channel, boxes)?;
     Ok(Verdict::Clean)
 }
 

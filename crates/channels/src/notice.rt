@@ -7,6 +7,8 @@
 pub enum Notice {
     /// A mailbox is left out, since its name is beyond the limits: the name of its store, and its own.
     Skipped(String, String),
+    /// A near file waits for a UID, and its name is not that of a Maildir message: its path. It is left alone.
+    Unnamed(String),
     /// The server of the IMAP store of this name says this to its users (the code ALERT: RFC 9051, section 7.1).
     Alert(String, String),
 }

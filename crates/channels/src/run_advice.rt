@@ -29,10 +29,12 @@ pub(crate) fn advise_run<E: Write>(err: &mut E, fault: RunFault) -> io::Result<(
         RunFault::StoreFault(side, number) => writeln!(err, "  {}", store_fault(side, number)),
         RunFault::MarksRepeat => writeln!(err, "  the source of random numbers is broken"),
         RunFault::NoMemory => writeln!(err, "  run again: what was done is kept"),
-        RunFault::KeywordsChanged => writeln!(
-            err,
-            "  an unfinished run goes by other Keyword lines: put them back, run once, and change them then"
-        ),
+        RunFault::KeywordsChanged => {
+            writeln!(
+                err,
+                "  an unfinished run goes by other Keyword lines: run again"
+            )
+        }
     }
 }
 
@@ -43,13 +45,83 @@ pub(crate) fn advise_refused<E: Write>(
     step: Option<&Step>,
 ) -> io::Result<()> {
     match step {
-        Some(step) => writeln!(
-            err,
-            "  step {number} is {}: the server {}",
-            StepLine(step),
-            refusal_of(step)
-        ),
+        Some(step) => {
+            writeln!(
+                err,
+                "  step {number} is {}: the server {}",
+                StepLine(step),
+                refusal_of(step)
+            )?;
+            advise_leaving_out(err, "if that stays so", number, step)
+        }
         None => writeln!(err, "  the server refused step {number}"),
+    }
+}
+
+/// Tells what a fault of a run means that stands before this step.
+pub(crate) fn advise_step<E: Write>(
+    err: &mut E,
+    fault: RunFault,
+    number: usize,
+    step: &Step,
+) -> io::Result<()> {
+    match (fault, step) {
+        (
+            RunFault::StoreFault(
+                Side::Far,
+                code @ (fault_number::FAR_UNKNOWN_ANSWER | fault_number::FAR_TOO_LONG),
+            ),
+            Step::New {
+                direction: Direction::Pull,
+                ..
+            },
+        ) => {
+            writeln!(
+                err,
+                "  {}, before step {number}, {}",
+                store_fault(Side::Far, code),
+                StepLine(step)
+            )?;
+            advise_leaving_out(err, "if this message is the cause", number, step)
+        }
+        _ => advise_run(err, fault),
+    }
+}
+
+/// Tells how a step can be left out for good, and what comes of that.
+fn advise_leaving_out<E: Write>(
+    err: &mut E,
+    condition: &str,
+    number: usize,
+    step: &Step,
+) -> io::Result<()> {
+    let (letter, outcome) = leaving_out(step);
+    writeln!(
+        err,
+        "  {condition}, add the line \"{letter} {number}\" at the end of .mbsyncstate.journal, and run again: {outcome}"
+    )
+}
+
+/// With which letter a step is logged as left out, and what comes of that.
+fn leaving_out(step: &Step) -> (&'static str, &'static str) {
+    match step {
+        Step::New {
+            direction: Direction::Pull,
+            ..
+        } => ("v", "the message stays at the server, and is never pulled"),
+        Step::New {
+            direction: Direction::Push,
+            ..
+        } => ("v", "the message stays here, and is never pushed"),
+        Step::Gone { .. } => (
+            "d",
+            "the message stays there, and is no longer synchronised",
+        ),
+        Step::Flags { .. } => ("d", "a later run takes the change back on the other side"),
+        Step::Expunge { .. } => (
+            "d",
+            "the message stays there. Take the side out of Expunge then, or a later run tries again",
+        ),
     }
 }
 
@@ -64,7 +136,8 @@ fn refusal_of(step: &Step) -> &'static str {
             direction: Direction::Push,
             ..
         } => "does not take it",
-        _ => "says no to it",
+        Step::Flags { .. } => "says no to it (some keep few labels: cyrus 100 in a mailbox)",
+        Step::Gone { .. } | Step::Expunge { .. } => "says no to it",
     }
 }
 
@@ -87,8 +160,10 @@ fn store_fault(side: Side, number: u8) -> &'static str {
         (Side::Far, fault_number::FAR_NO_REV2) =>
             "the server does not offer IMAP4rev2, which mbsync needs",
         (Side::Far, fault_number::FAR_READ_ONLY) =>
-            "the mailbox is read-only, or the server does not store one of its flags or keywords",
-        (Side::Near, fault_number::NEAR_ABSENT) => "cur, new or tmp is missing",
+            "the mailbox is read-only, or the server does not keep a flag or label: get the right to change it, take the Keyword line out, or leave it out by Patterns",
+        (Side::Near, fault_number::NEAR_ABSENT) => {
+            "cur, new or tmp is missing: create it again if it was empty, else put it back with its messages, which count as removed otherwise"
+        }
         (Side::Near, fault_number::NEAR_TWO_WITH_ONE_UID) =>
             "two files have one UID: the manual page says how to find them under \"How to recover\"",
         (Side::Near, fault_number::NEAR_BAD_META) => {
@@ -99,17 +174,22 @@ fn store_fault(side: Side, number: u8) -> &'static str {
     }
 }
 
-/// Tells what a bad state is. Line 0 comes where its text is not at fault.
+/// Tells what a bad state is. Line 0 comes where its text is not at fault, and line 1 where another program wrote it.
 fn advise_state<E: Write>(err: &mut E, line: usize) -> io::Result<()> {
-    if line == 0 {
-        writeln!(
+    match line {
+        0 => writeln!(
             err,
             "  the state is sound. Keep .mbsyncstate: without it each message would come twice"
-        )
-    } else {
-        writeln!(
+        ),
+        1 => writeln!(
             err,
-            "  .mbsyncstate is damaged, or was not written by mbsync. If it is removed, the box starts over, and each message is new on both sides"
-        )
+            "  .mbsyncstate is isync's, or damaged. Convert isync's: the manual page says how under \"How to move from isync\"\n  \
+             keep it: without it each message would come twice"
+        ),
+        _ => writeln!(
+            err,
+            "  .mbsyncstate is damaged: put it back from a backup, or do what the manual page says under \"How to recover\"\n  \
+             keep it until then: without it each message would come twice"
+        ),
     }
 }

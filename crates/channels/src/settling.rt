@@ -1,14 +1,15 @@
 //! The mailboxes of channels as they are synchronised.
 
-ghost use Rattle.std.specs.Prelude.{◌≡◌, ◌∷◌, ◌||◌, [], false, true, is_some, Err, IfOk, IfSome, IsSome, OnOk};
+ghost use Rattle.std.specs.Prelude.{◌≡◌, ◌∷◌, ◌||◌, [], false, true, is_some, IfOk, IfSome, OnOk};
 ghost use Rattle.std.specs.List.{fold, list_any};
 ghost use Rattle.channels.specs.Scope.{uncovered};
 ghost use Rattle.rules.specs.Options.{covers};
-ghost use Rattle.channels.specs.Asked.{Done, FoundNew, Made, Ran, joined_of, place_of};
+ghost use Rattle.channels.specs.Asked.{Done, Failed, FoundNew, Made, Ran, joined_of, place_of};
 ghost use Rattle.channels.specs.declared.verdict.Verdict.TheVariants.{Clean};
 ghost use Rattle.channels.specs.Asks.{Asks, AsksIfClean, Settles, SettlesFound, box_asked, boxes_asked, makings, run_attempts};
-ghost use Rattle.channels.specs.Courses.{Follows, Goes, InOrder, IsBoxAsked, IsChannelAsked, IsFoundAsked, IsNamedAsked, IsRunAsked, Makes, SoFar, asking_if, is_over};
-ghost use Rattle.channels.specs.Outcomes.{IsToldOf, has_void, is_void, outcome_of, outcome_of_pass};
+ghost use Rattle.channels.specs.Boxes.{Rises};
+ghost use Rattle.channels.specs.Courses.{FindsAbsence, Follows, Goes, InOrder, IsBoxAsked, IsChannelAsked, IsFoundAsked, IsNamedAsked, IsRunAsked, Makes, SoFar, asking_if, is_over};
+ghost use Rattle.channels.specs.Outcomes.{IsAbsence, IsAbsenceOf, IsToldOf, has_void, is_void, outcome_of, outcome_of_box_fault, outcome_of_pass};
 ghost use Rattle.channels.specs.Streams.{Extends, IsQuiet, Notes};
 
 use crate::channel_box::{ChannelBox, ChannelStores};
@@ -62,10 +63,10 @@ pub(crate) fn settle_channel<S: Stores, R: Rng, O: Write, E: Write>(
 {
     match Found::of(work.of, stores) {
         Ok(found) => {
-            stores.tell_notices()?;
+            stores.tell_notices(work.of)?;
             settle_found(work, &found, stores, rng)
         }
-        Err(fault) => stores.tell_unlisted(&fault),
+        Err(fault) => stores.tell_unlisted(work.of, &fault),
     }
 }
 
@@ -76,6 +77,7 @@ fn settle_found<S: Stores, R: Rng, O: Write, E: Write>(
     stores: &mut ToldStores<'_, S, O, E>,
     rng: &mut R,
 ) -> io::Result<Verdict>
+    requires rising { Rises found.now.far.items × Rises found.now.near.items }
     requires going { stores.old.write_failed ≡ false }
     ensures out { stores.new.out.ghost_name ≡ stores.old.out.ghost_name }
     ensures err { stores.new.err.ghost_name ≡ stores.old.err.ghost_name }
@@ -115,6 +117,7 @@ fn settle_boxes<S: Stores, R: Rng, O: Write, E: Write>(
     stores: &mut ToldStores<'_, S, O, E>,
     rng: &mut R,
 ) -> io::Result<Verdict>
+    requires rising { Rises found.now.far.items × Rises found.now.near.items }
     requires going { stores.old.write_failed ≡ false }
     ensures out { stores.new.out.ghost_name ≡ stores.old.out.ghost_name }
     ensures err { stores.new.err.ghost_name ≡ stores.old.err.ghost_name }
@@ -165,7 +168,7 @@ fn settle_box<S: Stores, R: Rng, O: Write, E: Write>(
         (SoFar result (IsBoxAsked work.entry.options.now (place_of place.entry) absent)) }
 {
     let verdict = make_and_run(work, place, absent, stores, rng)?;
-    stores.tell_notices()?;
+    stores.tell_notices(place.of)?;
     Ok(verdict)
 }
 
@@ -192,7 +195,7 @@ fn make_and_run<S: Stores, R: Rng, O: Write, E: Write>(
 {
     match make_absent(place, absent, stores) {
         Ok(()) => {
-            stores.tell_notices()?;
+            stores.tell_notices(place.of)?;
             run_box(work, place, stores, rng)
         }
         Err(fault) => stores.tell(place, &fault),
@@ -225,7 +228,7 @@ fn run_box<S: Stores, R: Rng, O: Write, E: Write>(
             let verdict = print_answer(work.alloc, place, &pass, stores)?;
             Ok(verdict.and(tell_left_out(place, stores)?))
         }
-        Err(fault) => stores.tell(place, &fault),
+        Err(failure) => stores.tell_failure(place, &failure),
     }
 }
 
@@ -239,8 +242,7 @@ fn make_absent<S: Stores, O: Write, E: Write>(
     stores: &mut ToldStores<'_, S, O, E>,
 ) -> Result<(), BoxFault>
     requires going { stores.old.write_failed ≡ false }
-    ensures told { IfSome (uncovered absent place.entry.of.channel.now.create) (λ side. result ≡ Err (BoxFault.Absent side)) }
-    ensures nothing { IsSome (uncovered absent place.entry.of.channel.now.create) → stores.new ≡ stores.old }
+    ensures told { IfSome (uncovered absent place.entry.of.channel.now.create) (λ side. IsAbsenceOf side result) }
     ensures others { stores.new ≡ record stores.old { stores = stores.new.stores } }
     ensures stores { stores.new.stores.ghost_name ≡ stores.old.stores.ghost_name }
     ensures asks { OnOk result (S.asked stores.new.stores.now
@@ -248,11 +250,31 @@ fn make_absent<S: Stores, O: Write, E: Write>(
     ensures asked { Makes S.noted (place_of place.entry) absent (outcome_of result) (S.asked stores.old.stores.now) (S.asked stores.new.stores.now) }
 {
     if let Some(side) = uncovered(absent, place.of.channel.create) {
-        return Err(BoxFault::Absent(side));
+        return Err(absence(side, place, stores));
     }
     find_new(place, absent, stores)?;
     make_side(Side::Far, absent.far, place, stores)?;
     make_side(Side::Near, absent.near, place, stores)
+}
+
+/// Why a mailbox is not synchronised that is absent on this side, where Create does not make it: a former run has synchronised it, or none
+/// has. Where that is not known, it counts as absent.
+fn absence<S: Stores, O: Write, E: Write>(
+    side: Side,
+    place: ChannelBox<'_>,
+    stores: &mut ToldStores<'_, S, O, E>,
+) -> BoxFault
+    requires going { stores.old.write_failed ≡ false }
+    ensures others { stores.new ≡ record stores.old { stores = stores.new.stores } }
+    ensures stores { stores.new.stores.ghost_name ≡ stores.old.stores.ghost_name }
+    ensures told { IsAbsence side result }
+    ensures ends { outcome_of_box_fault result ≡ Failed }
+    ensures asked { FindsAbsence S.noted (place_of place.entry) side result (S.asked stores.old.stores.now) (S.asked stores.new.stores.now) }
+{
+    match stores.has_state(place) {
+        Ok(true) => BoxFault::Removed(side),
+        Ok(false) | Err(_) => BoxFault::Absent(side),
+    }
 }
 
 /// Finds that no former run has synchronised a mailbox, where it is absent on a side.

@@ -1,11 +1,12 @@
 //! The stores that channels are synchronised over.
 
-ghost use Rattle.std.specs.Prelude.{◌≡◌, ℕ, true};
+ghost use Rattle.std.specs.Prelude.{◌≡◌, true, IfOk};
 ghost use Rattle.rules.specs.Options.{covers};
+ghost use Rattle.channels.specs.Boxes.{Rises};
 ghost use Rattle.rules.specs.declared.options.Options.{Options};
-ghost use Rattle.channels.specs.Asked.{Asked, Ended, FarListed, FoundNew, Made, NearListed, Outcome, Ran, names_of, outcome_by, outcome_of_making, outcome_of_state, place_of};
+ghost use Rattle.channels.specs.Asked.{Asked, Ended, FarListed, FoundNew, Made, NearListed, Outcome, Place, names_of, outcome_by, outcome_of_making, outcome_of_state, place_of};
 
-use crate::channel_box::ChannelBox;
+use crate::channel_box::{ChannelBox, ChannelStores};
 use crate::notice::Notice;
 use crate::stop_cause::StopCause;
 use crate::store_fault::{ListFault, StoreFault};
@@ -31,17 +32,22 @@ pub trait BoxLists {
     ghost asked: { Self → Record };
 
     /// The names of the mailboxes of a far store, INBOX among them if it is there. Names beyond the limits are left out, and noted: 1 to
-    /// 255 printable ASCII characters without `* % " \`, and no empty part, `.` or `..` between slashes.
+    /// 255 printable ASCII characters without `* % " \`, and no empty part, `.` or `..` between slashes. Each stands once, in the order of
+    /// their bytes (`boxes::in_order`).
     fn far_boxes(&mut self, store: &ImapStore) -> Result<Vec<MailboxName>, ListFault>
-        ensures { asked self.new ≡ noted (asked self.old) (FarListed store.now (names_of result)) };
+        ensures rising { IfOk result (λ names. Rises names.items) }
+        ensures asked { asked self.new ≡ noted (asked self.old) (FarListed store.now (names_of result)) };
 
-    /// The names of the mailboxes of a near store, INBOX among them if it is there, within the same limits.
+    /// The names of the mailboxes of a near store, INBOX among them if it is there, within the same limits and
+    /// in the same order.
     fn near_boxes(&mut self, store: &MaildirStore) -> Result<Vec<MailboxName>, ListFault>
-        ensures { asked self.new ≡ noted (asked self.old) (NearListed store.now (names_of result)) };
+        ensures rising { IfOk result (λ names. Rises names.items) }
+        ensures asked { asked self.new ≡ noted (asked self.old) (NearListed store.now (names_of result)) };
 
-    /// What is to be told beside faults of the calls before. Each is told once, and each mailbox that is left out once in a run. Where
-    /// memory is wanting, some may be missing.
-    fn notices(&mut self) -> Vec<Notice>
+    /// What is to be told beside faults of the calls before. Of the mailboxes that are left out these are those that this channel could
+    /// choose (`ChannelStores::could_choose`): the others stay noted for a later channel. Each is told once, and each mailbox and file that
+    /// is left out once in a run. Where memory is wanting, some may be missing.
+    fn notices(&mut self, of: ChannelStores<'_>) -> Vec<Notice>
         ensures { asked self.new ≡ asked self.old };
 
     /// What the server that was asked last said in its last NO, BAD or BYE, or the front of what it sent where that is no answer: one
@@ -56,11 +62,11 @@ pub trait Work {
     /// What it comes to.
     type Answer;
 
-    /// What it may do to the mailbox.
+    /// What it may do to the mailbox, and by which map keywords have a letter in it.
     ghost options: { Self → Options };
 
-    /// In up to how many attempts.
-    ghost attempts: { Self → ℕ };
+    /// What is noted of it, by the mailbox and how it ended.
+    ghost asking: { Self → Place → Outcome → Asked };
 
     /// How it ended.
     ghost ends: { Self.Answer → Outcome };
@@ -95,7 +101,7 @@ pub trait Stores: BoxLists {
         work: W,
     ) -> Result<W::Answer, StoreFault>
         ensures { Self.asked self.new ≡ Self.noted (Self.asked self.old)
-            (Ran (place_of place.entry) (W.options work) (W.attempts work) (outcome_by W.ends result)) };
+            (W.asking work (place_of place.entry) (outcome_by W.ends result)) };
 
     /// What stopped the run over the mailbox that was opened last, if it was stopped and this is known. It is told once.
     fn stop_cause(&mut self) -> Option<StopCause>

@@ -9,7 +9,7 @@ ghost use Rattle.channels.specs.Streams.{Extends, IsTold};
 
 use crate::advice::advise;
 use crate::channel_box::ChannelBox;
-use crate::fault::BoxFault;
+use crate::fault::{BoxFault, GivingUp};
 use crate::notice::Notice;
 use crate::server_advice::advise_server;
 use crate::store_fault::ListFault;
@@ -76,19 +76,20 @@ pub(crate) fn tell_no_channel<E: Write>(err: &mut E) -> io::Result<Verdict>
     Ok(Verdict::Over)
 }
 
-/// Tells why a mailbox was not synchronised; on a second line what can be done, where that is known; and then what the server said, if
-/// it said something.
+/// Tells why a mailbox was not synchronised; on the next lines what was found, how giving up its unfinished run ended, and what can be
+/// done, where that is known; and then what the server said, if it said something.
 pub(crate) fn tell<E: Write>(
     err: &mut E,
     place: ChannelBox<'_>,
     fault: &BoxFault,
+    giving_up: Option<&GivingUp>,
     words: Option<&str>,
 ) -> io::Result<Verdict>
     ensures told { IfOk result IsTold }
     ensures verdict { IfOk result (λ verdict. verdict ≡ verdict_of (outcome_of_box_fault fault.now)) }
 {
     let verdict = tell_fault(err, place, fault)?;
-    advise(err, fault)?;
+    advise(err, fault, giving_up)?;
     tell_words(err, words)?;
     Ok(verdict)
 }
@@ -117,7 +118,7 @@ fn tell_words<E: Write>(err: &mut E, words: Option<&str>) -> io::Result<()> {
 
 /// Why a mailbox was not synchronised, as a text without an end of line.
 #[derive(Drop)]
-struct BoxFaultText<'a>(&'a BoxFault);
+pub(crate) struct BoxFaultText<'a>(pub(crate) &'a BoxFault);
 
 impl fmt::Display for BoxFaultText<'_> {
     fn fmt<W: fmt::Write>(&self, f: &mut fmt::Formatter<W>) -> fmt::Result {
@@ -129,9 +130,9 @@ impl fmt::Display for BoxFaultText<'_> {
             BoxFault::Locked => f.write_str("locked"),
             BoxFault::Refused(number, _) => write!(f, "refused step {number}"),
             BoxFault::Stopped(_) => write!(f, "{}", RunFault::Stopped),
-            BoxFault::GivenAgain(_) => write!(f, "{}", RunFault::BadState(0)),
+            BoxFault::GivenAgain(..) => write!(f, "{}", RunFault::BadState(0)),
             BoxFault::LeftOut(path) => write!(f, "left out {path}"),
-            BoxFault::Run(fault) => write!(f, "{fault}"),
+            BoxFault::AtStep(fault, ..) | BoxFault::Run(fault) => write!(f, "{fault}"),
         }
     }
 }
@@ -151,6 +152,10 @@ impl fmt::Display for NoticeText<'_> {
             Notice::Skipped(store, name) => {
                 let (store, name) = (store.as_str(), name.as_str());
                 write!(f, "mbsync: skipped for its name: {store}:{name}")
+            }
+            Notice::Unnamed(path) => {
+                let path = path.as_str();
+                write!(f, "mbsync: not a Maildir name: {path}")
             }
             Notice::Alert(store, text) => {
                 let (store, text) = (store.as_str(), text.as_str());

@@ -1,17 +1,20 @@
 //! The stores of a run behind its streams: they are asked only as long as what is done could be told.
 
-ghost use Rattle.std.specs.Prelude.{◌≡◌, ◌∷◌, [], false, true, IfOk, OnOk, string_bytes};
+ghost use Rattle.std.specs.Prelude.{◌≡◌, ◌∷◌, [], false, true, is_some, option_map, IfErr, IfOk, OnOk, string_bytes};
 ghost use Rattle.std.specs.Io.KnownBytes.{Appends};
 ghost use Rattle.rules.specs.Options.{covers};
-ghost use Rattle.channels.specs.Asked.{Ended, Failed, FarListed, FoundNew, Made, NearListed, Ran, names_of, outcome_of_making, outcome_of_state, place_of};
+ghost use Rattle.channels.specs.Asked.{Ended, Failed, FarListed, FoundNew, GaveUp, Made, NearListed, Ran, names_of, outcome_of_making, outcome_of_state, place_of};
 ghost use Rattle.channels.specs.declared.verdict.Verdict.TheVariants.{Over};
 ghost use Rattle.channels.specs.Asks.{Asks, run_attempts};
+ghost use Rattle.channels.specs.Boxes.{Rises};
 ghost use Rattle.channels.specs.Lines.{box_line};
-ghost use Rattle.channels.specs.Outcomes.{outcome_of_box_fault, outcome_of_run, verdict_of};
+ghost use Rattle.channels.specs.Courses.{giving_asked, settled_asked};
+ghost use Rattle.channels.specs.Outcomes.{is_stale, outcome_of_box_fault, outcome_of_giving, outcome_of_run, verdict_of};
 ghost use Rattle.channels.specs.Streams.{Extends, HasNotices, IsTold, Notes};
 
-use crate::channel_box::ChannelBox;
-use crate::fault::BoxFault;
+use crate::channel_box::{ChannelBox, ChannelStores};
+use crate::fault::{BoxFault, GivingUp, RunFailure};
+use crate::giving_up::GiveUp;
 use crate::lent::RunOnce;
 use crate::notice::Notice;
 use crate::stop_cause::StopCause;
@@ -24,6 +27,7 @@ use mailcore::mailbox_name::MailboxName;
 use mailcore::side::Side;
 use rand_core::Rng;
 use rules::options::Options;
+use rules::plan::Step;
 use runner::fault::RunFault;
 use runner::pass::Pass;
 use std::alloc::Global;
@@ -63,6 +67,7 @@ impl<'a, S: BoxLists, O: Write, E: Write> ToldStores<'a, S, O, E> {
     pub(crate) fn far_boxes(&mut self, store: &ImapStore) -> Result<Vec<MailboxName>, ListFault>
         requires going { self.old.write_failed ≡ false }
         ensures others { self.new ≡ record self.old { stores = self.new.stores } }
+        ensures rising { IfOk result (λ names. Rises names.items) }
         ensures asks { Asks S.noted S.asked self.old.stores self.new.stores (FarListed store.now (names_of result) ∷ []) }
     {
         self.stores.far_boxes(store)
@@ -72,6 +77,7 @@ impl<'a, S: BoxLists, O: Write, E: Write> ToldStores<'a, S, O, E> {
     pub(crate) fn near_boxes(&mut self, store: &MaildirStore) -> Result<Vec<MailboxName>, ListFault>
         requires going { self.old.write_failed ≡ false }
         ensures others { self.new ≡ record self.old { stores = self.new.stores } }
+        ensures rising { IfOk result (λ names. Rises names.items) }
         ensures asks { Asks S.noted S.asked self.old.stores self.new.stores (NearListed store.now (names_of result) ∷ []) }
     {
         self.stores.near_boxes(store)
@@ -103,9 +109,9 @@ impl<'a, S: BoxLists, O: Write, E: Write> ToldStores<'a, S, O, E> {
         written
     }
 
-    /// Tells what is to be told beside faults of what was asked of the stores.
+    /// Tells what is to be told beside faults of what was asked of the stores for this channel.
     #[tactic(auto, using(crate::proofs::StreamLemmas::notice_steps))]
-    pub(crate) fn tell_notices(&mut self) -> io::Result<()>
+    pub(crate) fn tell_notices(&mut self, of: ChannelStores<'_>) -> io::Result<()>
         requires going { self.old.write_failed ≡ false }
         ensures out { self.new.out ≡ self.old.out }
         ensures asks { Asks S.noted S.asked self.old.stores self.new.stores [] }
@@ -113,7 +119,7 @@ impl<'a, S: BoxLists, O: Write, E: Write> ToldStores<'a, S, O, E> {
         ensures notices { OnOk result (HasNotices (E.contents self.old.err.now) (E.contents self.new.err.now)) }
         ensures failed { Notes false self.new.write_failed result }
     {
-        for notice in self.stores.notices() {
+        for notice in self.stores.notices(of) {
             self.tell_notice(&notice)?;
         }
         Ok(())
@@ -159,7 +165,11 @@ impl<'a, S: BoxLists, O: Write, E: Write> ToldStores<'a, S, O, E> {
     }
 
     /// Tells why the mailboxes of a channel are not listed, and then what is to be told beside.
-    pub(crate) fn tell_unlisted(&mut self, fault: &ListFault) -> io::Result<Verdict>
+    pub(crate) fn tell_unlisted(
+        &mut self,
+        of: ChannelStores<'_>,
+        fault: &ListFault,
+    ) -> io::Result<Verdict>
         requires going { self.old.write_failed ≡ false }
         ensures out { self.new.out ≡ self.old.out }
         ensures asks { Asks S.noted S.asked self.old.stores self.new.stores [] }
@@ -169,7 +179,7 @@ impl<'a, S: BoxLists, O: Write, E: Write> ToldStores<'a, S, O, E> {
         ensures failed { Notes false self.new.write_failed result }
     {
         let verdict = self.tell_list(fault)?;
-        self.tell_notices()?;
+        self.tell_notices(of)?;
         Ok(verdict)
     }
 
@@ -196,8 +206,43 @@ impl<'a, S: BoxLists, O: Write, E: Write> ToldStores<'a, S, O, E> {
         ensures verdict { IfOk result (λ verdict. verdict ≡ verdict_of (outcome_of_box_fault fault.now)) }
         ensures failed { Notes self.old.write_failed self.new.write_failed result }
     {
+        self.tell_with(place, fault, None)
+    }
+
+    /// Tells why a run over a mailbox failed, what became of its plan, and what the server said of it.
+    pub(crate) fn tell_failure(
+        &mut self,
+        place: ChannelBox<'_>,
+        failure: &RunFailure,
+    ) -> io::Result<Verdict>
+        requires going { self.old.write_failed ≡ false }
+        ensures others { self.new ≡ record self.old { stores = self.new.stores; err = self.new.err; write_failed = self.new.write_failed } }
+        ensures asks { Asks S.noted S.asked self.old.stores self.new.stores [] }
+        ensures err { self.new.err.ghost_name ≡ self.old.err.ghost_name }
+        ensures told { IfOk result IsTold }
+        ensures verdict { IfOk result (λ verdict. verdict ≡ verdict_of (outcome_of_box_fault failure.now.fault)) }
+        ensures failed { Notes self.old.write_failed self.new.write_failed result }
+    {
+        self.tell_with(place, &failure.fault, failure.giving_up.as_ref())
+    }
+
+    /// Tells why a mailbox was not synchronised, how giving up its unfinished run ended, and what the server said of it.
+    fn tell_with(
+        &mut self,
+        place: ChannelBox<'_>,
+        fault: &BoxFault,
+        giving_up: Option<&GivingUp>,
+    ) -> io::Result<Verdict>
+        requires going { self.old.write_failed ≡ false }
+        ensures others { self.new ≡ record self.old { stores = self.new.stores; err = self.new.err; write_failed = self.new.write_failed } }
+        ensures asks { Asks S.noted S.asked self.old.stores self.new.stores [] }
+        ensures err { self.new.err.ghost_name ≡ self.old.err.ghost_name }
+        ensures told { IfOk result IsTold }
+        ensures verdict { IfOk result (λ verdict. verdict ≡ verdict_of (outcome_of_box_fault fault.now)) }
+        ensures failed { Notes self.old.write_failed self.new.write_failed result }
+    {
         let words = self.words_on(fault.is_of_server());
-        let written = telling::tell(self.err, place, fault, words.as_deref());
+        let written = telling::tell(self.err, place, fault, giving_up, words.as_deref());
         self.write_failed |= written.is_err();
         written
     }
@@ -241,8 +286,68 @@ impl<S: Stores, O: Write, E: Write> ToldStores<'_, S, O, E> {
         self.stores.end();
     }
 
-    /// Makes one run over a mailbox. Where it is known what stopped it, the fault tells it.
+    /// Makes one run over a mailbox. Where its plan has become wrong, the plan is given up.
     pub(crate) fn settle<R: Rng>(
+        &mut self,
+        alloc: Global,
+        place: ChannelBox<'_>,
+        options: &Options,
+        rng: &mut R,
+    ) -> Result<Pass, RunFailure>
+        requires going { self.old.write_failed ≡ false }
+        ensures others { self.new ≡ record self.old { stores = self.new.stores } }
+        ensures asks { Asks S.noted S.asked self.old.stores self.new.stores (settled_asked options.now (place_of place.entry) result) }
+        ensures due { IfErr result (λ failure. is_some failure.giving_up ≡ is_stale failure.fault) }
+    {
+        match self.settle_told(alloc, place, options, rng) {
+            Ok(pass) => Ok(pass),
+            Err(fault) => {
+                let giving_up = self.give_up_after(alloc, place, options, &fault);
+                Err(RunFailure { fault, giving_up })
+            }
+        }
+    }
+
+    /// Gives up the unfinished run over a mailbox, where the run that failed so has found its plan wrong. None: it has not, and nothing is
+    /// given up.
+    fn give_up_after(
+        &mut self,
+        alloc: Global,
+        place: ChannelBox<'_>,
+        options: &Options,
+        fault: &BoxFault,
+    ) -> Option<GivingUp>
+        requires going { self.old.write_failed ≡ false }
+        ensures others { self.new ≡ record self.old { stores = self.new.stores } }
+        ensures asks { Asks S.noted S.asked self.old.stores self.new.stores
+            (giving_asked (option_map outcome_of_giving result) (outcome_of_box_fault fault.now) (place_of place.entry)) }
+        ensures due { is_some result ≡ is_stale fault.now }
+    {
+        if fault.is_stale() {
+            Some(self.give_up(alloc, place, options))
+        } else {
+            None
+        }
+    }
+
+    /// Gives up the unfinished run over a mailbox, if there is one.
+    fn give_up(&mut self, alloc: Global, place: ChannelBox<'_>, options: &Options) -> GivingUp
+        requires going { self.old.write_failed ≡ false }
+        ensures others { self.new ≡ record self.old { stores = self.new.stores } }
+        ensures asks { Asks S.noted S.asked self.old.stores self.new.stores
+            (GaveUp (place_of place.entry) (outcome_of_giving result) ∷ []) }
+    {
+        match self.stores.work_over(place, GiveUp { alloc, options }) {
+            Ok(Ok(true)) => GivingUp::GivenUp,
+            Ok(Ok(false)) => GivingUp::NothingPending,
+            Ok(Err(RunFault::Stopped)) => GivingUp::Failed(self.stopped()),
+            Ok(Err(fault)) => GivingUp::Failed(BoxFault::Run(fault)),
+            Err(fault) => GivingUp::Failed(BoxFault::from(fault)),
+        }
+    }
+
+    /// Makes one run over a mailbox. Where it is known what stopped it, the fault tells it.
+    fn settle_told<R: Rng>(
         &mut self,
         alloc: Global,
         place: ChannelBox<'_>,
@@ -255,9 +360,8 @@ impl<S: Stores, O: Write, E: Write> ToldStores<'_, S, O, E> {
             (Ran (place_of place.entry) options.now run_attempts (outcome_of_run result) ∷ []) }
     {
         match self.settle_open(alloc, place, options, rng) {
-            Err(BoxFault::Run(RunFault::Stopped)) => Err(self.stopped()),
-            Err(BoxFault::Run(RunFault::BadState(0))) => Err(self.given_again()),
-            answer => answer,
+            Ok(pass) => Ok(pass),
+            Err(fault) => Err(self.explained(fault)),
         }
     }
 
@@ -285,6 +389,22 @@ impl<S: Stores, O: Write, E: Write> ToldStores<'_, S, O, E> {
         }
     }
 
+    /// A fault of a run, with what is known of it: what stopped the run, or which UID was given again.
+    fn explained(&mut self, fault: BoxFault) -> BoxFault
+        requires going { self.old.write_failed ≡ false }
+        ensures others { self.new ≡ record self.old { stores = self.new.stores } }
+        ensures asks { Asks S.noted S.asked self.old.stores self.new.stores [] }
+        ensures ends { outcome_of_box_fault result ≡ outcome_of_box_fault fault }
+    {
+        if fault.is_stop() {
+            return self.stopped();
+        }
+        match fault.repeated_copy() {
+            Some((number, step)) => self.given_again(number, step),
+            None => fault,
+        }
+    }
+
     /// Why a run was stopped.
     fn stopped(&mut self) -> BoxFault
         requires going { self.old.write_failed ≡ false }
@@ -298,16 +418,24 @@ impl<S: Stores, O: Write, E: Write> ToldStores<'_, S, O, E> {
         }
     }
 
-    /// Why a run ended over a sound state.
-    fn given_again(&mut self) -> BoxFault
+    /// Why a run ended over a sound state before this step.
+    fn given_again(&mut self, number: usize, step: Step) -> BoxFault
         requires going { self.old.write_failed ≡ false }
         ensures others { self.new ≡ record self.old { stores = self.new.stores } }
         ensures asks { Asks S.noted S.asked self.old.stores self.new.stores [] }
         ensures ends { outcome_of_box_fault result ≡ Failed }
     {
         match self.stores.stop_cause() {
-            Some(StopCause::GivenAgain(uid)) => BoxFault::GivenAgain(uid),
-            _ => BoxFault::Run(RunFault::BadState(0)),
+            Some(StopCause::GivenAgain(uid)) => BoxFault::GivenAgain(uid, target_of(&step)),
+            _ => BoxFault::AtStep(RunFault::BadState(0), number, step),
         }
+    }
+}
+
+/// The side on which a step makes a copy. Another step makes none.
+fn target_of(step: &Step) -> Option<Side> {
+    match step {
+        Step::New { direction, .. } => Some(direction.target()),
+        Step::Gone { .. } | Step::Flags { .. } | Step::Expunge { .. } => None,
     }
 }

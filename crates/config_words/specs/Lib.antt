@@ -4,4 +4,5 @@ pub mod Places
 pub mod Words
 pub mod Splitters
 pub mod Settings
+pub mod Inboxes
 pub mod Meanings

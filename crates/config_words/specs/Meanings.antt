@@ -17,6 +17,7 @@ use Rattle.config_words.specs.declared.fault.FaultKind.TheVariants.{WrongArgumen
 use Rattle.config_words.specs.declared.setting.BoxPlace.{BoxPlace}
 use Rattle.config_words.specs.declared.setting.Setting.{Setting}
 use Rattle.config_words.specs.declared.setting.Setting.TheVariants as says
+use Rattle.config_words.specs.Inboxes.{is_inbox}
 use Rattle.config_words.specs.Settings.{is_argument}
 
 -- what a line says: that a section of this name begins, that the host is this one, and so on
@@ -56,10 +57,12 @@ abbrev pub parts_of : List ℕ → Option (List ℕ × List ℕ)
 parts_of [] = None
 parts_of (b ∷ text) = if b == 58 then option_map (λ k. (take k text, drop (k + 1) text)) (position (λ c. c == 58) text) else None
 
--- an empty BOX names no mailbox
+-- an empty BOX names no mailbox; INBOX is meant by it in any spelling
 abbrev pub box_of : List ℕ → Option (Option (List ℕ))
 box_of [] = Some None
-box_of (b ∷ name) = if is_mailbox_name (b ∷ name) then Some (Some (b ∷ name)) else None
+box_of (b ∷ name) =
+    if is_inbox (b ∷ name) then Some (Some (codes "INBOX"))
+    else (if is_mailbox_name (b ∷ name) then Some (Some (b ∷ name)) else None)
 
 abbrev pub place_from : Option (List ℕ × List ℕ) → Option (List ℕ × Option (List ℕ))
 place_from None = None

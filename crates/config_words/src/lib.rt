@@ -4,6 +4,7 @@
 #![tactic(auto)]
 
 pub mod fault;
+pub mod inbox;
 pub mod keyword;
 pub mod setting;
 pub mod words;

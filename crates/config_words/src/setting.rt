@@ -9,6 +9,7 @@ ghost use Rattle.config_words.specs.Settings.{IsRefusal, SaysName, SaysNoName, S
 ghost use Rattle.config_words.specs.declared.keyword.Place.TheVariants.{Group as in_group};
 
 use crate::fault::FaultKind;
+use crate::inbox::is_inbox;
 use crate::keyword::Keyword;
 use box_patterns::patterns::Pattern;
 use mailcore::keywords::is_keyword_name;
@@ -209,13 +210,16 @@ fn split_place(argument: &str) -> Option<(&str, &str)>
     }
 }
 
-/// The mailbox of this name, or none for an empty name.
+/// The mailbox of this name, or none for an empty name. INBOX is meant in any spelling.
 fn read_box(alloc: Global, name: &str) -> Result<Option<MailboxName>, FaultKind>
     ensures refused { IfErr result IsRefusal }
     ensures means { Gives (λ b. b) (box_of name.now) result }
 {
     if name.is_empty() {
         return Ok(None);
+    }
+    if is_inbox(name.as_bytes()) {
+        return Ok(Some(MailboxName::inbox(alloc)?));
     }
     match MailboxName::from_bytes(alloc, name.as_bytes())? {
         Some(name) => Ok(Some(name)),

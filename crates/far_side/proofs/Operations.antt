@@ -5,7 +5,6 @@ use Rattle.mailcore.specs.FlagSet.{has, DELETED}
 use Rattle.mailcore.specs.Operations.{with_messages}
 use Rattle.mailcore.specs.Stores.{IsStore, Store}
 use Rattle.mailcore.specs.declared.mailbox.Message.{Message}
-use Rattle.mailcore.specs.declared.side.Side.TheVariants.{Far}
 use Rattle.imap_commands.specs.declared.command.StoreMode.{StoreMode}
 use Rattle.imap_session.specs.NamedMessages.{flags_changed, stored, swept}
 use Rattle.imap_session.specs.Servers.{Server, with_selected}
@@ -14,7 +13,7 @@ use Rattle.imap_client.specs.Calls.{each_one}
 use Rattle.imap_client.specs.Laws.{deleted_removed}
 use Rattle.imap_client.proofs.Flagging.{selected_same, stored_is_flagged}
 use Rattle.imap_client.proofs.Removing.{swept_is_deleted}
-use Rattle.mailbox.specs.Operations.{may_go, removed}
+use Rattle.mailbox.specs.Operations.{removed}
 use Rattle.far_side.specs.Chosen.{IsChosen}
 use Rattle.far_side.proofs.Mailboxes.{selected_is}
 
@@ -25,14 +24,14 @@ or_false : (b : Bool) → (b || false) ≡ b
 or_false true = refl
 or_false false = refl
 
-removed_one : (uid : ℕ) (ms : List Message) → filter (λ m. not (list_any (λ u. m.uid == u) (uid ∷ []) && has m.flags DELETED)) ms ≡ filter (λ m. not (m.uid == uid && may_go Far m)) ms
+removed_one : (uid : ℕ) (ms : List Message) → filter (λ m. not (list_any (λ u. m.uid == u) (uid ∷ []) && has m.flags DELETED)) ms ≡ filter (λ m. not (m.uid == uid && has m.flags DELETED)) ms
 removed_one uid [] = refl
 removed_one uid (m ∷ ms) = rw (or_false (m.uid == uid), removed_one uid ms) refl
 
-removed_same : (uid : ℕ) (s : Store) → deleted_removed (uid ∷ []) s ≡ removed Far uid s
+removed_same : (uid : ℕ) (s : Store) → deleted_removed (uid ∷ []) s ≡ removed uid s
 removed_same uid s = ap (λ (ms : List Message). with_messages (λ _. ms) s) (removed_one uid s.messages)
 
-pub swept_same : (name : List ℕ) (s : Server) (uid : ℕ) (c : IsChosen name s) → IsStore c.mailbox.store → with_selected (swept (each_one (uid ∷ []))) s ≡ with_selected (removed Far uid) s
+pub swept_same : (name : List ℕ) (s : Server) (uid : ℕ) (c : IsChosen name s) → IsStore c.mailbox.store → with_selected (swept (each_one (uid ∷ []))) s ≡ with_selected (removed uid) s
 swept_same name s uid c is =
     swept_is_deleted s c.mailbox (uid ∷ []) (selected_is name s c) is.rising
-    ∙ selected_same (deleted_removed (uid ∷ [])) (removed Far uid) s c.mailbox (selected_is name s c) (removed_same uid c.mailbox.store)
+    ∙ selected_same (deleted_removed (uid ∷ [])) (removed uid) s c.mailbox (selected_is name s c) (removed_same uid c.mailbox.store)

@@ -4,7 +4,6 @@ use Rattle.std.specs.Prelude.{filter, find, nat_le, not, ◌&&◌, ◌==◌}
 use Rattle.std.specs.Option.{option_map}
 use Rattle.mailcore.specs.declared.keywords.Keyword.{Keyword}
 use Rattle.mailcore.specs.declared.mailbox.Message.{Message}
-use Rattle.mailcore.specs.declared.side.Side.TheVariants.{Far}
 use Rattle.mailcore.specs.Content.{mark_of}
 use Rattle.mailcore.specs.FlagSet.{DELETED, has, minus, union}
 use Rattle.mailcore.specs.KeywordNames.{kept}
@@ -12,7 +11,7 @@ use Rattle.mailcore.specs.Operations.{added, bytes_of, flags_added, flags_remove
 use Rattle.mailcore.specs.Stores.{Store}
 use Rattle.mailcore.proofs.KnownFlags.{has-kept, kept-minus, kept-same, kept-union, kept-within}
 use Rattle.imap_client.specs.Seen.{seen_message, seen_through}
-use Rattle.mailbox.specs.Operations.{may_go, removed}
+use Rattle.mailbox.specs.Operations.{removed}
 
 pub map-append : {X Y : Type 0} (f : X → Y) (xs ys : List X) → map f (xs ++ ys) ≡ map f xs ++ map f ys
 map-append f [] ys = refl
@@ -75,7 +74,7 @@ module _ (keywords : List Keyword) where
       ∙ ap (λ (f : ℕ). map seen s.messages ++ record { uid = uid; flags = f; bytes = bytes } ∷ []) (twice flags))
 
   -- \Deleted has a name
-  deleted_seen : (m : Message) → may_go Far (seen m) ≡ may_go Far m
+  deleted_seen : (m : Message) → has (kept keywords m.flags) DELETED ≡ has m.flags DELETED
   deleted_seen m = has-kept keywords m.flags DELETED (omega arith) ∙ and_true (has m.flags DELETED)
     where
       and_true : (b : Bool) → (b && true) ≡ b
@@ -83,7 +82,7 @@ module _ (keywords : List Keyword) where
       and_true false = refl
 
   abbrev stays : (uid : ℕ) → Message → Bool
-  stays uid m = not (m.uid == uid && may_go Far m)
+  stays uid m = not (m.uid == uid && has m.flags DELETED)
 
   filtered_by : (b : Bool) (m : Message) (l k : List Message) → l ≡ map seen k → cond b (seen m ∷ l) l ≡ map seen (cond b (m ∷ k) k)
   filtered_by true m l k e = ap (λ (x : List Message). seen m ∷ x) e
@@ -95,5 +94,5 @@ module _ (keywords : List Keyword) where
       ap (λ (b : Bool). cond (not (m.uid == uid && b)) (seen m ∷ filter (stays uid) (map seen ms)) (filter (stays uid) (map seen ms))) (deleted_seen m)
       ∙ filtered_by (stays uid m) m (filter (stays uid) (map seen ms)) (filter (stays uid) ms) (filtered_seen uid ms)
 
-  pub removed_seen : (uid : ℕ) (s : Store) → seen_through keywords (removed Far uid s) ≡ removed Far uid (seen_through keywords s)
+  pub removed_seen : (uid : ℕ) (s : Store) → seen_through keywords (removed uid s) ≡ removed uid (seen_through keywords s)
   removed_seen uid s = ap (λ (ms : List Message). with_messages (λ _. ms) s) (sym (filtered_seen uid s.messages))

@@ -1,5 +1,7 @@
 mod Again
 mod Arrivals
+mod Behind
+mod Fails
 pub mod PlanReads
 mod Rests
 mod Stops

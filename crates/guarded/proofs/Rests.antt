@@ -36,3 +36,8 @@ rests_read h1 h2 ours alone tells answer old mid new r before c = record {
       arrives_again ours alone old.device mid.device new.device (r.added (before h)) then;
   goes_on = λ h. goes_after old.device mid.device new.device (r.goes_on (before h)) (c.goes_on h);
 }
+
+-- a call that answers what is so
+pub rests_listed : {T : Type 0} {tells : T → Device → Type 0} (honest : Type 0) (ours : List ℕ → Bool) (alone : Bool) (answer : T) (old new : Seen) → Reads honest (Arrives ours alone) tells old new (Ok answer) → Rests honest ours alone old new
+rests_listed {T} {tells} honest ours alone answer old new c =
+    rests_read honest honest ours alone tells answer old old new (rests_none honest ours alone old c.acts.was_whole) (λ h. h) c

@@ -5,7 +5,7 @@ use Rattle.device.specs.Calls.{Effect}
 use Rattle.outside.specs.declared.fault.OutsideFault.{OutsideFault}
 use Rattle.outside.specs.declared.fault.OutsideFault.TheVariants.{Stopped}
 use Rattle.outside.specs.Arrivals.{Arrives}
-use Rattle.outside.specs.Calls.{Call, FromBook, LeavesBy, Seen, Writes, stopped}
+use Rattle.outside.specs.Calls.{Call, Changes, FromBook, FromBox, LeavesBy, Seen, Writes, stopped}
 use Rattle.outside.specs.Devices.{Device}
 use Rattle.outside.proofs.GoingOn.{stays}
 use Rattle.guarded.proofs.Arrivals.{quiet}
@@ -62,7 +62,7 @@ stuck honest ours alone copies may_tell does leaves s broken may same = record {
 }
 
 -- a call that stops and does nothing else
-stops_first : {T : Type 0} (honest : Type 0) (ours : List ℕ → Bool) (alone : Bool) (copies : T → ℕ) (may_tell : OutsideFault → Type 0) (does : T → Effect Device) (leaves : OutsideFault → Effect Device) (old new : Seen) (fault : OutsideFault)
+pub stops_first : {T : Type 0} (honest : Type 0) (ours : List ℕ → Bool) (alone : Bool) (copies : T → ℕ) (may_tell : OutsideFault → Type 0) (does : T → Effect Device) (leaves : OutsideFault → Effect Device) (old new : Seen) (fault : OutsideFault)
     → fault ≡ Stopped → new ≡ stopped old → may_tell Stopped → ((d : Device) → leaves Stopped d d)
     → Call {T = T} honest (Arrives ours alone) copies may_tell does leaves old new (Err fault)
 stops_first {T} honest ours alone copies may_tell does leaves old new fault is_stop now may same = by_case old.is_broken refl
@@ -80,3 +80,9 @@ pub stops_begin : (honest : Type 0) (ours : List ℕ → Bool) (alone : Bool) (d
     → fault ≡ Stopped → new ≡ stopped old → Writes honest (Arrives ours alone) FromBook does part old new (Err fault)
 stops_begin honest ours alone does part old new fault is_stop now =
     stops_first {T = Unit {0}} honest ours alone (λ _. 0) FromBook (λ _. does) (LeavesBy {T = Unit {0}} (λ _. does) part) old new fault is_stop now tt (λ d. inl refl)
+
+-- a mailbox is not changed: the call stops
+pub stops_change : {T : Type 0} (honest : Type 0) (ours : List ℕ → Bool) (alone : Bool) (does : T → Effect Device) (part : Effect Device) (old new : Seen) (fault : OutsideFault)
+    → fault ≡ Stopped → new ≡ stopped old → Changes honest (Arrives ours alone) does part old new (Err fault)
+stops_change honest ours alone does part old new fault is_stop now =
+    stops_first honest ours alone (λ _. 0) FromBox does (LeavesBy does part) old new fault is_stop now tt (λ d. inl refl)

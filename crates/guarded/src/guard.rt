@@ -1,28 +1,64 @@
 //! Who sees to it that a run does nothing over mailboxes that are not as it takes them to be.
 
+ghost use Rattle.std.specs.Prelude.{◌≡◌, Bool};
+
+use mailcore::listing::Listing;
+use mailcore::side::Side;
 use mailcore::uid::Uid;
 use rules::plan::Plan;
 use rules::state::SyncState;
 use sync_state::journal::Journal;
 
-/// Who sees to it that a run does nothing over mailboxes that are not as it takes them to be. Where it says no, the call that asked stops,
-/// and the guard notes why.
+/// A call that changes a mailbox.
+#[derive(Clone, Copy)]
+pub enum Change {
+    /// A message is copied.
+    Copy,
+    /// Flags are set on this side.
+    AddFlags(Side),
+    /// Flags are cleared on this side.
+    RemoveFlags(Side),
+    /// A message is removed on this side.
+    Expunge(Side),
+}
+
+/// Who sees to it that a run does nothing over mailboxes that are not as it takes them to be. Where it says no, the call that asked stops
+/// before it has an effect, and the guard notes why. It says no from then on, until all is opened again.
 pub trait Guard {
-    /// The last run recorded this state, and this plan is pending behind it.
-    fn reads(&self, state: &SyncState, pending: Option<&Journal>);
+    /// Nothing was found since all was opened for which the run is not to go on.
+    ghost goes_on: { Self → Bool };
 
-    /// Whether a far mailbox that was opened, and has this UIDNEXT, may be worked on.
-    fn may_open(&self, next: u32) -> bool;
+    /// The last run recorded this state, and this plan is pending after it.
+    fn reads(&mut self, state: &SyncState, pending: Option<&Journal>);
 
-    /// Whether this plan may be begun.
-    fn may_begin(&self, plan: &Plan) -> bool;
+    /// Whether a far mailbox that was opened, and has this UIDVALIDITY and UIDNEXT, may be worked on.
+    fn may_open(&mut self, validity: u32, next: u32) -> bool
+        ensures { result ≡ goes_on self.new };
+
+    /// Whether this plan may be begun. If so, it is pending from now on.
+    fn may_begin(&mut self, plan: &Plan) -> bool
+        ensures { result ≡ goes_on self.new };
+
+    /// The step of this number, counted from 1, and those before it are logged.
+    fn logs(&mut self, step: usize);
+
+    /// Whether this call of the plan that is pending, over the message of this UID, may be made.
+    fn may_change(&mut self, change: Change, uid: Uid) -> bool
+        ensures { result ≡ goes_on self.new };
+
+    /// Whether the far mailbox is to be listed before this call.
+    fn asks_far(&self, change: Change) -> bool;
+
+    /// Whether near messages may be removed, since the far mailbox lists this.
+    fn may_remove(&mut self, far: &Listing) -> bool
+        ensures { result ≡ goes_on self.new };
 
     /// The far mailbox lists this message, and did not give it: the run stops.
-    fn withheld(&self, uid: Uid);
+    fn withheld(&mut self, uid: Uid);
 
     /// This UID was given to a copy, and an entry of the state has it already: the run ends.
-    fn given_again(&self, uid: Uid);
+    fn given_again(&mut self, uid: Uid);
 
-    /// All is opened again: what was noted is forgotten.
-    fn forget(&self);
+    /// All is opened again: what was noted is forgotten, but for a UID that was given again, which ends the run.
+    fn forget(&mut self);
 }

@@ -3,7 +3,9 @@
 ghost use Rattle.std.specs.Prelude.{◌≡◌};
 
 use crate::begin_if::begin_if;
-use crate::guard::Guard;
+use crate::expunge_listed::expunge_listed;
+use crate::guard::{Change, Guard};
+use crate::still_listed::is_listed;
 use mailbox::far_next::FarNext;
 use mailcore::flags::Flags;
 use mailcore::listing::Listing;
@@ -18,8 +20,9 @@ use rules::state::SyncState;
 use sync_state::journal::Journal;
 
 /// An outside that passes each call on, and tells a guard of a book that was read. A call stops where the guard says no: to the UIDNEXT of
-/// a far mailbox that was opened, or to a plan before it is begun. Where a far message that is to be copied is not found, the far mailbox is
-/// listed and the message asked for once more: over one that is listed and not given the call stops.
+/// a far mailbox that was opened, to a plan before it is begun, or to a call that changes a mailbox. Where a far message that is to be
+/// copied is not found, the far mailbox is listed and the message asked for once more: over one that is listed and not given the call
+/// stops.
 #[derive(Drop)]
 pub struct GuardedOutside<O, G> {
     outside: O,
@@ -58,25 +61,44 @@ impl<O: Outside, G: Guard> GuardedOutside<O, G> {
 }
 
 impl<O: Outside + FarNext, G: Guard> GuardedOutside<O, G> {
-    /// Whether the mailbox of this side, which was opened, may be worked on.
-    fn may_open(&self, side: Side) -> bool {
+    /// Whether the mailbox of this side, which was opened and has this UIDVALIDITY, may be worked on.
+    fn may_open(&mut self, side: Side, validity: u32) -> bool
+        ensures { self.new.outside ≡ self.old.outside }
+    {
         match (side, self.outside.far_next()) {
-            (Side::Far, Some(next)) => self.guard.may_open(next),
+            (Side::Far, Some(next)) => self.guard.may_open(validity, next),
             _ => true,
         }
     }
 }
 
-/// Whether a message is listed.
-fn is_listed(listing: &Listing, uid: Uid) -> bool {
-    listing
-        .items
-        .as_slice()
-        .binary_search_by_key(&uid.get(), |item| item.uid.get())
-        .is_ok()
+/// Tells a guard that a step was logged, or that the UID of its copy was given before.
+fn note_logged<G: Guard>(
+    guard: &mut G,
+    step: usize,
+    copy: Option<Uid>,
+    answer: &Result<(), OutsideFault>,
+) {
+    match (*answer, copy) {
+        (Ok(()), _) => guard.logs(step),
+        (Err(OutsideFault::BadState(0)), Some(uid)) => guard.given_again(uid),
+        _ => {}
+    }
 }
 
 impl<O: Outside + FarNext, G: Guard> Outside for GuardedOutside<O, G> {
+    ghost use Rattle.std.specs.Prelude.{true, false, OnOk};
+    ghost use Rattle.mailcore.specs.KeywordNames.{kept};
+    ghost use Rattle.mailcore.specs.Operations.{flags_added};
+    ghost use Rattle.book.specs.declared.book.Pending.TheVariants.{Missing, Useless};
+    ghost use Rattle.book.specs.Books.{Turns, TurnsHalf};
+    ghost use Rattle.book.specs.BookLogs.{begun};
+    ghost use Rattle.outside.specs.Arrivals.{Arrives};
+    ghost use Rattle.outside.specs.BookCalls.{OfBook};
+    ghost use Rattle.outside.specs.BoxCalls.{Names, Turns as TurnsBox};
+    ghost use Rattle.outside.specs.Calls.{Changes, FromBook, Writes, stopped};
+    ghost use Rattle.outside.specs.Opened.{IsOpen, TakesPlan, turned};
+
     ghost honest = { λ guarded. O.honest guarded.outside };
 
     ghost ours = { O.ours };
@@ -113,7 +135,17 @@ impl<O: Outside + FarNext, G: Guard> Outside for GuardedOutside<O, G> {
         self.outside.mend()
     }
 
-    fn begin(&mut self, plan: Plan) -> Result<(), OutsideFault> {
+    fn begin(&mut self, plan: Plan) -> Result<(), OutsideFault>
+        requires takes { TakesPlan (O.opened self.old.outside) plan }
+        ensures refused { G.goes_on self.new.guard ≡ false → O.seen self.new.outside ≡ stopped (O.seen self.old.outside) }
+        ensures was_honest { O.honest self.new.outside → O.honest self.old.outside }
+        ensures keywords { O.keywords self.new.outside ≡ O.keywords self.old.outside }
+        ensures opened { OnOk result (O.opened self.new.outside ≡ turned (λ _. begun plan) (O.opened self.old.outside)) }
+        ensures call { Writes (O.honest self.new.outside) (Arrives O.ours O.alone) FromBook
+            (OfBook (λ _. Turns Missing (begun plan)) (O.opened self.old.outside))
+            (OfBook (λ _. TurnsHalf Missing Useless) (O.opened self.old.outside))
+            (O.seen self.old.outside) (O.seen self.new.outside) result }
+    {
         let may = self.guard.may_begin(&plan);
         begin_if(may, &mut self.outside, plan)
     }
@@ -121,25 +153,27 @@ impl<O: Outside + FarNext, G: Guard> Outside for GuardedOutside<O, G> {
     fn done(&mut self, step: usize, copy: Option<Uid>) -> Result<(), OutsideFault> {
         let given = copy;
         let answer = self.outside.done(step, copy);
-        if let Some(uid) = given {
-            if answer == Err(OutsideFault::BadState(0)) {
-                self.guard.given_again(uid);
-            }
-        }
+        note_logged(&mut self.guard, step, given, &answer);
         answer
     }
 
     fn void(&mut self, step: usize) -> Result<(), OutsideFault> {
-        self.outside.void(step)
+        let answer = self.outside.void(step);
+        note_logged(&mut self.guard, step, None, &answer);
+        answer
     }
 
     fn commit(&mut self) -> Result<(), OutsideFault> {
         self.outside.commit()
     }
 
+    fn give_up(&mut self, lost: &[u32]) -> Result<(), OutsideFault> {
+        self.outside.give_up(lost)
+    }
+
     fn open_box(&mut self, side: Side) -> Result<u32, OutsideFault> {
         let validity = self.outside.open_box(side)?;
-        if !self.may_open(side) {
+        if !self.may_open(side, validity) {
             return Err(self.outside.stop());
         }
         Ok(validity)
@@ -174,6 +208,9 @@ impl<O: Outside + FarNext, G: Guard> Outside for GuardedOutside<O, G> {
         mark: Tuid,
         flags: Flags,
     ) -> Result<Carried, OutsideFault> {
+        if !self.guard.may_change(Change::Copy, uid) {
+            return Err(self.outside.stop());
+        }
         match (self.outside.carry(direction, uid, mark, flags)?, direction) {
             (Carried::Absent, Direction::Pull) if !self.is_gone(uid) => {}
             (carried, _) => return Ok(carried),
@@ -188,15 +225,36 @@ impl<O: Outside + FarNext, G: Guard> Outside for GuardedOutside<O, G> {
         Ok(carried)
     }
 
-    fn add_flags(&mut self, side: Side, uid: Uid, flags: Flags) -> Result<(), OutsideFault> {
+    fn add_flags(&mut self, side: Side, uid: Uid, flags: Flags) -> Result<(), OutsideFault>
+        requires is_open { IsOpen side (O.opened self.old.outside) }
+        ensures let_on { OnOk result (G.goes_on self.new.guard ≡ true) }
+        ensures was_honest { O.honest self.new.outside → O.honest self.old.outside }
+        ensures keywords { O.keywords self.new.outside ≡ O.keywords self.old.outside }
+        ensures opened { O.opened self.new.outside ≡ O.opened self.old.outside }
+        ensures call { Changes {T = Unit {0}} (O.honest self.new.outside) (Arrives O.ours O.alone)
+            (λ _. TurnsBox side uid (flags_added uid (kept (O.keywords self.old.outside) flags))) (Names side uid)
+            (O.seen self.old.outside) (O.seen self.new.outside) result }
+    {
+        if !self.guard.may_change(Change::AddFlags(side), uid) {
+            return Err(self.outside.stop());
+        }
         self.outside.add_flags(side, uid, flags)
     }
 
     fn remove_flags(&mut self, side: Side, uid: Uid, flags: Flags) -> Result<(), OutsideFault> {
+        if !self.guard.may_change(Change::RemoveFlags(side), uid) {
+            return Err(self.outside.stop());
+        }
         self.outside.remove_flags(side, uid, flags)
     }
 
     fn expunge(&mut self, side: Side, uid: Uid) -> Result<(), OutsideFault> {
+        if !self.guard.may_change(Change::Expunge(side), uid) {
+            return Err(self.outside.stop());
+        }
+        if self.guard.asks_far(Change::Expunge(side)) {
+            return expunge_listed(&mut self.outside, &mut self.guard, side, uid);
+        }
         self.outside.expunge(side, uid)
     }
 

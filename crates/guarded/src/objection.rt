@@ -6,8 +6,12 @@ use maildir::folder::FileName;
 /// Why a run is not to go on.
 #[derive(Drop)]
 pub enum Objection {
-    /// A near message that the plan takes to be removed is there, under this name.
-    Standing(FileName),
+    /// The near message of this UID, which the plan takes to be removed, is there under this name.
+    Standing(u32, FileName),
+    /// The near message of this UID, which the plan removes or removes on the far side, is not marked as deleted: its name is this.
+    Kept(u32, FileName),
+    /// The far mailbox lists the message of this UID, which the plan has expunged.
+    Undeleted(u32),
     /// Whether one is there cannot be looked up: the system said this of the folder.
     Unlooked(Trouble),
     /// The far mailbox lists the message of this UID, and does not give it.

@@ -5,5 +5,6 @@ pub mod InOrder
 pub mod Found
 pub mod Runs
 pub mod Beginnings
+pub mod GivenUp
 pub mod CalledNext
 pub mod Others

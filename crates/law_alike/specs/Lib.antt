@@ -1,4 +1,5 @@
 pub mod Worlds
 pub mod Runs
 pub mod Beginnings
+pub mod GivenUp
 pub mod Others

@@ -4,6 +4,7 @@
 #![tactic(auto)]
 
 ghost use Rattle.law_alike.specs.Beginnings as beginning;
+ghost use Rattle.law_alike.specs.GivenUp as given_up;
 ghost use Rattle.law_alike.specs.Others as other;
 ghost use Rattle.law_alike.specs.Runs as run;
 ghost use Rattle.law_alike.specs.Worlds as world;
@@ -48,4 +49,9 @@ pub fn others_are_left_to_the_next_run()
 /// Where a device holds a world that a run may begin with, and no journal, that run is underway: it has no plan yet.
 pub fn world_begins_a_run()
     ensures { beginning.WorldIsUnplanned }
+{}
+
+/// Where a plan is given up over mailboxes with which a run might begin, a run may begin with them and the state that is left.
+pub fn given_up_begins_a_run()
+    ensures { given_up.GivenUpIsOpening }
 {}

@@ -18,3 +18,4 @@ pub mod CopyBytes
 pub mod FoundParts
 pub mod FoundAgain
 pub mod FoundSettled
+pub mod GivenUp

@@ -2,3 +2,4 @@ pub mod CommitLaws
 pub mod OtherUids
 pub mod AlikeLaws
 pub mod Examples
+pub mod GivenUpLaws

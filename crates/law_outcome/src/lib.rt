@@ -5,6 +5,7 @@
 ghost use Rattle.law_outcome.specs.AlikeLaws as law;
 ghost use Rattle.law_outcome.specs.CommitLaws as commit_law;
 ghost use Rattle.law_outcome.specs.Examples as example;
+ghost use Rattle.law_outcome.specs.GivenUpLaws as given_up;
 ghost use Rattle.law_outcome.specs.OtherUids as other_uids;
 
 /// The state that a finished journal of a plan makes of the one before is the state after the run, under the UIDs that
@@ -14,6 +15,13 @@ pub fn commit_reaches_outcome()
     ensures paired { commit_law.CopiesArePaired }
     ensures state { commit_law.CommitReachesStateAfter }
     ensures in_turn { commit_law.NamedAreStateAfter }
+{}
+
+/// The state that is left of a plan which is given up has the old entries and one for each copy, and the next plan, on whatever is listed
+/// and under whatever options, copies none of these messages again.
+pub fn given_up_keeps_copies()
+    ensures entries { given_up.EntriesAreThese }
+    ensures not_new { given_up.CopiesAreNotNew }
 {}
 
 /// Where messages have other UIDs, in the same order and with those that the state names as they were, the same is

@@ -8,3 +8,5 @@ pub mod RunAfter
 pub mod Settled
 pub mod Expunged
 pub mod Fitness
+pub mod RecordedMarks
+pub mod HalfEntries

@@ -1,22 +1,22 @@
 -- What the definitions of a run come to, in laws that the functions of `src/lib.rt` show.
-use Rattle.std.specs.Prelude.{ℕ, Bool, ◌≤◌, ◌≡◌, ◌⊎◌, ◌↔◌, true, false, List, Contains, length, map}
+use Rattle.std.specs.Prelude.{ℕ, Bool, ◌<◌, ◌≤◌, ◌≡◌, ◌⊎◌, ◌↔◌, true, false, List, None, Some, Contains, length, map}
 use Rattle.mailcore.specs.declared.side.Side.{Side}
-use Rattle.mailcore.specs.declared.side.Side.TheVariants.{Near}
+use Rattle.mailcore.specs.declared.side.Side.TheVariants.{Far, Near}
 use Rattle.mailcore.specs.declared.side.Direction.{Direction}
-use Rattle.mailcore.specs.declared.side.Direction.TheVariants.{Push}
+use Rattle.mailcore.specs.declared.side.Direction.TheVariants.{Pull, Push}
 use Rattle.mailcore.specs.declared.listing.Item.{Item}
 use Rattle.mailcore.specs.declared.mailbox.Message.{Message}
 use Rattle.mailcore.specs.FlagSet.{DELETED, has}
 use Rattle.mailcore.specs.Listed.{item_of}
 use Rattle.mailcore.specs.Operations.{item_sparing}
 use Rattle.mailcore.specs.Rise.{Rise}
-use Rattle.mailcore.specs.Sides.{source, towards}
+use Rattle.mailcore.specs.Sides.{other, source, towards}
 use Rattle.rules.specs.declared.entry.Entry.{Entry}
 use Rattle.rules.specs.declared.options.Options.{Options}
-use Rattle.rules.specs.Propagation.{Propagation, New, Expunge}
-use Rattle.rules.specs.Options.{covers}
-use Rattle.rules.specs.Entries.{ArePairs}
-use Rattle.rules.specs.Scene.{Scene, highest, is_paired}
+use Rattle.rules.specs.Propagation.{Propagation, New, Gone, Flags, Expunge, Record, Drop}
+use Rattle.rules.specs.Options.{covers, goes}
+use Rattle.rules.specs.Entries.{ArePairs, uid_of}
+use Rattle.rules.specs.Scene.{Scene, flags_at, full_entry, highest, is_paired, items}
 use Rattle.rules.specs.Called.{is_new, called}
 use Rattle.rules.specs.Order.{place, Before}
 use Rattle.rules.specs.Outcome.{count_new}
@@ -113,3 +113,42 @@ CopyIsNotExpunged =
     Rise (store w side).next uids next →
     Contains (copies_under side uids (marks_to w options side marks) (new_messages w options (towards side))) c →
     called (scene_of w options) (Expunge side c.uid) ≡ false
+
+-- ---- a mark that is recorded
+
+-- Where an entry has \Deleted recorded, a message of it that is listed beside the other one is not removed if it lacks \Deleted, or if
+-- the other one does and its flags go over to it.
+abbrev pub RecordedMarkIsNoDelete : Type 0
+RecordedMarkIsNoDelete =
+    (s : Scene) (side : Side) (e : Entry) (u flags theirs : ℕ) →
+    full_entry s side u ≡ Some e → flags_at (items s side) u ≡ Some flags → flags_at (items s (other side)) (uid_of (other side) e) ≡ Some theirs →
+    has e.flags DELETED ≡ true →
+    (has flags DELETED ≡ false) ⊎ ((has theirs DELETED ≡ false) × (goes s.options.cells.flags (towards side) ≡ true)) →
+    called s (Expunge side u) ≡ false
+
+-- ---- an entry that has lost its far side
+
+-- the entry has its near side alone, and that message is listed, and lacks \Deleted
+pub record IsHalf (s : Scene) (e : Entry) (near : ℕ) : Type 0 where
+  pub stands : Contains s.entries e
+  pub far : e.far ≡ None
+  pub near_is : e.near ≡ Some near
+  pub positive : 0 < near
+  pub flags : ℕ
+  pub listed : flags_at s.near near ≡ Some flags
+  pub unmarked : has flags DELETED ≡ false
+
+-- the propagation is of this near message
+abbrev pub IsOfNear : (near : ℕ) → Propagation → Type 0
+IsOfNear near (New Pull u) = ⊥
+IsOfNear near (New Push u) = u ≡ near
+IsOfNear near (Gone d f n) = n ≡ near
+IsOfNear near (Flags d f n set cleared) = n ≡ near
+IsOfNear near (Expunge Far u) = ⊥
+IsOfNear near (Expunge Near u) = u ≡ near
+IsOfNear near (Record f n w) = n ≡ near
+IsOfNear near (Drop f n) = n ≡ near
+
+-- nothing is called for that message, under whatever options: it is not new, not marked, not removed, and its entry stays
+abbrev pub HalfEntryIsLeft : Type 0
+HalfEntryIsLeft = (s : Scene) (e : Entry) (near : ℕ) (q : Propagation) → ArePairs s.entries → IsHalf s e near → IsOfNear near q → called s q ≡ false

@@ -44,3 +44,15 @@ pub fn expunge_reaches_old_messages()
     ensures was_there { law.ExpungedWasThere }
     ensures no_copy { law.CopyIsNotExpunged }
 {}
+
+/// Where an entry has `\Deleted` recorded, as one has after a plan that marked its message and was given up, that mark alone removes
+/// nothing: a message that lacks it stays, and one that has it stays where the other one lacks it and its flags go over.
+pub fn recorded_mark_is_no_delete()
+    ensures { law.RecordedMarkIsNoDelete }
+{}
+
+/// Where an entry has lost its far side, as one has after a plan that removed its far message and was given up, nothing is called for its
+/// near message while that lacks `\Deleted`: it is not new, not marked, not removed, and the entry stays.
+pub fn half_entry_is_left()
+    ensures { law.HalfEntryIsLeft }
+{}

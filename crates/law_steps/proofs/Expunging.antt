@@ -79,11 +79,11 @@ one_back side (Expunge at u) r b m g c = plain_back side (Expunge at u) r b m re
 left_part : {X : Type 0} (P : X → Type 0) (xs ys : List X) → All P (xs ++ ys) → All P xs
 left_part P xs ys h = All-from_contains P xs (λ x c. All-contains P (xs ++ ys) x h (Contains-append_left xs ys x c))
 
-right_part : {X : Type 0} (P : X → Type 0) (xs ys : List X) → All P (xs ++ ys) → All P ys
+pub right_part : {X : Type 0} (P : X → Type 0) (xs ys : List X) → All P (xs ++ ys) → All P ys
 right_part P xs ys h = All-from_contains P ys (λ x c. All-contains P (xs ++ ys) x h (Contains-append_right xs ys x c))
 
 -- what the steps that are left make of it is what all of them make of the one that it was
-all_back : (side : Side) (steps : List Step) (results : List (Option ℕ)) (b : Boxes) (m : Message) → All (λ u. m.uid < u) (given side steps results) → Contains (box (after steps results b) side) m →
+pub all_back : (side : Side) (steps : List Step) (results : List (Option ℕ)) (b : Boxes) (m : Message) → All (λ u. m.uid < u) (given side steps results) → Contains (box (after steps results b) side) m →
     (n : Message) × Contains (box b side) n × (n.uid ≡ m.uid) × (flags_all side (drop (length results) steps) m.uid m.flags ≡ flags_all side steps n.uid n.flags)
 all_back side [] results b m g c = (m, c, refl, ap (λ (ss : List Step). flags_all side ss m.uid m.flags) (drop-nil (length results)))
 all_back side (s ∷ steps) [] b m g c = (m, c, refl, refl)
@@ -127,19 +127,19 @@ behind_new : (side : Side) (k a b c e f g : List Step) (u x : ℕ) →
     flags_all side (k ++ a ++ b ++ c ++ e ++ f ++ g) u x ≡ flags_all side (a ++ b ++ c ++ e ++ f ++ g) u (flags_all side k u x)
 behind_new side k a b c e f g u x = simp (flags_all-append side)
 
-all_flags : (s : Scene) (marks : List (List ℕ)) (side : Side) (u x : ℕ) → flags_all side (all_steps s marks) u x ≡ flags_all side (changes s) u x
+pub all_flags : (s : Scene) (marks : List (List ℕ)) (side : Side) (u x : ℕ) → flags_all side (all_steps s marks) u x ≡ flags_all side (changes s) u x
 all_flags s marks side u x =
     behind_new side (all_new s marks) (gone_steps s Pull) (gone_steps s Push) (flags_steps s Pull) (flags_steps s Push) (expunge_steps s Far) (expunge_steps s Near) u x
     ∙ ap (λ y. flags_all side (changes s) u y) (flags_all-left side u (all_new s marks) (new_leave s side u marks) x)
 
 -- ---- the message that is next to be expunged
 
-stored_in : (w : World) (side : Side) (m : Message) → Contains (box (boxes_of w) side) m → Contains (store w side).messages m
+pub stored_in : (w : World) (side : Side) (m : Message) → Contains (box (boxes_of w) side) m → Contains (store w side).messages m
 stored_in w Far m c = c
 stored_in w Near m c = c
 
 -- it is listed, so its UID is below the next one
-is_below : (w : World) (options : Options) (side : Side) (u : ℕ) → IsInOrder w → is_expunged (scene_of w options) side u ≡ true → u < (store w side).next
+pub is_below : (w : World) (options : Options) (side : Side) (u : ℕ) → IsInOrder w → is_expunged (scene_of w options) side u ≡ true → u < (store w side).next
 is_below w options side u h e =
     let s : Scene = scene_of w options in
     let then : is_deleted_then s side u (flags_at (items s side) u) ≡ true = (and_parts (covers s.options.expunge side) (is_deleted_then s side u (flags_at (items s side) u)) e).1 in
@@ -153,7 +153,7 @@ is_below w options side u h e =
     some (Some x) k = refl
 
 -- and deleted behind all steps
-is_deleted : (w : World) (options : Options) (marks : List (List ℕ)) (side : Side) (n : Message) → IsInOrder w → is_expunged (scene_of w options) side n.uid ≡ true → Contains (store w side).messages n →
+pub is_deleted : (w : World) (options : Options) (marks : List (List ℕ)) (side : Side) (n : Message) → IsInOrder w → is_expunged (scene_of w options) side n.uid ≡ true → Contains (store w side).messages n →
     has (flags_all side (all_steps (scene_of w options) marks) n.uid n.flags) DELETED ≡ true
 is_deleted w options marks side n h e c =
     let s : Scene = scene_of w options in
@@ -174,7 +174,7 @@ next_expunged w options marks results side u below at =
     (Contains-map of_step (all_steps s marks) (Expunge side u) (propagation.Expunge side u) (length results, below, sym at) refl))
 
 -- it is the run's own
-seen : (w : World) (marks : List (List ℕ)) (found b : Boxes) (side : Side) (m : Message) → m.uid < (store w side).next → own (is_own w marks) found ≡ b → Contains (box found side) m → Contains (box b side) m
+pub seen : (w : World) (marks : List (List ℕ)) (found b : Boxes) (side : Side) (m : Message) → m.uid < (store w side).next → own (is_own w marks) found ≡ b → Contains (box found side) m → Contains (box b side) m
 seen w marks found b side m less e c =
     subst (λ (x : Boxes). Contains (box x side) m) e
     (subst (λ (ms : List Message). Contains ms m) (sym (box_own (is_own w marks) found side))

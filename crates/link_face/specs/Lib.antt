@@ -6,4 +6,5 @@ pub mod Listing
 pub mod Names
 pub mod Profile
 pub mod Reading
+pub mod Rooms
 pub mod Turning

@@ -6,12 +6,14 @@ ghost use Rattle.wire_reader.specs.Spelling.{crlf};
 ghost use Rattle.wire_reader.specs.Scanning.{start, scanned, owed_in};
 ghost use Rattle.link_face.specs.Commands.{GoesAsItIs, IsRenamed};
 ghost use Rattle.link_face.specs.Faces.{IsSpelled};
+ghost use Rattle.link_face.specs.Rooms.{whole_room, Takes};
 ghost use Rattle.link_face.specs.Turning.{IsTurned, Leaves, Unchanged, held_of};
 
 use crate::command::with_far_name;
 use crate::extent::Extent;
 use crate::incoming::Incoming;
 use crate::ready::Ready;
+use crate::room::Room;
 use crate::sent::Sent;
 use crate::turning::{Turn, turned};
 use crate::words::Words;
@@ -34,6 +36,8 @@ pub(crate) struct Face {
     pub(crate) ready: Ready,
     /// What was sent over this connection.
     pub(crate) sent: Sent,
+    /// How much may still come in answer to what was sent last.
+    pub(crate) room: Room,
     /// Whether a reply was replaced or left out, or a command was sent otherwise, on any connection.
     pub(crate) changed: bool,
     /// Whether nothing more is read of this connection.
@@ -51,6 +55,7 @@ impl Face {
             incoming: Incoming::new(alloc),
             ready: Ready::new(alloc),
             sent: Sent::new(),
+            room: Room::whole(),
             changed: false,
             is_lost: false,
             stops: StopCount::new(),
@@ -63,12 +68,14 @@ impl Face {
         ensures incoming { self.new.incoming ≡ [] }
         ensures ready { self.new.ready ≡ [] }
         ensures sent { self.new.sent.scanner ≡ start }
+        ensures room { self.new.room ≡ whole_room }
         ensures changed { self.new.changed ≡ self.old.changed }
         ensures stops { self.new.stops ≡ self.old.stops }
     {
         self.incoming.clear();
         self.ready.clear();
         self.sent = Sent::new();
+        self.room = Room::whole();
         self.is_lost = false;
     }
 
@@ -81,6 +88,7 @@ impl Face {
         ensures command { owed_in self.old.sent.scanner.phase ≡ 0
             → IfOk result (λ found. MatchOption found (GoesAsItIs bytes.now) (λ turned. IsRenamed bytes.now turned.items)) }
         ensures sent { self.new.sent.scanner ≡ scanned self.old.sent.scanner bytes.now }
+        ensures room { self.new.room ≡ whole_room }
         ensures changed { IfOk result (λ found. MatchOption found (self.new.changed ≡ self.old.changed) (λ _. self.new.changed ≡ true)) }
         ensures err { OnErr result (self.new.changed ≡ self.old.changed) }
         ensures held { held_of self.new ≡ held_of self.old }
@@ -88,6 +96,7 @@ impl Face {
     {
         let is_octets = self.sent.is_within_literal();
         self.sent.note(bytes);
+        self.room = Room::whole();
         if is_octets {
             return Ok(None);
         }
@@ -99,16 +108,19 @@ impl Face {
     /// The text of a copy and a line end are sent as they are, as the octets of a literal always are.
     pub(crate) fn note_copy(&mut self, copy: CopyPieces<'_>)
         ensures sent { self.new.sent.scanner ≡ scanned self.old.sent.scanner (text_left copy.entry ++ crlf) }
+        ensures room { self.new.room ≡ whole_room }
         ensures changed { self.new.changed ≡ self.old.changed }
         ensures held { held_of self.new ≡ held_of self.old }
         ensures stops { self.new.stops ≡ self.old.stops }
     {
         self.sent.note_copy(copy);
+        self.room = Room::whole();
     }
 
     /// Turns replies until one is ready, and tells whether one is: else more has to come.
     ///
-    /// `Stopped`: a reply is too long or cannot be read, and nothing more is read of this connection. `NoMemory`.
+    /// `Stopped`: a reply is too long or cannot be read, or there is no room for it, and nothing more is read of this connection.
+    /// `NoMemory`.
     pub(crate) fn turn(&mut self) -> Result<bool, LinkFault>
         ensures unchanged { Unchanged self.old self.new }
         ensures some { result ≡ Ok true → 0 < length self.new.ready }
@@ -134,16 +146,20 @@ impl Face {
         Ok(!self.ready.is_empty())
     }
 
-    /// Turns the reply of so many bytes at the front of what came.
+    /// Turns the reply of so many bytes at the front of what came, if there is room for it. Else the connection is given up.
     fn turn_front(&mut self, len: usize) -> Result<(), LinkFault>
         requires within { len ≤ length self.old.incoming }
         requires none { self.old.ready ≡ [] }
         ensures unchanged { Unchanged self.old self.new }
         ensures ready { OnOk result (IsTurned self.new.ready) }
+        ensures room { OnOk result (Takes (take len self.old.incoming) self.old.room self.new.room) }
         ensures counts { self.old.stops ≤ self.new.stops }
         ensures steady { OnOk result (self.new.stops ≡ self.old.stops) }
         ensures stopped { IsErrOf result LinkFault.Stopped → self.old.stops < self.new.stops }
     {
+        if !self.room.take(self.incoming.front(len)) {
+            return Err(self.lose());
+        }
         match turned(self.alloc, self.incoming.front(len)) {
             Ok(Turn::Keep) => self.keep(len),
             Ok(Turn::Replace(bytes)) => self.replace(len, bytes),
@@ -160,6 +176,7 @@ impl Face {
         requires spelled { IsSpelled (take len self.old.incoming) }
         ensures unchanged { Unchanged self.old self.new }
         ensures ready { OnOk result (IsTurned self.new.ready) }
+        ensures room { self.new.room ≡ self.old.room }
         ensures stops { self.new.stops ≡ self.old.stops }
         ensures err { IsErrOf result LinkFault.Stopped → ⊥ }
     {
@@ -178,6 +195,7 @@ impl Face {
         requires turned { IsTurned bytes.items }
         ensures unchanged { Unchanged self.old self.new }
         ensures ready { OnOk result (IsTurned self.new.ready) }
+        ensures room { self.new.room ≡ self.old.room }
         ensures stops { self.new.stops ≡ self.old.stops }
         ensures err { IsErrOf result LinkFault.Stopped → ⊥ }
     {

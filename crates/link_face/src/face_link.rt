@@ -23,6 +23,10 @@ const PIECE_BYTES: usize = 16_384;
 /// all its octets. A reply whose lines have more than 65536 bytes, or whose literals have more than 16777238 octets, is a stop, and
 /// nothing more is read of that connection. So much is kept of a reply that has not come whole, and no more.
 ///
+/// A client may keep the replies to a command until the tagged one, so as many bytes come in answer to one command, and a reply beyond
+/// them is a stop, too: 16777216 of LIST replies, 33685548 of FETCH replies with a whole message, and 1048576 of others without a number, as
+/// CAPABILITY and status responses. Other replies with a number, as the rows of a listing, are not counted.
+///
 /// The names of mailboxes are in modified UTF-7 for the client, and in UTF-8 for the server (RFC 9051, section 5.1): a LIST reply
 /// whose name is another in modified UTF-7 is replaced, and a command that names a mailbox so is sent with the name in UTF-8.
 ///

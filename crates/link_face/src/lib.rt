@@ -16,6 +16,7 @@ mod modified_utf7;
 pub mod names;
 mod plain;
 mod ready;
+mod room;
 mod row;
 mod run;
 mod sent;

@@ -63,6 +63,11 @@ impl<'a> Row<'a> {
         }
     }
 
+    /// Whether the octets of a whole message are among them.
+    pub(crate) fn has_message(&self) -> bool {
+        self.body.is_some()
+    }
+
     /// The reply to one of the commands of a client that has these items, or none where some are missing.
     ///
     /// `AllocError`: memory ran out.

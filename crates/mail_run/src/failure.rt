@@ -22,6 +22,14 @@ pub(crate) enum Failure {
         /// What is wrong with it.
         kind: FaultKind,
     },
+    /// A channel of the configuration names a mailbox that no Maildir store can have.
+    #[error("config channel {channel}: mailbox {mailbox}\n  each mailbox has cur, new and tmp, .mbsyncstate.. and .uidvalidity..: no part of a name may be one of these")]
+    Mailbox {
+        /// The name of the channel.
+        channel: String,
+        /// The name of the mailbox.
+        mailbox: String,
+    },
     /// The system does not tell the time, or one before 1970.
     #[error("cannot read the clock")]
     Clock,

@@ -1,5 +1,10 @@
 //! What a command line asks for, over servers and folders.
 
+ghost use Rattle.std.specs.Prelude.{◌≡◌, None, OnOk};
+ghost use Rattle.std.specs.List.{find};
+ghost use Rattle.mail_run.specs.NamedBoxes.{names_own_part};
+
+use crate::boxes::{refused_channel, refused_name};
 use crate::failure::Failure;
 use crate::screen::{Screen, Wiping};
 use crate::shown_stores::ShownStores;
@@ -36,6 +41,7 @@ fn start_of<R: Files + Env + Clock + AllocGlobal>(
 ) -> Result<Start, Failure> {
     let home = read_home(rt)?;
     let config = open_config(rt, request.file.as_deref(), home.as_deref())?;
+    refuse_boxes(rt.alloc(), &config)?;
     Ok(Start {
         config,
         home: Home::new(home),
@@ -45,9 +51,23 @@ fn start_of<R: Files + Env + Clock + AllocGlobal>(
     })
 }
 
+/// Refuses a configuration that names a mailbox which no Maildir store can have, before anything is made.
+fn refuse_boxes(alloc: Global, config: &Config) -> Result<(), Failure>
+    ensures { OnOk result (find (λ channel. names_own_part channel.boxes) config.now.channels.items ≡ None) }
+{
+    let Some(channel) = refused_channel(config) else {
+        return Ok(());
+    };
+    let mailbox = refused_name(channel).unwrap_or("");
+    Err(Failure::Mailbox {
+        channel: String::from_str(alloc, channel.name.as_str())?,
+        mailbox: String::from_str(alloc, mailbox)?,
+    })
+}
+
 /// Does what a command line asks for, over the servers and the folders of its configuration (`channels::run::run_config`). The file of the
 /// configuration is that of the command line, or else `.mbsyncrc` in HOME. It gives the exit status: 1 also where a file cannot be read
-/// or the configuration is a bad one, which `err` is told (docs/MBSYNC.md, "What is printed").
+/// or the configuration is a bad one, or names a mailbox that no Maildir store can have, which `err` is told (docs/MBSYNC.md, "What is printed").
 ///
 /// Where there is a terminal, a line of it shows which mailbox is at work, and how many steps of its plan are logged; it is wiped before
 /// anything is written to `out` or `err`.

@@ -1,6 +1,8 @@
-//! The line on a terminal that tells which mailbox is at work, and how far its run is.
+//! The line on a terminal that tells which mailbox is at work, how far its run is, and what a server is waited for.
 
 use channels::channel_box::ChannelBox;
+use config::config::ImapStore;
+use mail_stores::waits::{Wait, Waits};
 use runner::progress::Progress;
 use std::cell::Cell;
 use std::io;
@@ -17,6 +19,9 @@ const BACK: &str = "\x1b8\x1b[K";
 
 /// How many characters of a name are shown: two of them, and how many of 999999 steps are logged, fit into a line of 80 columns.
 const NAME_MAX: usize = 27;
+
+/// How many characters of a store's name are shown, and of its host: both, and what the server is waited for, fit into such a line.
+const STORE_MAX: usize = 25;
 
 /// A line on a terminal, if there is one, which is overwritten. That it cannot be written is no fault.
 #[derive(Drop)]
@@ -37,14 +42,32 @@ impl<T: Write + Copy> Screen<T> {
     /// Shows which mailbox is at work, in place of what was shown before.
     pub(crate) fn show(&self, place: ChannelBox<'_>) {
         if let Some(mut terminal) = self.terminal {
-            let channel = shortened(place.of.channel.name.as_str());
-            let far = shortened(place.far.as_str());
+            let channel = shortened(place.of.channel.name.as_str(), NAME_MAX);
+            let far = shortened(place.far.as_str(), NAME_MAX);
             let _ = write!(terminal, "{WIPE}{channel}:{far}{KEEP}");
             self.is_shown.set(true);
         }
     }
 
-    /// Who is told how far the run over the mailbox is that is shown.
+    /// Shows which server is asked, in place of what was shown before.
+    pub(crate) fn show_store(&self, store: &ImapStore) {
+        if let Some(mut terminal) = self.terminal {
+            let name = shortened(store.name.as_str(), STORE_MAX);
+            let host = shortened(store.host.as_str(), STORE_MAX);
+            let _ = write!(terminal, "{WIPE}{name} at {host}{KEEP}");
+            self.is_shown.set(true);
+        }
+    }
+
+    /// Shows that the sessions are ended, in place of what was shown before.
+    pub(crate) fn show_end(&self) {
+        if let Some(mut terminal) = self.terminal {
+            let _ = write!(terminal, "{WIPE}mbsync{KEEP}");
+            self.is_shown.set(true);
+        }
+    }
+
+    /// Who is told how far the run over the mailbox is that is shown, and what is waited for.
     pub(crate) fn steps(&self) -> Steps<T> {
         Steps {
             terminal: self.terminal,
@@ -52,7 +75,7 @@ impl<T: Write + Copy> Screen<T> {
     }
 
     /// Wipes what is shown.
-    fn wipe(&self) {
+    pub(crate) fn wipe(&self) {
         if let Some(mut terminal) = self.terminal {
             if self.is_shown.replace(false) {
                 let _ = terminal.write_all(WIPE.as_bytes());
@@ -61,8 +84,8 @@ impl<T: Write + Copy> Screen<T> {
     }
 }
 
-/// The end of the line: how far the run over the mailbox is that is shown. It is written only while nothing is told: a run tells nothing
-/// before it has ended.
+/// The end of the line: how far the run over the mailbox is that is shown, or what the server is waited for that is asked. It is written
+/// only while nothing is told: a run and a server tell nothing before they have ended or answered.
 #[derive(Clone, Copy)]
 pub(crate) struct Steps<T: Write + Copy> {
     terminal: Option<T>,
@@ -80,9 +103,33 @@ impl<T: Write + Copy> Progress for Steps<T> {
     }
 }
 
-/// The first characters of a name, which are ASCII.
-fn shortened(name: &str) -> &str {
-    name.get(..NAME_MAX).unwrap_or(name)
+impl<T: Write + Copy> Waits for Steps<T> {
+    /// Shows behind the name what the server is waited for.
+    fn wait(&self, wait: Wait) {
+        let text = text_of(wait);
+        if let Some(mut terminal) = self.terminal {
+            let _ = write!(terminal, "{BACK}: {text} ..");
+        }
+    }
+}
+
+/// What a server is waited for, in at most 19 characters.
+fn text_of(wait: Wait) -> &'static str {
+    match wait {
+        Wait::Connection => "connecting",
+        Wait::Greeting => "waiting for server",
+        Wait::Login => "logging in",
+        Wait::List => "listing mailboxes",
+        Wait::Mailbox => "opening the mailbox",
+        Wait::Messages => "reading the mailbox",
+        Wait::Creation => "making the mailbox",
+        Wait::Logout => "logging out",
+    }
+}
+
+/// So many first characters of a name, which are ASCII.
+fn shortened(name: &str, max: usize) -> &str {
+    name.get(..max).unwrap_or(name)
 }
 
 /// A stream. Before it is written to, the line is wiped.

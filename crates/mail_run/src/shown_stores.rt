@@ -1,7 +1,7 @@
-//! Stores of which a terminal tells which mailbox is at work.
+//! Stores of which a terminal tells which server is asked, and which mailbox is at work.
 
 use crate::screen::Screen;
-use channels::channel_box::ChannelBox;
+use channels::channel_box::{ChannelBox, ChannelStores};
 use channels::notice::Notice;
 use channels::stop_cause::StopCause;
 use channels::store_fault::{ListFault, StoreFault};
@@ -11,7 +11,7 @@ use mailcore::mailbox_name::MailboxName;
 use mailcore::side::Side;
 use std::io::Write;
 
-/// Stores, and the line on a terminal that shows which of their mailboxes is at work.
+/// Stores, and the line on a terminal that shows which of their servers is asked, and which of their mailboxes is at work.
 #[derive(Drop)]
 pub(crate) struct ShownStores<'a, S: Stores + Drop, T: Write + Copy> {
     stores: S,
@@ -33,15 +33,18 @@ impl<S: Stores + Drop, T: Write + Copy> BoxLists for ShownStores<'_, S, T> {
     ghost asked = { λ shown. S.asked shown.stores };
 
     fn far_boxes(&mut self, store: &ImapStore) -> Result<Vec<MailboxName>, ListFault> {
-        self.stores.far_boxes(store)
+        self.screen.show_store(store);
+        let names = self.stores.far_boxes(store);
+        self.screen.wipe();
+        names
     }
 
     fn near_boxes(&mut self, store: &MaildirStore) -> Result<Vec<MailboxName>, ListFault> {
         self.stores.near_boxes(store)
     }
 
-    fn notices(&mut self) -> Vec<Notice> {
-        self.stores.notices()
+    fn notices(&mut self, of: ChannelStores<'_>) -> Vec<Notice> {
+        self.stores.notices(of)
     }
 
     fn server_words(&mut self) -> Option<String> {
@@ -55,6 +58,9 @@ impl<S: Stores + Drop, T: Write + Copy> Stores for ShownStores<'_, S, T> {
     }
 
     fn make(&mut self, side: Side, place: ChannelBox<'_>) -> Result<(), StoreFault> {
+        if side == Side::Far {
+            self.screen.show(place);
+        }
         self.stores.make(side, place)
     }
 
@@ -76,6 +82,8 @@ impl<S: Stores + Drop, T: Write + Copy> Stores for ShownStores<'_, S, T> {
     }
 
     fn end(&mut self) {
+        self.screen.show_end();
         self.stores.end();
+        self.screen.wipe();
     }
 }

@@ -1,5 +1,9 @@
 //! Which server was asked last, and what it said.
 
+ghost use Rattle.std.specs.Prelude.{◌≡◌, ◌++◌, IfOk, OnOk};
+ghost use Rattle.mail_stores.specs.Passwords.{sent};
+ghost use Rattle.wire_strings.specs.Quotes.{escaped as quoted};
+
 use config::config::ImapStore;
 use link_face::words::Words;
 use std::alloc::{AllocError, Global};
@@ -12,6 +16,8 @@ pub(crate) struct Asked {
     pub(crate) store: String,
     /// The password that it was sent, which is never told.
     password: String,
+    /// The same as it was sent: `"` and `\` each behind a `\` (RFC 9051, section 9: quoted).
+    sent: Vec<u8>,
 }
 
 impl Asked {
@@ -20,6 +26,7 @@ impl Asked {
         Ok(Asked {
             store: String::from_str(alloc, store.name.as_str())?,
             password: String::from_str(alloc, store.pass.as_str())?,
+            sent: sent(alloc, store.pass.as_bytes())?,
         })
     }
 
@@ -33,10 +40,15 @@ impl Asked {
 
     /// A text of its server as it is told. None where it repeats the password, or is empty, or memory is wanting.
     pub(crate) fn shown(&self, alloc: Global, text: &[u8]) -> Option<String> {
-        if text.is_empty() || has_word(text, self.password.as_bytes()) {
+        if text.is_empty() || self.is_repeated_in(text) {
             return None;
         }
         escaped(alloc, text).ok()
+    }
+
+    /// Whether a text repeats the password, as it is or as it was sent.
+    fn is_repeated_in(&self, text: &[u8]) -> bool {
+        has_word(text, self.password.as_bytes()) || has_word(text, &self.sent)
     }
 }
 
@@ -45,6 +57,28 @@ pub(crate) fn escaped(alloc: Global, bytes: &[u8]) -> Result<String, AllocError>
     let mut text = String::new(alloc);
     push_escaped(&mut text, bytes)?;
     Ok(text)
+}
+
+/// A password as it is sent between quotes.
+fn sent(alloc: Global, password: &[u8]) -> Result<Vec<u8>, AllocError>
+    ensures { IfOk result (λ spelled. spelled.items ≡ sent password.now) }
+{
+    let mut spelled = Vec::new(alloc);
+    for b in password {
+        push_sent(*b, &mut spelled)?;
+    }
+    Ok(spelled)
+}
+
+/// Adds a byte as it is sent.
+fn push_sent(b: u8, spelled: &mut Vec<u8>) -> Result<(), AllocError>
+    ensures { OnOk result (spelled.new.items ≡ spelled.old.items ++ quoted b) }
+{
+    if b == b'"' || b == b'\\' {
+        spelled.push(b'\\')?;
+    }
+    spelled.push(b)?;
+    Ok(())
 }
 
 /// Whether a word stands somewhere in a text, with no letter and no digit before it or behind it.

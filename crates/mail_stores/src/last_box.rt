@@ -68,9 +68,17 @@ fn refused_text(
     objection: Objection,
 ) -> Result<StopCause, AllocError> {
     match objection {
-        Objection::Standing(file) => {
+        Objection::Standing(uid, file) => {
             let path = path_text(alloc, place.folder, &file)?;
-            Ok(StopCause::Standing(path))
+            Ok(StopCause::Standing(path, uid))
+        }
+        Objection::Kept(uid, file) => {
+            let path = path_text(alloc, place.folder, &file)?;
+            Ok(StopCause::Kept(path, uid))
+        }
+        Objection::Undeleted(uid) => {
+            let store = String::from_str(alloc, place.store)?;
+            Ok(StopCause::Undeleted(store, uid))
         }
         Objection::Unlooked(trouble) => {
             let folder = String::from_str(alloc, place.folder)?;

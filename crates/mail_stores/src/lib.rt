@@ -14,3 +14,4 @@ mod reach;
 mod server;
 mod sessions;
 mod told;
+pub mod waits;

@@ -5,14 +5,15 @@ ghost use Rattle.std.specs.Prelude.{◌≡◌, IfOk};
 use crate::asked::Asked;
 use crate::guarded_work::GuardedSides;
 use crate::last_box::{BoxPlace, LastBox, cause_of, path_texts};
-use crate::names::is_servable;
+use crate::names::{FarNames, is_servable};
 use crate::notes::Notes;
 use crate::notices::Notices;
 use crate::reach::{NearParts, Reach, RealSides};
 use crate::server::{AskFault, RealLink, is_word};
 use crate::sessions::Sessions;
-use crate::told::{list_fault, lock_fault, make_fault, unlisted, unreached};
-use channels::channel_box::ChannelBox;
+use crate::told::{list_fault, lock_fault, make_fault, ordered, unlisted, unreached};
+use crate::waits::Waits;
+use channels::channel_box::{ChannelBox, ChannelStores};
 use channels::notice::Notice;
 use channels::stop_cause::StopCause;
 use channels::store_fault::{ListFault, StoreFault};
@@ -30,7 +31,7 @@ use near_places::lock::{Lock, LockFault};
 use near_places::refusal::Refusal;
 use run_both::sides::Sides;
 use runner::progress::Progress;
-use std::alloc::AllocError;
+use std::alloc::{AllocError, Global};
 use std::fs::File;
 use std::net::Net;
 use std::num::NonZeroU32;
@@ -44,24 +45,24 @@ use std::rt::{Clock, Files};
 #[derive(Drop)]
 pub struct MailStores<R: Net + Files<File = File> + AllocGlobal + Clone + Drop, P>
 where
-    RealLink<R>: Link,
+    RealLink<R, P>: Link,
 {
-    reach: Reach<R>,
+    reach: Reach<R, P>,
     progress: P,
     /// The store whose server was asked last.
     asked: Option<Asked>,
     notices: Notices,
-    sessions: Sessions<RealLink<R>>,
+    sessions: Sessions<RealLink<R, P>>,
     /// What is known of the mailbox that was open last.
     last: LastBox,
 }
 
-impl<R: Net + Files<File = File> + Clock + AllocGlobal + Clone + Drop, P: Progress> MailStores<
-    R,
-    P,
-> {
+impl<
+    R: Net + Files<File = File> + Clock + AllocGlobal + Clone + Drop,
+    P: Progress + Waits + Copy,
+> MailStores<R, P> {
     /// The stores of a user with this home folder. Near mailboxes that have no UIDVALIDITY yet get this one. It is told how far the run
-    /// over a mailbox is.
+    /// over a mailbox is, and what a server is waited for.
     pub fn new(rt: R, home: Home, fresh: NonZeroU32, notes: Notes, progress: P) -> Self {
         let alloc = rt.alloc();
         MailStores {
@@ -70,6 +71,7 @@ impl<R: Net + Files<File = File> + Clock + AllocGlobal + Clone + Drop, P: Progre
                 home,
                 fresh,
                 notes,
+                waits: progress,
             },
             progress,
             asked: None,
@@ -94,7 +96,7 @@ impl<R: Net + Files<File = File> + Clock + AllocGlobal + Clone + Drop, P: Progre
     }
 
     /// A session at the server of this store: the one that stands, or a new one.
-    fn session_at(&mut self, store: &ImapStore) -> Result<LoggedIn<RealLink<R>>, AskFault> {
+    fn session_at(&mut self, store: &ImapStore) -> Result<LoggedIn<RealLink<R, P>>, AskFault> {
         match self.sessions.take_at(store.name.as_str()) {
             Some(session) => Ok(session),
             None => self.reach.log_in(store),
@@ -117,9 +119,24 @@ impl<R: Net + Files<File = File> + Clock + AllocGlobal + Clone + Drop, P: Progre
     fn names_over(&mut self, store: &ImapStore) -> Result<Vec<MailboxName>, AskFault> {
         let session = self.session_at(store)?;
         let alloc = self.reach.rt.alloc();
-        self.sessions
+        let names = self
+            .sessions
             .list(alloc, store.name.as_str(), session)
-            .map_err(AskFault::Far)
+            .map_err(AskFault::Far)?;
+        match FarNames::of(alloc, names) {
+            Ok(names) => Ok(self.synchronised(store, names)),
+            Err(AllocError) => Err(AskFault::Far(FarFault::NoMemory)),
+        }
+    }
+
+    /// Those of the names at the server of a store that are synchronised. The others are noted.
+    fn synchronised(&mut self, store: &ImapStore, names: FarNames) -> Vec<MailboxName>
+        ensures { result ≡ names.synchronised }
+    {
+        for name in &names.skipped {
+            self.notices.skip(store.name.as_str(), name.as_str());
+        }
+        names.synchronised
     }
 
     /// Those of these near names that a server can have. The others are noted.
@@ -188,7 +205,7 @@ impl<R: Net + Files<File = File> + Clock + AllocGlobal + Clone + Drop, P: Progre
         place: ChannelBox<'_>,
         folder: &str,
         keywords: &Keywords,
-    ) -> Result<RealSides<R>, LockFault>
+    ) -> Result<RealSides<R, P>, LockFault>
         ensures map { IfOk result (λ sides. sides.sides.far.far.keywords ≡ keywords.now) }
     {
         let near = self.reach.near_parts(folder).map_err(LockFault::Refused)?;
@@ -204,7 +221,7 @@ impl<R: Net + Files<File = File> + Clock + AllocGlobal + Clone + Drop, P: Progre
         &mut self,
         place: ChannelBox<'_>,
         keywords: &Keywords,
-    ) -> Result<FarSide<RealLink<R>>, Refusal>
+    ) -> Result<FarSide<RealLink<R, P>>, Refusal>
         ensures map { IfOk result (λ far. far.far.keywords ≡ keywords.now) }
     {
         let alloc = self.reach.rt.alloc();
@@ -220,8 +237,8 @@ impl<R: Net + Files<File = File> + Clock + AllocGlobal + Clone + Drop, P: Progre
         }
     }
 
-    /// Notes what stopped the run over a mailbox, and which files it left out.
-    fn note_end(&mut self, place: ChannelBox<'_>, folder: &str, sides: &RealSides<R>) {
+    /// Notes what stopped the run over a mailbox, and which files it left out or alone.
+    fn note_end(&mut self, place: ChannelBox<'_>, folder: &str, sides: &RealSides<R, P>) {
         let alloc = self.reach.rt.alloc();
         let GuardedSides { sides, guard } = sides;
         let refused = guard.take_objection();
@@ -233,10 +250,12 @@ impl<R: Net + Files<File = File> + Clock + AllocGlobal + Clone + Drop, P: Progre
             cause: cause_of(alloc, place, refused, near, shelf, notes).ok(),
             left_out: path_texts(alloc, folder, sides.folder.left_out()),
         };
+        self.notices
+            .leave_alone(path_texts(alloc, folder, sides.folder.unspelled()));
     }
 
     /// Keeps the session of the far side of a mailbox at this store, if it goes on.
-    fn keep(&mut self, store: &ImapStore, sides: RealSides<R>) {
+    fn keep(&mut self, store: &ImapStore, sides: RealSides<R, P>) {
         if let Some(session) = sides.into_session() {
             let alloc = self.reach.rt.alloc();
             self.sessions.keep(alloc, store.name.as_str(), session);
@@ -245,10 +264,10 @@ impl<R: Net + Files<File = File> + Clock + AllocGlobal + Clone + Drop, P: Progre
 }
 
 /// Both sides of a mailbox.
-fn sides_of<R: Net + Files<File = File> + Clock + AllocGlobal + Clone + Drop>(
-    far: FarSide<RealLink<R>>,
+fn sides_of<R: Net + Files<File = File> + Clock + AllocGlobal + Clone + Drop, P: Waits + Copy>(
+    far: FarSide<RealLink<R, P>>,
     near: NearParts<R>,
-) -> RealSides<R>
+) -> RealSides<R, P>
     ensures map { result.sides.far.far.keywords ≡ far.far.keywords }
 {
     let NearParts {
@@ -262,8 +281,10 @@ fn sides_of<R: Net + Files<File = File> + Clock + AllocGlobal + Clone + Drop>(
     }
 }
 
-impl<R: Net + Files<File = File> + Clock + AllocGlobal + Clone + Drop, P: Progress> BoxLists
-    for MailStores<R, P> {
+impl<
+    R: Net + Files<File = File> + Clock + AllocGlobal + Clone + Drop,
+    P: Progress + Waits + Copy,
+> BoxLists for MailStores<R, P> {
     ghost Record = { Unit {0} };
 
     ghost noted = { λ _ _. tt };
@@ -273,7 +294,7 @@ impl<R: Net + Files<File = File> + Clock + AllocGlobal + Clone + Drop, P: Progre
     fn far_boxes(&mut self, store: &ImapStore) -> Result<Vec<MailboxName>, ListFault> {
         self.ask(store);
         match self.names_at(store) {
-            Ok(names) => Ok(names),
+            Ok(names) => ordered(self.reach.rt.alloc(), &names),
             Err(fault) => Err(unlisted(
                 self.reach.rt.alloc(),
                 store,
@@ -288,14 +309,14 @@ impl<R: Net + Files<File = File> + Clock + AllocGlobal + Clone + Drop, P: Progre
             self.notices.skip(store.name.as_str(), name.as_str());
         }
         match self.servable(store, found.names) {
-            Ok(names) => Ok(names),
+            Ok(names) => ordered(self.reach.rt.alloc(), &names),
             Err(AllocError) => Err(ListFault::NoMemory),
         }
     }
 
-    fn notices(&mut self) -> Vec<Notice> {
+    fn notices(&mut self, of: ChannelStores<'_>) -> Vec<Notice> {
         self.hear();
-        self.notices.take()
+        self.notices.take(of)
     }
 
     fn server_words(&mut self) -> Option<String> {
@@ -304,8 +325,10 @@ impl<R: Net + Files<File = File> + Clock + AllocGlobal + Clone + Drop, P: Progre
     }
 }
 
-impl<R: Net + Files<File = File> + Clock + AllocGlobal + Clone + Drop, P: Progress> Stores
-    for MailStores<R, P> {
+impl<
+    R: Net + Files<File = File> + Clock + AllocGlobal + Clone + Drop,
+    P: Progress + Waits + Copy,
+> Stores for MailStores<R, P> {
     fn has_state(&mut self, place: ChannelBox<'_>) -> Result<bool, StoreFault> {
         self.reach.has_state(place).map_err(lock_fault)
     }

@@ -1,7 +1,13 @@
-//! Which names of near mailboxes a server can have.
+//! Which names of mailboxes are synchronised.
 
+ghost use Rattle.std.specs.Prelude.{◌≡◌, IfOk, filter, map};
+ghost use Rattle.near_places.specs.Names.{has_own_part};
+ghost use Rattle.mail_stores.specs.Names.{called, synchronised};
+
+use config_words::inbox::is_inbox;
 use link_face::names::to_far;
 use mailcore::mailbox_name::MailboxName;
+use near_places::names::has_own_part;
 use std::alloc::{AllocError, Global};
 
 /// Whether a server can have a mailbox of this name, which is in modified UTF-7 near (RFC 3501, section 5.1.3): not where an `&` in it
@@ -12,4 +18,46 @@ pub(crate) fn is_servable(alloc: Global, name: &MailboxName) -> Result<bool, All
         return Ok(true);
     }
     Ok(to_far(alloc, name.as_bytes())?.is_some())
+}
+
+/// The names that a server lists.
+#[derive(Drop)]
+pub(crate) struct FarNames {
+    /// Those that a mailbox near can have. INBOX stands there so, however the server spells it.
+    pub(crate) synchronised: Vec<MailboxName>,
+    /// The others: a part of them is that of a folder or a file of a mailbox near.
+    pub(crate) skipped: Vec<MailboxName>,
+}
+
+impl FarNames {
+    /// These names. `AllocError`: memory ran out.
+    pub(crate) fn of(alloc: Global, names: Vec<MailboxName>) -> Result<Self, AllocError>
+        ensures synchronised { IfOk result (λ far. far.synchronised.items ≡ synchronised names.items) }
+        ensures skipped { IfOk result (λ far. far.skipped.items ≡ filter has_own_part names.items) }
+    {
+        let mut synchronised = Vec::new(alloc);
+        let mut skipped = Vec::new(alloc);
+        for name in names {
+            if has_own_part(name.as_str()) {
+                skipped.push(name)?;
+            } else {
+                synchronised.push(called(alloc, name)?)?;
+            }
+        }
+        Ok(FarNames {
+            synchronised,
+            skipped,
+        })
+    }
+}
+
+/// What a mailbox is called that a server lists under this name.
+fn called(alloc: Global, name: MailboxName) -> Result<MailboxName, AllocError>
+    ensures { IfOk result (λ own. own ≡ called name) }
+{
+    if is_inbox(name.as_str().as_bytes()) {
+        MailboxName::inbox(alloc)
+    } else {
+        Ok(name)
+    }
 }

@@ -2,6 +2,7 @@
 
 ghost use Rattle.std.specs.Prelude.{◌≡◌};
 
+use crate::waits::{Wait, Waits};
 use imap_link::link::{Link, LinkFault};
 use mailcore::copy_pieces::CopyPieces;
 use std::alloc::Global;
@@ -20,23 +21,25 @@ pub enum LinkEnd {
 /// Where it is noted how the last connection came to its end. None: it stands, or none was asked for.
 pub(crate) type NotedEnd = Rc<Cell<Option<LinkEnd>>>;
 
-/// A link that passes each call on, and notes how its connection came to its end. A new connection is noted anew.
+/// A link that passes each call on, and notes how its connection came to its end. A new connection is noted anew. It tells what the server
+/// is waited for before it is.
 #[derive(Drop)]
-pub struct NotedLink<L> {
+pub struct NotedLink<L, W> {
     link: L,
     end: NotedEnd,
+    waits: W,
 }
 
-impl<L: Link> NotedLink<L> {
-    /// This link, which notes there how its connection came to its end.
-    pub(crate) fn new(link: L, end: NotedEnd) -> Self
+impl<L: Link, W: Waits> NotedLink<L, W> {
+    /// This link, which notes there how its connection came to its end, and tells this one what the server is waited for.
+    pub(crate) fn new(link: L, end: NotedEnd, waits: W) -> Self
         ensures { result.link ≡ link }
     {
-        NotedLink { link, end }
+        NotedLink { link, end, waits }
     }
 }
 
-impl<L: Link> Link for NotedLink<L> {
+impl<L: Link, W: Waits> Link for NotedLink<L, W> {
     ghost honest = { λ noted. L.honest noted.link };
 
     ghost line = { λ noted. L.line noted.link };
@@ -48,6 +51,9 @@ impl<L: Link> Link for NotedLink<L> {
     ghost sound = { λ noted kept. L.sound noted.link kept };
 
     fn send(&mut self, bytes: &[u8]) -> Result<(), LinkFault> {
+        if let Some(wait) = Wait::behind(bytes) {
+            self.waits.wait(wait);
+        }
         let answer = self.link.send(bytes);
         if answer == Err(LinkFault::Stopped) {
             self.end.set(Some(LinkEnd::Ended));
@@ -72,10 +78,12 @@ impl<L: Link> Link for NotedLink<L> {
     }
 
     fn reconnect(&mut self) -> Result<(), LinkFault> {
+        self.waits.wait(Wait::Connection);
         let answer = self.link.reconnect();
         if answer == Err(LinkFault::Stopped) {
             self.end.set(Some(LinkEnd::Unreached));
         } else {
+            self.waits.wait(Wait::Greeting);
             self.end.set(None);
         }
         answer

@@ -1,17 +1,30 @@
-//! What is told beside faults: mailboxes that are left out, and what a server says to its users.
+//! What is told beside faults: mailboxes and files that are left out, and what a server says to its users.
+
+ghost use Rattle.std.specs.Prelude.{◌↔◌, All, IsTrue};
+ghost use Rattle.channels.specs.Asked.{joined_of};
+ghost use Rattle.mail_stores.specs.Notices.{IsFor};
 
 use crate::asked::{Asked, escaped};
+use channels::channel_box::ChannelStores;
 use channels::notice::Notice;
 use link_face::words::Words;
 use std::alloc::{AllocError, Global};
+use std::mem;
 
 /// What is to be told beside faults.
 #[derive(Drop)]
 pub(crate) struct Notices {
     alloc: Global,
+    /// What was noted since the last time that some were taken out.
     coming: Vec<Notice>,
+    /// What was not for the channel that took some out last.
+    waiting: Vec<Notice>,
+    /// The name of that channel.
+    channel: String,
     /// The mailboxes that were noted, in order: store, colon, name.
     skipped: Vec<String>,
+    /// The files that were noted, in order.
+    unnamed: Vec<String>,
 }
 
 impl Notices {
@@ -20,13 +33,43 @@ impl Notices {
         Notices {
             alloc,
             coming: Vec::new(alloc),
+            waiting: Vec::new(alloc),
+            channel: String::new(alloc),
             skipped: Vec::new(alloc),
+            unnamed: Vec::new(alloc),
         }
     }
 
-    /// Takes out what is to be told.
-    pub(crate) fn take(&mut self) -> Vec<Notice> {
-        std::mem::replace(&mut self.coming, Vec::new(self.alloc))
+    /// Takes out what is to be told over a channel. A mailbox that is left out, and that the channel could not choose, waits for one that
+    /// could.
+    pub(crate) fn take(&mut self, of: ChannelStores<'_>) -> Vec<Notice>
+        ensures { All (IsFor (joined_of of.entry)) result.items }
+    {
+        self.turn_to(of.channel.name.as_str());
+        let mut told = Vec::new(self.alloc);
+        for notice in mem::replace(&mut self.coming, Vec::new(self.alloc)) {
+            if is_for(of, &notice) {
+                let _ = told.push(notice);
+            } else {
+                let _ = self.waiting.push(notice);
+            }
+        }
+        told
+    }
+
+    /// What waits comes again, if the channel of this name is another one than that which took some out last.
+    fn turn_to(&mut self, channel: &str) {
+        if self.channel.as_str() == channel {
+            return;
+        }
+        self.channel = match String::from_str(self.alloc, channel) {
+            Ok(name) => name,
+            Err(AllocError) => String::new(self.alloc),
+        };
+        let waiting = mem::replace(&mut self.waiting, Vec::new(self.alloc));
+        for notice in mem::replace(&mut self.coming, waiting) {
+            let _ = self.coming.push(notice);
+        }
     }
 
     /// Notes the far mailboxes that are left out, and what the server says to its users.
@@ -51,16 +94,25 @@ impl Notices {
     fn try_skip(&mut self, store: &str, name: &str) -> Result<(), AllocError> {
         let alloc = self.alloc;
         let place = format!(in alloc; "{store}:{name}")?;
-        let Err(at) = self
-            .skipped
-            .binary_search_by(|noted| noted.as_str().cmp(place.as_str()))
-        else {
-            return Ok(());
-        };
-        let store = String::from_str(alloc, store)?;
-        let name = String::from_str(alloc, name)?;
-        self.skipped.insert(at, place)?;
-        self.coming.push(Notice::Skipped(store, name))?;
+        if add_once(&mut self.skipped, place)? {
+            let store = String::from_str(alloc, store)?;
+            let name = String::from_str(alloc, name)?;
+            self.coming.push(Notice::Skipped(store, name))?;
+        }
+        Ok(())
+    }
+
+    /// Notes near files that are left alone, since their names are no Maildir names, each once. Where memory is wanting some are not.
+    pub(crate) fn leave_alone(&mut self, paths: Vec<String>) {
+        for path in paths {
+            let _ = self.try_leave_alone(path);
+        }
+    }
+
+    fn try_leave_alone(&mut self, path: String) -> Result<(), AllocError> {
+        if add_once(&mut self.unnamed, path.clone()?)? {
+            self.coming.push(Notice::Unnamed(path))?;
+        }
         Ok(())
     }
 
@@ -68,5 +120,26 @@ impl Notices {
         let store = String::from_str(self.alloc, store)?;
         self.coming.push(Notice::Alert(store, text))?;
         Ok(())
+    }
+}
+
+/// Adds a text to texts in order, if it is not there, and tells whether it was not.
+fn add_once(texts: &mut Vec<String>, text: String) -> Result<bool, AllocError> {
+    match texts.binary_search_by(|other| other.as_str().cmp(text.as_str())) {
+        Ok(_) => Ok(false),
+        Err(at) => {
+            texts.insert(at, text)?;
+            Ok(true)
+        }
+    }
+}
+
+/// Whether a notice is for a channel.
+fn is_for(of: ChannelStores<'_>, notice: &Notice) -> bool
+    ensures { IsTrue result ↔ IsFor (joined_of of.entry) notice.now }
+{
+    match notice {
+        Notice::Skipped(store, name) => of.could_choose(store.as_str(), name.as_str()),
+        Notice::Unnamed(_) | Notice::Alert(..) => true,
     }
 }

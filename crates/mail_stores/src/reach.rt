@@ -4,6 +4,7 @@ use crate::account::account_of;
 use crate::guarded_work::GuardedSides;
 use crate::notes::Notes;
 use crate::server::{AskFault, RealLink, link_to, log_in};
+use crate::waits::Waits;
 use book::disk_shelf::{DiskShelf, name_of};
 use book::shelf;
 use channels::channel_box::ChannelBox;
@@ -13,9 +14,10 @@ use far_side::account::Account;
 use far_side::logged_in::LoggedIn;
 use guarded::near_look::NearLook;
 use maildir::disk_folder::DiskFolder;
-use near_places::boxes::{NearBoxes, near_boxes};
+use near_places::boxes::{NearBoxes, near_boxes, near_folder};
 use near_places::home::Home;
 use near_places::lock::LockFault;
+use near_places::names::has_own_part;
 use near_places::refusal::Refusal;
 use std::alloc::AllocError;
 use std::fs;
@@ -27,7 +29,12 @@ use std::rt::{Clock, Files};
 
 /// What is open of a mailbox at a server and of one in a folder, whose book lies in that folder too. A look into the folder says whether a
 /// run is to go on.
-pub(crate) type RealSides<R> = GuardedSides<RealLink<R>, DiskFolder<R>, DiskShelf<R>, NearLook<R>>;
+pub(crate) type RealSides<R, W> = GuardedSides<
+    RealLink<R, W>,
+    DiskFolder<R>,
+    DiskShelf<R>,
+    NearLook<R>,
+>;
 
 /// The near side of a mailbox: its folder, its book, and the look into it.
 #[derive(Drop)]
@@ -39,7 +46,7 @@ pub(crate) struct NearParts<R: Files<File = File> + AllocGlobal + Clone + Drop> 
 
 /// Where the mailboxes of a user are. Nothing of them is open.
 #[derive(Drop)]
-pub(crate) struct Reach<R: Net + Files<File = File> + AllocGlobal + Clone + Drop> {
+pub(crate) struct Reach<R: Net + Files<File = File> + AllocGlobal + Clone + Drop, W> {
     /// The system.
     pub(crate) rt: R,
     /// The home folder.
@@ -48,12 +55,17 @@ pub(crate) struct Reach<R: Net + Files<File = File> + AllocGlobal + Clone + Drop
     pub(crate) fresh: NonZeroU32,
     /// What is noted while servers and folders are asked.
     pub(crate) notes: Notes,
+    /// Who is told what servers are waited for.
+    pub(crate) waits: W,
 }
 
-impl<R: Net + Files<File = File> + Clock + AllocGlobal + Clone + Drop> Reach<R> {
+impl<R: Net + Files<File = File> + Clock + AllocGlobal + Clone + Drop, W: Waits + Copy> Reach<
+    R,
+    W,
+> {
     /// A new session at the server of a store.
-    pub(crate) fn log_in(&self, store: &ImapStore) -> Result<LoggedIn<RealLink<R>>, AskFault> {
-        log_in(&self.rt, store, &self.notes)
+    pub(crate) fn log_in(&self, store: &ImapStore) -> Result<LoggedIn<RealLink<R, W>>, AskFault> {
+        log_in(&self.rt, store, &self.notes, self.waits)
     }
 
     /// The mailboxes in the folders of a store.
@@ -61,11 +73,20 @@ impl<R: Net + Files<File = File> + Clock + AllocGlobal + Clone + Drop> Reach<R> 
         near_boxes(&self.rt, &self.home, store)
     }
 
-    /// Whether the folder of a near mailbox has the state of a former run.
+    /// Whether a former run has begun in the folder of a near mailbox: its state is there, or the journal that a first run leaves where it
+    /// was interrupted. A validity alone is none of these: nothing was copied then.
     pub(crate) fn has_state(&self, place: ChannelBox<'_>) -> Result<bool, LockFault> {
-        let alloc = self.rt.alloc();
         let folder = self.folder_of(place)?;
-        let name = name_of(shelf::File::State);
+        Ok(
+            self.has_file(folder.as_str(), shelf::File::State)?
+                || self.has_file(folder.as_str(), shelf::File::Journal)?,
+        )
+    }
+
+    /// Whether a file of a book is in a folder.
+    fn has_file(&self, folder: &str, file: shelf::File) -> Result<bool, LockFault> {
+        let alloc = self.rt.alloc();
+        let name = name_of(file);
         let path = format!(in alloc; "{folder}/{name}")?;
         match fs::symlink_metadata(&self.rt, path.as_str()) {
             Ok(_) => Ok(true),
@@ -88,15 +109,21 @@ impl<R: Net + Files<File = File> + Clock + AllocGlobal + Clone + Drop> Reach<R> 
         }
     }
 
-    /// The folder of the near side of a mailbox.
+    /// The folder of the near side of a mailbox. `Refused`: a part of the far name is that of a folder or a file of a mailbox near, or there
+    /// can be no near mailbox of its name (`near_folder`).
     pub(crate) fn folder_of(&self, place: ChannelBox<'_>) -> Result<String, LockFault> {
-        let alloc = self.rt.alloc();
-        Ok(self.home.folder_of(alloc, place.of.near_store, place.near)?)
+        if has_own_part(place.far.as_str()) {
+            let refusal = Refusal::cannot_open(self.rt.alloc(), place.far.as_str());
+            return Err(LockFault::Refused(refusal));
+        }
+        near_folder(&self.rt, &self.home, place.of.near_store, place.near).map_err(
+            LockFault::Refused,
+        )
     }
 
     /// A link to the server of a store, which is not connected yet.
-    pub(crate) fn link(&self, store: &ImapStore) -> Result<RealLink<R>, AllocError> {
-        link_to(&self.rt, store, &self.notes)
+    pub(crate) fn link(&self, store: &ImapStore) -> Result<RealLink<R, W>, AllocError> {
+        link_to(&self.rt, store, &self.notes, self.waits)
     }
 
     /// Who logs in for the far side of a mailbox.

@@ -5,6 +5,7 @@ ghost use Rattle.imap_client.specs.Requests.{IsWord};
 
 use crate::noted_link::NotedLink;
 use crate::notes::Notes;
+use crate::waits::Waits;
 use config::config::ImapStore;
 use far_side::logged_in::LoggedIn;
 use imap_client::tcp_link::TcpLink;
@@ -28,20 +29,22 @@ pub(crate) enum AskFault {
     Far(FarFault),
 }
 
-/// A link to a server over TCP, from which a client hears only replies that it reads, and of which it is known how a connection came to its end.
-pub(crate) type RealLink<R> = NotedLink<FaceLink<TcpLink<R>>>;
+/// A link to a server over TCP, from which a client hears only replies that it reads. How a connection came to its end is noted, and what
+/// the server is waited for is told before it is.
+pub(crate) type RealLink<R, W> = NotedLink<FaceLink<TcpLink<R>>, W>;
 
 /// A link to the server of a store, which is not connected yet.
-pub(crate) fn link_to<R: Net + AllocGlobal + Clone + Drop>(
+pub(crate) fn link_to<R: Net + AllocGlobal + Clone + Drop, W: Waits + Copy>(
     rt: &R,
     store: &ImapStore,
     notes: &Notes,
-) -> Result<RealLink<R>, AllocError> {
+    waits: W,
+) -> Result<RealLink<R, W>, AllocError> {
     let alloc = rt.alloc();
     let address = address_of(alloc, store)?;
     let (words, end) = (notes.words.clone()?, notes.end.clone()?);
     let link = TcpLink::noting(rt.clone()?, address.as_str(), notes.unreached.clone()?)?;
-    Ok(NotedLink::new(FaceLink::new(alloc, link, words), end))
+    Ok(NotedLink::new(FaceLink::new(alloc, link, words), end, waits))
 }
 
 /// The address of a store's server: its host and its port. An IPv6 address stands in brackets.
@@ -55,16 +58,17 @@ fn address_of(alloc: Global, store: &ImapStore) -> Result<String, AllocError> {
 }
 
 /// A session with the server of a store, whose user has logged in.
-pub(crate) fn log_in<R: Net + AllocGlobal + Clone + Drop>(
+pub(crate) fn log_in<R: Net + AllocGlobal + Clone + Drop, W: Waits + Copy>(
     rt: &R,
     store: &ImapStore,
     notes: &Notes,
-) -> Result<LoggedIn<RealLink<R>>, AskFault> {
+    waits: W,
+) -> Result<LoggedIn<RealLink<R, W>>, AskFault> {
     let (user, password) = (store.user.as_bytes(), store.pass.as_bytes());
     if !is_word(user) || !is_word(password) {
         return Err(AskFault::Unsendable);
     }
-    let Ok(link) = link_to(rt, store, notes) else {
+    let Ok(link) = link_to(rt, store, notes, waits) else {
         return Err(AskFault::Far(FarFault::NoMemory));
     };
     match LoggedIn::open(rt.alloc(), link, user, password) {

@@ -1,16 +1,31 @@
 //! How the faults of places and servers are told of stores.
 
+ghost use Rattle.std.specs.Prelude.{IfOk};
+ghost use Rattle.channels.specs.Boxes.{Rises};
+
+use channels::boxes::in_order;
 use channels::store_fault::{ListFault, ServerFault, StoreFault};
 use config::config::ImapStore;
 use far_side::told::told;
 use imap_link::fault::FarFault;
 use mailbox::fault::BoxFault;
 use mailbox::fault_number::FAR_REFUSED;
+use mailcore::mailbox_name::MailboxName;
 use mailcore::side::Side;
 use near_places::lock::LockFault;
 use near_places::refusal::Refusal;
 use runner::fault::RunFault;
-use std::alloc::Global;
+use std::alloc::{AllocError, Global};
+
+/// The names of a store's mailboxes, in their order.
+pub(crate) fn ordered(alloc: Global, names: &[MailboxName]) -> Result<Vec<MailboxName>, ListFault>
+    ensures { IfOk result (λ names. Rises names.items) }
+{
+    match in_order(alloc, names) {
+        Ok(names) => Ok(names),
+        Err(AllocError) => Err(ListFault::NoMemory),
+    }
+}
 
 /// A near store that is not listed.
 pub(crate) fn list_fault(refusal: Refusal) -> ListFault {

@@ -139,7 +139,7 @@ pub trait Mailbox {
         ensures call { Call {T = Unit {0}} (honest self.new) (ended self.old self.new) (Arrives side ours alone) Never
             (λ _. Turns (flags_removed uid (kept (keywords self.old) flags))) Nothing (seen self.old) (seen self.new) result };
 
-    /// Removes a message, if it is there. A far message is removed only if it is marked as deleted (RFC 9051, section 6.4.9).
+    /// Removes a message, if it is there and marked as deleted (RFC 9051, section 6.4.9).
     fn expunge(&mut self, uid: Uid) -> Result<(), BoxFault>
         requires whole { (seen self.old).is_broken ≡ false }
         requires open { is_open self.old ≡ true }
@@ -147,7 +147,7 @@ pub trait Mailbox {
         ensures keywords { keywords self.new ≡ keywords self.old }
         ensures open { is_open self.new ≡ true }
         ensures call { Call {T = Unit {0}} (honest self.new) (ended self.old self.new) (Arrives side ours alone) Never
-            (λ _. Turns (removed side uid)) Nothing (seen self.old) (seen self.new) result };
+            (λ _. Turns (removed uid)) Nothing (seen self.old) (seen self.new) result };
 
     /// Gives what waits its UIDs, as far as it was read: what others deliver behind that waits for the next time. At a server nothing waits.
     fn admit(&mut self) -> Result<(), BoxFault>

@@ -3,15 +3,23 @@
 use device::disk::Disk;
 use std::io;
 use std::rt::{Clock, Files};
-use std::time::{Duration, SystemTime};
+use std::time::{Duration, SystemTime, UNIX_EPOCH};
 
 /// How many milliseconds the time of a change may be behind the clock. A file system takes the time of the system's last tick, which
 /// is 10 milliseconds old at most.
 const GRAIN: u64 = 20;
 
-/// By how much the time of a change may be behind the clock.
-pub(crate) fn grain() -> Duration {
-    Duration::from_millis(GRAIN)
+/// The same where a file system keeps whole seconds alone.
+const SECOND_GRAIN: u64 = 1020;
+
+/// By how much the time of a change, which is noted so, may be behind the clock. A time of a whole second may be that of a file system
+/// that keeps no other.
+fn grain_of(time: SystemTime) -> Duration {
+    let is_whole = match time.duration_since(UNIX_EPOCH) {
+        Ok(since) => since.subsec_nanos() == 0,
+        Err(_) => false,
+    };
+    Duration::from_millis(if is_whole { SECOND_GRAIN } else { GRAIN })
 }
 
 /// When the names in `new` and those in `cur` changed last.
@@ -34,7 +42,12 @@ impl Changes {
     pub(crate) fn would_show_another(&self, from: SystemTime) -> bool {
         [self.new, self.cur]
             .iter()
-            .all(|time| apart(*time, from) > grain())
+            .all(|time| apart(*time, from) > grain_of(*time))
+    }
+
+    /// By how much these times may be behind the clock: from this time on a change gets another.
+    pub(crate) fn grain(&self) -> Duration {
+        grain_of(self.new).max(grain_of(self.cur))
     }
 }
 

@@ -1,18 +1,18 @@
 //! A Maildir folder on a disk.
 
-ghost use Rattle.std.specs.Prelude.{◌≡◌, ◌<◌, ◌^◌, IfOk};
+ghost use Rattle.std.specs.Prelude.{◌≡◌, ◌<◌, ◌^◌, ◌∷◌, [], IfOk};
 ghost use Rattle.device.specs.Conditions.{disk_at};
 
 use crate::disk_stop::{DiskStop, Part};
 use crate::folder::{FileName, Folder, Location, Origin, Place, Source};
 use crate::found_names::FoundNames;
-use crate::kinds::{is_file, is_something};
+use crate::kinds::{file_size, is_something};
 use crate::sure_names::sure_names;
 use device::DeviceFault;
 use device::disk::Disk;
 use device::trouble::Trouble;
 use mailcore::copy_pieces::CopyPieces;
-use std::alloc::AllocError;
+use std::alloc::{AllocError, Global};
 use std::cell::Cell;
 use std::fs::OpenFile;
 use std::io;
@@ -33,12 +33,16 @@ pub const COPY: &str = "tmp/mbsync.copy";
 /// How many bytes of a copy are gathered before they are written.
 const COPY_BUFFER: usize = 65_536;
 
+/// The most bytes that a message may have whose file is read: 64 MiB. A longer one is not fit to be copied, whatever it says.
+const READ_MAX: u64 = 67_108_864;
+
 /// A Maildir folder on a disk. A call stops where the system fails, and at a message whose name is no UTF-8.
 ///
 /// Messages are files and symlinks to files; what else stands in `new` and `cur` under a name without a UID is left alone, and so is a
 /// file that waits for a UID and can get none. Names with a UID are listed as they stand, since synchronisers alone give them, and
 /// to files. A call that finds something else under such a name stops; where it was to be read, it is left alone from then on. Names
-/// are listed so that other programs that rename files do not shorten the list. A copy and a meta file are written anew and
+/// are listed so that other programs that rename files do not shorten the list. A file of more than 64 MiB is never read: it stands as a
+/// single NUL, so it is not fit to be copied, bears no mark, and no part of it is copied. A copy and a meta file are written anew and
 /// synced before they get their names; the names themselves are synced by `sync` alone. Whether a disk gives back what was
 /// written no proof can say: so no contract promises what a real folder stores.
 #[derive(Drop)]
@@ -48,6 +52,8 @@ pub struct DiskFolder<R: Files + AllocGlobal + Clone + Drop> {
     has_odd: Cell<bool>,
     /// The files that were left out when the names were listed last, since they cannot get a UID.
     left_out: Vec<FileName>,
+    /// The files whose names were no Maildir names when the names were listed last.
+    unspelled: Vec<FileName>,
     /// Where a call, or the mailbox over the folder, stopped first since it was opened.
     stop: Option<DiskStop>,
 }
@@ -66,10 +72,12 @@ impl<R: Files + AllocGlobal + Clone + Drop> DiskFolder<R> {
         ensures { IfOk result (λ folder. folder ≡ disk_at path.now) }
     {
         let left_out = Vec::new(rt.alloc());
+        let unspelled = Vec::new(rt.alloc());
         Ok(DiskFolder {
             disk: Disk::new(rt, path)?,
             has_odd: Cell::new(false),
             left_out,
+            unspelled,
             stop: None,
         })
     }
@@ -102,6 +110,12 @@ impl<R: Files + AllocGlobal + Clone + Drop> DiskFolder<R> {
     /// The files that cannot get a UID, and were left out when the names were listed last.
     pub fn left_out(&self) -> &[FileName] {
         self.left_out.as_slice()
+    }
+
+    /// The files whose names were no Maildir names when the names were listed last: they are no messages, and are left alone. Names that
+    /// begin with a dot are not among them.
+    pub fn unspelled(&self) -> &[FileName] {
+        self.unspelled.as_slice()
     }
 
     // Writes a copy through one buffer, and syncs its bytes.
@@ -183,9 +197,11 @@ impl<R: Files + AllocGlobal + Clone + Drop> DiskFolder<R> {
         let FoundNames {
             names,
             left_out,
+            unspelled,
             unreached,
         } = found;
         self.left_out = left_out;
+        self.unspelled = unspelled;
         match unreached {
             Some(file) => {
                 self.note_stop(Part::Mail(file), Trouble::BadName);
@@ -202,12 +218,13 @@ impl<R: Files + AllocGlobal + Clone + Drop> DiskFolder<R> {
         }
     }
 
-    // The bytes of a message, or none where nothing stands. It is asked before it is opened, since a fifo would not answer. Where
-    // something else stands there, names are asked from then on.
+    // The bytes of a message, or none where nothing stands. It is asked before it is opened, since a fifo would not answer, and one that
+    // is too long is not read. Where something else stands there, names are asked from then on.
     fn mail_bytes(&self, part: &str) -> io::Result<Option<Vec<u8>>> {
-        match self.has_file(part) {
-            Ok(true) => self.disk.read(part),
-            Ok(false) => Ok(None),
+        match self.size(part) {
+            Ok(Some(size)) if size > READ_MAX => Ok(Some(unread(self.disk.rt().alloc())?)),
+            Ok(Some(_)) => self.disk.read(part),
+            Ok(None) => Ok(None),
             Err(error) => {
                 self.has_odd.set(true);
                 Err(error)
@@ -215,25 +232,25 @@ impl<R: Files + AllocGlobal + Clone + Drop> DiskFolder<R> {
         }
     }
 
-    // Whether a file or a symlink to a file stands in this part of the folder. `InvalidInput`: something else does.
-    fn has_file(&self, part: &str) -> io::Result<bool> {
+    // How many bytes the file or the symlink to a file has that stands in this part of the folder, or none where nothing stands.
+    // `InvalidInput`: something else does.
+    fn size(&self, part: &str) -> io::Result<Option<u64>> {
         let path = self.disk.at(part)?;
         let path = Path::new(path.as_str());
-        if is_file(self.disk.rt(), path)? {
-            return Ok(true);
+        if let Some(size) = file_size(self.disk.rt(), path)? {
+            return Ok(Some(size));
         }
         if is_something(self.disk.rt(), path)? {
             return Err(io::Error::from(ErrorKind::InvalidInput));
         }
-        Ok(false)
+        Ok(None)
     }
 
     // Looks whether a message stands there. `NotFound`: nothing does. `InvalidInput`: something else does.
     fn check_file(&self, part: &str) -> io::Result<()> {
-        if self.has_file(part)? {
-            Ok(())
-        } else {
-            Err(io::Error::from(ErrorKind::NotFound))
+        match self.size(part)? {
+            Some(_) => Ok(()),
+            None => Err(io::Error::from(ErrorKind::NotFound)),
         }
     }
 
@@ -362,4 +379,11 @@ impl<R: Files + Clock + AllocGlobal + Clone + Drop> Folder for DiskFolder<R> {
         self.stop = None;
         self.disk.reopen();
     }
+}
+
+/// What stands for the bytes of a message that is too long to be read: no message with a NUL is fit to be copied.
+fn unread(alloc: Global) -> Result<Vec<u8>, AllocError>
+    ensures { IfOk result (λ bytes. bytes.items ≡ 0 ∷ []) }
+{
+    vec![in alloc; 0; 1]
 }

@@ -23,6 +23,8 @@ pub(crate) struct FoundNames {
     pub(crate) names: Vec<FileName>,
     /// The names of files that wait for a UID and can get none: they are no UTF-8, or too long with one.
     pub(crate) left_out: Vec<FileName>,
+    /// The names of files that are no Maildir names, but for those that begin with a dot.
+    pub(crate) unspelled: Vec<FileName>,
     /// A message whose name is no UTF-8, so that it is out of reach.
     pub(crate) unreached: Option<FileName>,
 }
@@ -34,6 +36,8 @@ enum Taken {
     Listed,
     /// As that of a file that waits for a UID, and can get none.
     LeftOut,
+    /// As that of a file whose name is no Maildir name.
+    Unspelled,
     /// As that of a message that is out of reach.
     Unreached,
     /// As that of something else.
@@ -63,6 +67,7 @@ impl FoundNames {
         FoundNames {
             names: Vec::new(alloc),
             left_out: Vec::new(alloc),
+            unspelled: Vec::new(alloc),
             unreached: None,
         }
     }
@@ -71,6 +76,7 @@ impl FoundNames {
         match taken {
             Taken::Listed => self.names.push(file)?,
             Taken::LeftOut => self.left_out.push(file)?,
+            Taken::Unspelled => self.unspelled.push(file)?,
             Taken::Unreached => self.unreached = Some(file),
             Taken::Passed => {}
         }
@@ -85,31 +91,38 @@ fn how_taken<R: Files + AllocGlobal + Clone + Drop>(
     folder: &str,
     bytes: &[u8],
 ) -> io::Result<Taken> {
+    let taken = by_name(bytes);
     let has_uid = has_uid(bytes);
     let Ok(name) = str::from_utf8(bytes) else {
-        return Ok(how_taken_unread(has_uid, bytes));
+        return Ok(unread(has_uid, taken));
     };
-    if has_uid && !asks_all {
-        return Ok(Taken::Listed);
+    if matches!(taken, Taken::Passed) || has_uid && !asks_all {
+        return Ok(taken);
     }
     let path = format!(in disk.rt().alloc(); "{folder}{name}")?;
-    if !is_file(disk.rt(), Path::new(path.as_str()))? {
-        Ok(Taken::Passed)
-    } else if !has_uid && is_waiting(bytes) && bytes.len() > WAITING_MAX {
-        Ok(Taken::LeftOut)
+    if is_file(disk.rt(), Path::new(path.as_str()))? {
+        Ok(taken)
     } else {
-        Ok(Taken::Listed)
+        Ok(Taken::Passed)
     }
 }
 
-/// How a name that is no UTF-8 is taken. What it names cannot be asked.
-fn how_taken_unread(has_uid: bool, name: &[u8]) -> Taken {
-    if has_uid {
-        Taken::Unreached
-    } else if is_waiting(name) {
-        Taken::LeftOut
-    } else {
-        Taken::Passed
+/// How the name of a file is taken.
+fn by_name(name: &[u8]) -> Taken {
+    match read_name(name) {
+        Some(parts) if parts.uid.is_none() && name.len() > WAITING_MAX => Taken::LeftOut,
+        Some(_) => Taken::Listed,
+        None if name.first() == Some(&b'.') => Taken::Passed,
+        None => Taken::Unspelled,
+    }
+}
+
+/// How a name that is no UTF-8 is taken, which would be taken so otherwise. What it names cannot be asked.
+fn unread(has_uid: bool, taken: Taken) -> Taken {
+    match taken {
+        Taken::Listed if has_uid => Taken::Unreached,
+        Taken::Listed => Taken::LeftOut,
+        taken => taken,
     }
 }
 

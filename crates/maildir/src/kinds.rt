@@ -8,9 +8,14 @@ use std::{fs, io};
 
 /// Whether a file or a symlink to a file stands there. A symlink that leads nowhere is no file.
 pub(crate) fn is_file(rt: &impl Files, path: Path<'_>) -> io::Result<bool> {
+    Ok(file_size(rt, path)?.is_some())
+}
+
+/// How many bytes the file has that stands there, or to which a symlink leads that does. None: there is no file.
+pub(crate) fn file_size(rt: &impl Files, path: Path<'_>) -> io::Result<Option<u64>> {
     match found(fs::metadata(rt, path))? {
-        Some(found) => Ok(found.is_file()),
-        None => Ok(false),
+        Some(found) if found.is_file() => Ok(Some(found.len())),
+        _ => Ok(None),
     }
 }
 

@@ -118,7 +118,7 @@ fn split_uid(text: &[u8]) -> Option<(&[u8], Uid)>
 }
 
 /// The UID with this decimal text.
-fn read_uid(digits: &[u8]) -> Option<Uid>
+pub(crate) fn read_uid(digits: &[u8]) -> Option<Uid>
     ensures { result ≡ uid_of digits.now }
 {
     Uid::new(read_u32(digits, u32::MAX)?)

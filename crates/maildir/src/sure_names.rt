@@ -1,16 +1,18 @@
 //! The names in a Maildir folder of a disk, read so that no other program that renames files shortens them.
 //!
 //! A folder is read in pieces, and a file that gets another name between two of them, as where a mail reader marks its message as seen,
-//! may be read under neither name. So the times at which the names changed last are taken before and behind. Where they are the
-//! same, and older than the disk's notion of time is fine, nothing was renamed meanwhile.
+//! may be read under neither name. So the times at which the names changed last are taken before and after. Where they are the
+//! same, and older than the disk's notion of time is fine, nothing was renamed meanwhile. A disk whose times are whole seconds costs one
+//! reading more, a second later.
 
-use crate::changes::{Changes, grain, now};
+use crate::changes::{Changes, now};
 use crate::folder::FileName;
 use crate::found_names::FoundNames;
 use device::disk::Disk;
 use std::alloc::Global;
 use std::io::ErrorKind;
 use std::rt::{Clock, Files};
+use std::time::Duration;
 use std::{io, thread};
 use texts::cut::cut;
 
@@ -28,14 +30,18 @@ pub(crate) fn sure_names<R: Files + Clock + AllocGlobal + Clone + Drop>(
     let alloc = disk.rt().alloc();
     let mut shown = Vec::new(alloc);
     for _ in 0..READINGS {
-        let Reading { found, is_sure } = Reading::make(disk, asks_all)?;
+        let Reading {
+            found,
+            is_sure,
+            grain,
+        } = Reading::make(disk, asks_all)?;
         if is_sure {
             if are_all_among(alloc, &shown, &found.names)? {
                 return Ok(found);
             }
             shown.clear();
         } else {
-            thread::sleep(disk.rt(), grain());
+            thread::sleep(disk.rt(), grain);
         }
         let FoundNames { mut names, .. } = found;
         shown.append(&mut names)?;
@@ -49,6 +55,8 @@ struct Reading {
     found: FoundNames,
     /// Whether no name changed meanwhile.
     is_sure: bool,
+    /// How long to wait until a change shows another time.
+    grain: Duration,
 }
 
 impl Reading {
@@ -59,8 +67,12 @@ impl Reading {
         let begun = now(disk.rt())?;
         let before = Changes::of(disk)?;
         let found = FoundNames::read(disk, asks_all)?;
-        let is_sure = before.would_show_another(begun) && before == Changes::of(disk)?;
-        Ok(Reading { found, is_sure })
+        let after = Changes::of(disk)?;
+        Ok(Reading {
+            found,
+            is_sure: before.would_show_another(begun) && before == after,
+            grain: after.grain(),
+        })
     }
 }
 

@@ -8,13 +8,14 @@ use Rattle.mailcore.specs.declared.listing.Listing.{Listing}
 use Rattle.mailcore.specs.declared.mailbox.Message.{Message}
 use Rattle.mailcore.specs.declared.side.Side.{Side}
 use Rattle.mailcore.specs.declared.side.Side.TheVariants as side
+use Rattle.mailcore.specs.FlagSet.{DELETED, has}
 use Rattle.mailcore.specs.KeywordNames.{IsWithin, kept}
 use Rattle.mailcore.specs.Mailboxes.{Mailbox, all_admitted}
 use Rattle.mailcore.specs.Operations.{added, flags_added, flags_removed, with_flags}
 use Rattle.mailcore.specs.Stores.{Store, Waiting, numbered}
 use Rattle.mailcore.proofs.KnownFlags.{kept-within, minus-within, union-within}
 use Rattle.mailbox.specs.declared.fault.BoxFault.{BoxFault}
-use Rattle.mailbox.specs.Operations.{ListsWithin, may_go, removed}
+use Rattle.mailbox.specs.Operations.{ListsWithin, removed}
 use Rattle.mem_mailbox.specs.declared.mem_store.MemStore.{MemStore}
 use Rattle.mem_mailbox.specs.BoxConditions.{Counts, Ends}
 use Rattle.mem_mailbox.specs.Listings.{ShowsIn, item_in}
@@ -56,8 +57,8 @@ module _ (keywords : List Keyword) where
   pub copy_within : (uid flags : ℕ) (bytes : List ℕ) (s : Store) → AreWithin keywords s.messages → AreWithin keywords (added uid (kept keywords flags) bytes s).messages
   copy_within uid flags bytes s h = All-push Has s.messages _ h (kept-within keywords flags)
 
-  pub left_within : (of : Side) (uid : ℕ) (s : Store) → AreWithin keywords s.messages → AreWithin keywords (removed of uid s).messages
-  left_within of uid s h = All-filter (λ (m : Message). not (m.uid == uid && may_go of m)) Has s.messages h
+  pub left_within : (uid : ℕ) (s : Store) → AreWithin keywords s.messages → AreWithin keywords (removed uid s).messages
+  left_within uid s h = All-filter (λ (m : Message). not (m.uid == uid && has m.flags DELETED)) Has s.messages h
 
   -- ---- what is listed
 

@@ -253,7 +253,7 @@ impl<K: Kind + Drop> Mailbox for MemMailbox<K> {
 
     fn expunge(&mut self, uid: Uid) -> Result<(), BoxFault> {
         let stops = self.condition.begin(BoxCall::Expunge)?;
-        self.store.expunge(K::side(), uid);
+        self.store.expunge(uid);
         self.condition.end(stops, ())
     }
 

@@ -3,11 +3,10 @@
 ghost use Rattle.std.specs.Prelude.{◌≡◌, ◌<◌, ◌≤◌, ◌+◌, ◌^◌, ◌==◌, ◌&&◌, true, false, filter, find, map, not, IfOk, OnOk, OnErr, MatchOption};
 ghost use Rattle.std.specs.Option.{option_map};
 ghost use Rattle.mailcore.specs.Content.{mark_of};
-ghost use Rattle.mailcore.specs.FlagSet.{minus, union};
+ghost use Rattle.mailcore.specs.FlagSet.{DELETED, has, minus, union};
 ghost use Rattle.mailcore.specs.Listed.{AreBelow};
 ghost use Rattle.mailcore.specs.Operations.{is_mark, marked_among, with_flags};
 ghost use Rattle.mailcore.specs.Spared.{spares};
-ghost use Rattle.mailbox.specs.Operations.{may_go};
 ghost use Rattle.mem_mailbox.specs.Listings.{item_in};
 ghost use Rattle.mem_mailbox.specs.Named.{named_message};
 
@@ -168,12 +167,12 @@ impl MemStore {
         self.is_synced = false;
     }
 
-    /// Removes a message, if it is there; from a far mailbox only if it is marked as deleted.
-    pub(crate) fn expunge(&mut self, side: Side, uid: Uid)
-        ensures now { store_of self.new ≡ removed side uid (store_of self.old) }
+    /// Removes a message, if it is there and marked as deleted.
+    pub(crate) fn expunge(&mut self, uid: Uid)
+        ensures now { store_of self.new ≡ removed uid (store_of self.old) }
         ensures unsynced { self.new.is_synced ≡ false }
     {
-        expunge(&mut self.messages, side, uid);
+        expunge(&mut self.messages, uid);
         self.is_synced = false;
     }
 
@@ -257,21 +256,11 @@ fn remove_flags_of(message: &mut Message, uid: Uid, flags: Flags)
     }
 }
 
-/// Removes a message, if it is there and may go.
-fn expunge(messages: &mut Vec<Message>, side: Side, uid: Uid)
-    ensures { messages.new.items ≡ filter (λ m. not (m.uid == uid && may_go side m)) messages.old.items }
+/// Removes a message, if it is there and marked as deleted.
+fn expunge(messages: &mut Vec<Message>, uid: Uid)
+    ensures { messages.new.items ≡ filter (λ m. not (m.uid == uid && has m.flags DELETED)) messages.old.items }
 {
-    messages.retain(|message| !(message.uid == uid && may_go(side, message)));
-}
-
-/// Whether a message of this side can be removed with its flags.
-fn may_go(side: Side, message: &Message) -> bool
-    ensures { result ≡ may_go side message.now }
-{
-    match side {
-        Side::Far => message.flags.has(Flag::Deleted),
-        Side::Near => true,
-    }
+    messages.retain(|message| !(message.uid == uid && message.flags.has(Flag::Deleted)));
 }
 
 /// Whether a message bears a mark.

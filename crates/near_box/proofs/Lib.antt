@@ -3,6 +3,7 @@ pub mod AdmitLemmas
 pub mod AppendLemmas
 pub mod ArrivedLemmas
 pub mod CallLemmas
+pub mod DeletedLemmas
 pub mod ExpungeLemmas
 pub mod FlagChangeLemmas
 pub mod GainedLemmas

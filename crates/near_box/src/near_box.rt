@@ -6,7 +6,7 @@ ghost use Rattle.near_box.specs.declared.survey.Entry.{Entry};
 ghost use Rattle.device.specs.Calls.{Nothing};
 ghost use Rattle.std.specs.Int.NonZero.{non_zero_u32_get};
 ghost use Rattle.std.specs.Option.{option_map};
-ghost use Rattle.mailcore.specs.FlagSet.{union, minus};
+ghost use Rattle.mailcore.specs.FlagSet.{DELETED, has, union, minus};
 ghost use Rattle.mailcore.specs.KeywordNames.{kept};
 ghost use Rattle.mailcore.specs.Operations.{Shows, ShowsSparing, bytes_of, expunged, flagged, flags_added, flags_removed, marked_from};
 ghost use Rattle.mailcore.specs.CopyPieces.{text_left};
@@ -24,7 +24,9 @@ ghost use Rattle.near_box.specs.Surveys.{Surveys, Extends, entries_from, entry_a
 ghost use Rattle.std.proofs.Props.{props};
 
 use crate::flag_change::FlagChange;
-use crate::near_calls::{admit_file, copy_name, flags_of, location, place_of, room_for, set_name};
+use crate::near_calls::{
+    admit_file, copy_name, flags_of, is_deleted, location, place_of, room_for, set_name,
+};
 use crate::near_fault::NearFault;
 use crate::reading::{find_mark, find_message, listed};
 use crate::survey::{Entry, Survey, survey_of};
@@ -232,6 +234,17 @@ impl<F: Folder> NearBox<F> {
         self.set_flags(i, flags)?;
         self.is_ready = true;
         Ok(())
+    }
+
+    /// Whether a message is there and marked as deleted, by the name of its file as it was surveyed, or as the box has renamed it since. The
+    /// folder is not called.
+    pub fn is_deleted(&self, uid: Uid) -> bool
+        ensures marked { F.is_honest ≡ true → self.now.is_ready ≡ true
+            → All (λ m. m.uid ≡ uid → has m.flags DELETED ≡ result) (mailbox_of self.now).store.messages }
+        ensures missing { F.is_honest ≡ true → self.now.is_ready ≡ true → All (λ m. m.uid ≢ uid) (mailbox_of self.now).store.messages
+            → result ≡ false }
+    {
+        is_deleted(&self.survey.entries, uid, &self.keywords)
     }
 
     /// Removes messages: one `remove` for each that is there.

@@ -1,8 +1,9 @@
 //! What calls of the near mailbox do to its folder, name by name.
 
-ghost use Rattle.std.specs.Prelude.{◌≡◌, ◌≢◌, ◌<◌, ◌+◌, ◌^◌, true, None, All, length, IfSome, IfOk, SomeIff};
+ghost use Rattle.std.specs.Prelude.{◌≡◌, ◌≢◌, ◌<◌, ◌+◌, ◌^◌, true, false, None, All, length, IfSome, IfOk, SomeIff};
 ghost use Rattle.std.specs.List.{HoldsAt};
 ghost use Rattle.device.specs.Calls.{Nothing};
+ghost use Rattle.mailcore.specs.FlagSet.{DELETED, has};
 ghost use Rattle.near_box.specs.Entries.{AreRising};
 ghost use Rattle.maildir.specs.Folders.{text_of, name_at, renamed_file};
 ghost use Rattle.maildir.specs.FlaggedNames.{flags_by_name, letters_by_name};
@@ -11,7 +12,7 @@ ghost use Rattle.near_box.specs.NearCalls.{Part};
 
 use crate::near_fault::NearFault;
 use crate::survey::Entry;
-use mailcore::flags::Flags;
+use mailcore::flags::{Flag, Flags};
 use mailcore::keywords::Keywords;
 use mailcore::uid::Uid;
 use maildir::folder::{FileName, Folder, Location, Origin, Place};
@@ -56,6 +57,18 @@ pub fn flags_of(entry: &Entry, keywords: &Keywords) -> Flags
     ensures { result ≡ flags_by_name keywords.now entry.now.name }
 {
     flags_in(letters_of(entry)).kept(keywords)
+}
+
+/// Whether a message is there and marked as deleted.
+pub fn is_deleted(entries: &[Entry], uid: Uid, keywords: &Keywords) -> bool
+    ensures marked { AreRising entries.now
+        → All (λ entry. entry.uid ≡ uid → has (flags_by_name keywords.now entry.name) DELETED ≡ result) entries.now }
+    ensures missing { All (λ entry. entry.uid ≢ uid) entries.now → result ≡ false }
+{
+    match place_of(entries, uid) {
+        Some(i) => flags_of(&entries[i], keywords).has(Flag::Deleted),
+        None => false,
+    }
 }
 
 /// The letters in the name of a message's file.

@@ -5,5 +5,6 @@ pub mod boxes;
 pub mod fresh;
 pub mod home;
 pub mod lock;
+pub mod names;
 pub mod refusal;
 mod tree;

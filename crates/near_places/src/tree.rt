@@ -1,7 +1,12 @@
 //! The mailboxes under a folder of a disk.
 
-use crate::home::INBOX;
+ghost use Rattle.std.specs.Prelude.{◌≡◌, ◌&&◌, not};
+ghost use Rattle.mailcore.specs.MailboxNames.{is_mailbox_name};
+ghost use Rattle.near_places.specs.Names.{has_own_part};
+
+use crate::names::has_own_part;
 use crate::refusal::Refusal;
+use config_words::inbox::is_inbox;
 use device::disk::Disk;
 use mailcore::mailbox_name::is_mailbox_name;
 use std::alloc::AllocError;
@@ -41,23 +46,25 @@ fn has_parts<R: Files + AllocGlobal + Clone + Drop>(rt: &R, folder: &str) -> io:
 /// The names of the mailboxes under a folder: the way from it to theirs.
 #[derive(Drop)]
 pub(crate) struct FolderNames {
-    /// Those within the limits.
+    /// Those that a mailbox below the path of a store can have.
     pub(crate) within: Vec<String>,
-    /// Those beyond them, escaped.
+    /// The others, escaped.
     pub(crate) beyond: Vec<String>,
 }
 
 /// The names of the mailboxes under a folder whose path ends with a slash. None where it is not there.
 ///
-/// INBOX is left out, which stands elsewhere, and so is what stands below a name of more than 255 bytes. A symlink is what it leads to;
-/// one that leads to a folder above itself is left out. `CannotOpen`: a folder cannot be read; one whose name is beyond the limits comes
-/// to nothing then.
+/// The folder of Inbox is no mailbox under the root, whatever way leads to it; mailboxes below it are. What stands below a name of more
+/// than 255 bytes is left out. A symlink is what it leads to; one that leads to a folder above itself is left out. `CannotOpen`: a folder
+/// cannot be read; one whose name is beyond the limits comes to nothing then.
 pub(crate) fn boxes_under<'a, R: Files + AllocGlobal + Clone + Drop>(
     rt: &'a R,
     root: &'a str,
+    inbox: &str,
 ) -> Result<FolderNames, Refusal> {
     let mut walk = Walk::new(rt, root);
     walk.begin()?;
+    walk.inbox = folder_at(rt, inbox)?;
     for _ in 0..u64::MAX {
         let Some(folder) = walk.ahead.pop() else {
             break;
@@ -98,6 +105,8 @@ struct Folder {
 struct Walk<'a, R: Files + AllocGlobal + Clone + Drop> {
     rt: &'a R,
     root: &'a str,
+    /// The folder of Inbox, if it is there.
+    inbox: Option<Identity>,
     ahead: Vec<Folder>,
     names: FolderNames,
 }
@@ -108,6 +117,7 @@ impl<'a, R: Files + AllocGlobal + Clone + Drop> Walk<'a, R> {
         Walk {
             rt,
             root,
+            inbox: None,
             ahead: Vec::new(alloc),
             names: FolderNames {
                 within: Vec::new(alloc),
@@ -119,7 +129,7 @@ impl<'a, R: Files + AllocGlobal + Clone + Drop> Walk<'a, R> {
     /// Keeps the root to be read, if it is there.
     fn begin(&mut self) -> Result<(), Refusal> {
         let alloc = self.rt.alloc();
-        if let Some(identity) = self.folder_at(self.root)? {
+        if let Some(identity) = folder_at(self.rt, self.root)? {
             let mut above = Vec::new(alloc);
             above.push(identity)?;
             let way = String::new(alloc);
@@ -159,16 +169,19 @@ impl<'a, R: Files + AllocGlobal + Clone + Drop> Walk<'a, R> {
         }
         let mut name = folder.way.clone()?;
         name.push_str(part)?;
-        let is_within = is_mailbox_name(name.as_bytes());
+        let is_within = is_within(name.as_str());
         unless_beyond(is_within, self.visit(folder, name, is_within))
     }
 
     /// Looks at what stands at the end of this way, below a folder.
     fn visit(&mut self, above: &Folder, name: String, is_within: bool) -> Result<(), Refusal> {
         let path = self.path_of(name.as_str())?;
-        match self.folder_at(path.as_str())? {
+        match folder_at(self.rt, path.as_str())? {
             Some(identity) if !above.above.contains(&identity) => {
                 self.keep(above, name.as_str(), identity, is_within)?;
+                if self.inbox == Some(identity) {
+                    return Ok(());
+                }
                 self.note(name, is_within, path.as_str())
             }
             _ => Ok(()),
@@ -198,12 +211,12 @@ impl<'a, R: Files + AllocGlobal + Clone + Drop> Walk<'a, R> {
         Ok(())
     }
 
-    /// Notes the name of a folder, if it is a mailbox.
+    /// Notes the name of a folder, if it is a mailbox. Where its name means INBOX, it is left out: INBOX stands elsewhere.
     fn note(&mut self, name: String, is_within: bool, path: &str) -> Result<(), Refusal> {
-        if name.as_str() == INBOX || !is_mailbox(self.rt, path)? {
+        if !is_mailbox(self.rt, path)? {
             return Ok(());
         }
-        if is_within {
+        if is_within && !is_inbox(name.as_bytes()) {
             self.names.within.push(name)?;
         } else {
             let mut text = String::new(self.rt.alloc());
@@ -219,18 +232,37 @@ impl<'a, R: Files + AllocGlobal + Clone + Drop> Walk<'a, R> {
         path.push_str(way)?;
         Ok(path)
     }
+}
 
-    /// Which folder stands there, if it is one.
-    fn folder_at(&self, path: &str) -> Result<Option<Identity>, Refusal> {
-        match fs::metadata(self.rt, path) {
-            Ok(found) if found.is_dir() => Ok(Some(Identity {
-                device: found.dev(),
-                number: found.ino(),
-            })),
-            Ok(_) => Ok(None),
-            Err(error) if is_nothing(error.kind()) => Ok(None),
-            Err(error) => Err(Refusal::at(self.rt.alloc(), path, &error)),
-        }
+/// Whether a mailbox below the path of a store can have this name.
+fn is_within(name: &str) -> bool
+    ensures { result ≡ (is_mailbox_name name.now && not (has_own_part name.now)) }
+{
+    is_mailbox_name(name.as_bytes()) && !has_own_part(name)
+}
+
+/// Whether the same folder stands at both paths.
+pub(crate) fn is_same_folder<R: Files + AllocGlobal>(
+    rt: &R,
+    path: &str,
+    other: &str,
+) -> Result<bool, Refusal> {
+    match folder_at(rt, path)? {
+        Some(identity) => Ok(folder_at(rt, other)? == Some(identity)),
+        None => Ok(false),
+    }
+}
+
+/// Which folder stands there, if it is one.
+fn folder_at<R: Files + AllocGlobal>(rt: &R, path: &str) -> Result<Option<Identity>, Refusal> {
+    match fs::metadata(rt, path) {
+        Ok(found) if found.is_dir() => Ok(Some(Identity {
+            device: found.dev(),
+            number: found.ino(),
+        })),
+        Ok(_) => Ok(None),
+        Err(error) if is_nothing(error.kind()) => Ok(None),
+        Err(error) => Err(Refusal::at(rt.alloc(), path, &error)),
     }
 }
 

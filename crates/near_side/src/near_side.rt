@@ -164,7 +164,11 @@ impl<F: Folder + Drop> Mailbox for NearSide<F> {
     }
 
     fn expunge(&mut self, uid: Uid) -> Result<(), BoxFault> {
-        told_by(self.near.expunge(&[uid]))
+        if self.near.is_deleted(uid) {
+            told_by(self.near.expunge(&[uid]))
+        } else {
+            Ok(())
+        }
     }
 
     fn admit(&mut self) -> Result<(), BoxFault>

@@ -9,11 +9,12 @@ use Rattle.device.specs.Calls.{Acts, Between, Effect, Leaves}
 use Rattle.mailcore.specs.declared.mailbox.Message.{Message}
 use Rattle.mailcore.specs.declared.side.Side.{Side}
 use Rattle.mailcore.specs.declared.side.Side.TheVariants.{Far, Near}
+use Rattle.mailcore.specs.FlagSet.{DELETED, has}
 use Rattle.mailcore.specs.Mailboxes.{Mailbox}
 use Rattle.mailcore.specs.Operations.{flagged, flags_added, flags_removed, with_flags, with_messages}
 use Rattle.mailcore.specs.Stores.{Store, Waiting, numbered}
 use Rattle.rules.proofs.Walks.{All-from_contains, Contains-cases, Contains-filter, Contains-first, Contains-map, Contains-none, Contains-rest}
-use Rattle.mailbox.specs.Operations.{IsReading, may_go, read_admitted, removed}
+use Rattle.mailbox.specs.Operations.{IsReading, read_admitted, removed}
 use Rattle.outside.specs.Arrivals.{Arrives}
 use Rattle.outside.specs.BoxCalls.{Names, Turns, with_copy}
 use Rattle.outside.specs.Devices.{Device, Named, box, naming, on_box}
@@ -93,10 +94,10 @@ flags_change_one uid change s m other c = Contains-map (with_flags change uid) s
     by_test true e = absurd (other (eqb-true m.uid uid e))
     by_test false e = rw e refl
 
-pub removal_changes_one : (side : Side) (uid : ℕ) → ChangesOne uid (removed side uid)
-removal_changes_one side uid s m other c = Contains-filter (λ x. not (x.uid == uid && may_go side x)) s.messages m c (by_test (m.uid == uid) refl)
+pub removal_changes_one : (uid : ℕ) → ChangesOne uid (removed uid)
+removal_changes_one uid s m other c = Contains-filter (λ x. not (x.uid == uid && has x.flags DELETED)) s.messages m c (by_test (m.uid == uid) refl)
   where
-    by_test : (b : Bool) → (m.uid == uid) ≡ b → not (m.uid == uid && may_go side m) ≡ true
+    by_test : (b : Bool) → (m.uid == uid) ≡ b → not (m.uid == uid && has m.flags DELETED) ≡ true
     by_test true e = absurd (other (eqb-true m.uid uid e))
     by_test false e = rw e refl
 

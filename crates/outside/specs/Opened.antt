@@ -1,5 +1,5 @@
 -- What of an outside has been opened, and what its calls ask of that.
-use Rattle.std.specs.Prelude.{◌≡◌, ℕ, Bool, true, Option, None, Some}
+use Rattle.std.specs.Prelude.{◌≡◌, ℕ, Bool, true, List, Option, None, Some}
 use Rattle.mailcore.specs.declared.side.Side.{Side}
 use Rattle.mailcore.specs.declared.side.Side.TheVariants.{Far, Near}
 use Rattle.rules.specs.declared.plan.Plan.{Plan}
@@ -11,6 +11,7 @@ use Rattle.book.specs.declared.book.Pending.TheVariants.{Missing, Useless, Plann
 use Rattle.book.specs.Books.{Fits, Holds, IsPlanned, IsSound}
 use Rattle.book.specs.BookLogs.{MayBegin, MayLog}
 use Rattle.book.specs.Commits.{IsFinished, Makes}
+use Rattle.book.specs.GivingUp.{LeftOf}
 use Rattle.outside.specs.Devices.{Device}
 
 -- what was read of the shelf, and which boxes are open
@@ -71,6 +72,18 @@ AreCommitted None new = ⊥
 AreCommitted (Some old) None = ⊥
 AreCommitted (Some old) (Some new) = IsCommitted old new
 
+-- the state that is left of the plan, and no journal
+pub record IsGivenUp (lost : List ℕ) (old new : Opened) : Type 0 where
+  pub left : LeftOf lost old.pending old.state new.state
+  pub pending : new.pending ≡ Missing
+  pub far : new.far ≡ old.far
+  pub near : new.near ≡ old.near
+
+abbrev pub AreGivenUp : (lost : List ℕ) → (old new : Option Opened) → Type 0
+AreGivenUp lost None new = ⊥
+AreGivenUp lost (Some old) None = ⊥
+AreGivenUp lost (Some old) (Some new) = IsGivenUp lost old new
+
 -- ---- what calls ask
 
 -- the shelf was read
@@ -100,3 +113,8 @@ TakesLog (Some o) step logged = MayLog o.pending step logged
 abbrev pub TakesCommit : Option Opened → Type 0
 TakesCommit None = ⊥
 TakesCommit (Some o) = IsFinished o.pending
+
+-- a plan is pending: it may be given up
+abbrev pub TakesGivingUp : Option Opened → Type 0
+TakesGivingUp None = ⊥
+TakesGivingUp (Some o) = IsPlanned o.pending

@@ -39,10 +39,12 @@ pub trait Outside {
     ghost use Rattle.book.specs.Books.{IsSound, mended, torn, Turns as TurnsJournal, TurnsHalf};
     ghost use Rattle.book.specs.BookLogs.{begun, as_done, logged_more};
     ghost use Rattle.book.specs.Commits.{CommitsHalf, CommitsTo};
+    ghost use Rattle.book.specs.GivingUp.{GivesUpHalf, GivesUpTo};
+    ghost use Rattle.std.specs.List.Sorted.{IsNonDecreasing};
     ghost use Rattle.outside.specs.Arrivals.{Arrives};
     ghost use Rattle.outside.specs.Devices.{box};
     ghost use Rattle.outside.specs.Calls.{Call, Changes, FromBook, FromBox, FromShelf, LeavesBy, Reads, Seen, Writes, opened_again, stopped};
-    ghost use Rattle.outside.specs.Opened.{IsBook, IsHeld, IsOpen, IsRead, Opened, AreCommitted, TakesCommit, TakesDiscard, TakesLog, TakesPlan, journal_of, state_of, turned, with_box};
+    ghost use Rattle.outside.specs.Opened.{IsBook, IsHeld, IsOpen, IsRead, Opened, AreCommitted, AreGivenUp, TakesCommit, TakesDiscard, TakesGivingUp, TakesLog, TakesPlan, journal_of, state_of, turned, with_box};
     ghost use Rattle.outside.specs.BookCalls.{FromLog, LeavesUnread, OfBook, ReadsBook};
     ghost use Rattle.mailbox.specs.Operations.{HasNumbers, ListsWithin, removed};
     ghost use Rattle.outside.specs.BoxCalls.{Admits, AdmitsPart, Carry, ListsFar, ListsNear, Names, SetsAside, Turns, copies_made};
@@ -145,6 +147,18 @@ pub trait Outside {
         ensures call { Writes (honest self.new) (Arrives ours alone) FromBook (OfBook CommitsTo (opened self.old))
             (OfBook CommitsHalf (opened self.old)) (seen self.old) (seen self.new) result };
 
+    /// Puts the state that is left of the pending plan in place of the old one, with an entry for each copy that is logged, and then
+    /// removes the journal. An entry whose far message is lost, of which these are the UIDs, keeps its near side alone.
+    fn give_up(&mut self, lost: &[u32]) -> Result<(), OutsideFault>
+        requires takes { TakesGivingUp (opened self.old) }
+        requires rising { IsNonDecreasing lost.now }
+        ensures was_honest { honest self.new → honest self.old }
+        ensures keywords { keywords self.new ≡ keywords self.old }
+        ensures opened { OnOk result (AreGivenUp lost.now (opened self.old) (opened self.new)) }
+        ensures held { result ≡ Ok tt → honest self.new → IsHeld (opened self.new) (seen self.new).device }
+        ensures call { Writes (honest self.new) (Arrives ours alone) FromBook (OfBook (GivesUpTo lost.now) (opened self.old))
+            (OfBook (GivesUpHalf lost.now) (opened self.old)) (seen self.old) (seen self.new) result };
+
     /// Selects the far mailbox, or opens the near one, and tells its UIDVALIDITY.
     fn open_box(&mut self, side: Side) -> Result<u32, OutsideFault>
         ensures was_honest { honest self.new → honest self.old }
@@ -228,13 +242,14 @@ pub trait Outside {
         ensures call { Changes {T = Unit {0}} (honest self.new) (Arrives ours alone)
             (λ _. Turns side uid (flags_removed uid (kept (keywords self.old) flags))) (Names side uid) (seen self.old) (seen self.new) result };
 
-    /// Removes a message, if it is there. A far message is removed only if it is marked as deleted (RFC 9051, section 6.4.9).
+    /// Removes a message, if it is there and marked as deleted (RFC 9051, section 6.4.9).
     fn expunge(&mut self, side: Side, uid: Uid) -> Result<(), OutsideFault>
+        requires far_open { IsOpen Side.Far (opened self.old) }
         requires is_open { IsOpen side (opened self.old) }
         ensures was_honest { honest self.new → honest self.old }
         ensures keywords { keywords self.new ≡ keywords self.old }
         ensures opened { opened self.new ≡ opened self.old }
-        ensures call { Changes {T = Unit {0}} (honest self.new) (Arrives ours alone) (λ _. Turns side uid (removed side uid))
+        ensures call { Changes {T = Unit {0}} (honest self.new) (Arrives ours alone) (λ _. Turns side uid (removed uid))
             (Names side uid) (seen self.old) (seen self.new) result };
 
     /// Stops as a call does that stops before it has an effect: whoever calls it does not let the run go on.

@@ -29,7 +29,7 @@ use Rattle.run_pair.specs.PartCalls.{LeavesSome, Part, PartChanges}
 use Rattle.run_pair.specs.Stops.{Standing, StopsSo}
 use Rattle.run_pair.specs.declared.book_part.BookPart.{BookPart}
 use Rattle.run_pair.specs.BookParts.{files_of, kept_of, standing_of}
-use Rattle.run_pair.specs.Kept.{Kept, AreCommitted, FromLog, IsBook, IsHeld, IsRead, LeavesUnread, OfKept, ReadsFiles, TakesCommit, TakesLog, TakesPlan, journal_of, state_of, turned}
+use Rattle.run_pair.specs.Kept.{Kept, AreCommitted, AreGivenUp, FromLog, IsBook, IsHeld, IsRead, LeavesUnread, OfKept, ReadsFiles, TakesCommit, TakesGivingUp, TakesLog, TakesPlan, journal_of, state_of, turned}
 use Rattle.run_pair.specs.declared.pair.Pair.{Pair}
 use Rattle.run_pair.specs.Pairs.{Failed, device_of, opened_of}
 use Rattle.run_pair.specs.Parts.{both, device_with, opened_with}
@@ -60,6 +60,10 @@ pub takes_commit : (f n : Bool) (k : Option Kept) → opened.TakesCommit (opened
 takes_commit f n None h = h
 takes_commit f n (Some k) h = h
 
+pub takes_giving_up : (f n : Bool) (k : Option Kept) → opened.TakesGivingUp (opened_with f n k) → TakesGivingUp k
+takes_giving_up f n None h = h
+takes_giving_up f n (Some k) h = h
+
 pub is_book : (f n : Bool) (k : Option Kept) → IsBook k → opened.IsBook (opened_with f n k)
 is_book f n None h = h
 is_book f n (Some k) h = h
@@ -84,6 +88,11 @@ pub are_committed : (f n : Bool) (k k' : Option Kept) → AreCommitted k k' → 
 are_committed f n None k' h = absurd h
 are_committed f n (Some k) None h = absurd h
 are_committed f n (Some k) (Some k') h = record { made = h.made; pending = h.pending; far = refl; near = refl }
+
+pub are_given_up : (lost : List ℕ) (f n : Bool) (k k' : Option Kept) → AreGivenUp lost k k' → opened.AreGivenUp lost (opened_with f n k) (opened_with f n k')
+are_given_up lost f n None k' h = absurd h
+are_given_up lost f n (Some k) None h = absurd h
+are_given_up lost f n (Some k) (Some k') h = record { left = h.left; pending = h.pending; far = refl; near = refl }
 
 -- ---- a call of the book that was read
 

@@ -1,5 +1,5 @@
 -- What the files hold goes on, whatever a call of the book does to them.
-use Rattle.std.proofs.Common.{◌≡◌, ◌<◌, ◌⊎◌, inl, inr, refl, sym, subst, Bool, true, false, [], ◌∷◌, Option, None, Some, Result, Ok, Err, append-nil, arith}
+use Rattle.std.proofs.Common.{◌≡◌, ◌<◌, ◌⊎◌, inl, inr, refl, sym, subst, ℕ, Bool, true, false, List, [], ◌∷◌, Option, None, Some, Result, Ok, Err, append-nil, arith}
 use Rattle.book.specs.declared.shelf.Shelf as shelf
 use Rattle.device.specs.Calls.{Effect}
 use Rattle.rules.specs.declared.plan.Plan.{Plan}
@@ -10,6 +10,7 @@ use Rattle.book.specs.declared.book.Pending.TheVariants.{Missing, Useless, Plann
 use Rattle.book.specs.Books.{Fits, Holds, IsPlanned, Turns, TurnsHalf, mended, torn}
 use Rattle.book.specs.BookLogs.{begun, logged_more}
 use Rattle.book.specs.Commits.{CommitsHalf, CommitsTo, HoldsCommitted, Makes}
+use Rattle.book.specs.GivingUp.{GivesUpHalf, GivesUpTo, HoldsLeft, LeftOf}
 use Rattle.book.specs.Shelves.{Files}
 use Rattle.book.proofs.KnownBooks.{book_known}
 use Rattle.outside.specs.declared.fault.OutsideFault.{OutsideFault}
@@ -68,6 +69,16 @@ later s t (Planned w) fits made = let run = made.run in let next = fits.next in 
 
 committed : (s t : SyncState) (p q : Pending) (new : Files) → Fits s p → Makes p s t → Holds new t q → HoldsNext s p new
 committed s t p q new fits made held = record { state = t; pending = q; held = held; goes_on = inr (later s t p fits made) }
+
+-- ---- a plan that is given up
+
+later_left : (lost : List ℕ) (s t : SyncState) (p : Pending) → Fits s p → LeftOf lost p s t → s.run < t.run
+later_left lost s t Missing fits left = absurd left
+later_left lost s t Useless fits left = absurd left
+later_left lost s t (Planned w) fits left = let run = left.run in let next = fits.next in omega (arith, run, next)
+
+given_up : (lost : List ℕ) (s t : SyncState) (p q : Pending) (new : Files) → Fits s p → LeftOf lost p s t → Holds new t q → HoldsNext s p new
+given_up lost s t p q new fits left held = record { state = t; pending = q; held = held; goes_on = inr (later_left lost s t p fits left) }
 
 -- ---- a call of a book that was read
 
@@ -168,5 +179,20 @@ commits (Some k) = (
     made new fits c (inr h) = committed k.state c.state k.pending Missing new fits c.made h
 
     either : (new : Files) → Fits k.state k.pending → Holds new k.state k.pending ⊎ HoldsCommitted k.pending k.state new → HoldsNext k.state k.pending new
+    either new fits (inl h) = with_journal k.state k.pending k.pending new (keeps_same k.pending) h
+    either new fits (inr c) = made new fits c c.held
+
+pub gives_up : (lost : List ℕ) (k : Option Kept) → LeadsOn (GivesUpTo lost) k × LeadsOn (GivesUpHalf lost) k
+gives_up lost None = (tt, tt)
+gives_up lost (Some k) = (
+  λ old new held fits h. let m = h k.state held in given_up lost k.state m.state k.pending Missing new fits m.left m.held,
+  λ old new held fits h. either new fits (h k.state held),
+)
+  where
+    made : (new : Files) → Fits k.state k.pending → (c : HoldsLeft lost k.pending k.state new) → Holds new c.state Useless ⊎ Holds new c.state Missing → HoldsNext k.state k.pending new
+    made new fits c (inl h) = given_up lost k.state c.state k.pending Useless new fits c.left h
+    made new fits c (inr h) = given_up lost k.state c.state k.pending Missing new fits c.left h
+
+    either : (new : Files) → Fits k.state k.pending → Holds new k.state k.pending ⊎ HoldsLeft lost k.pending k.state new → HoldsNext k.state k.pending new
     either new fits (inl h) = with_journal k.state k.pending k.pending new (keeps_same k.pending) h
     either new fits (inr c) = made new fits c c.held

@@ -1,5 +1,5 @@
 -- What was read of the shelf, and what calls of the book ask of it and do to the files.
-use Rattle.std.specs.Prelude.{◌≡◌, ℕ, true, Option, None, Some}
+use Rattle.std.specs.Prelude.{◌≡◌, ℕ, true, List, Option, None, Some}
 use Rattle.device.specs.Calls.{Effect}
 use Rattle.rules.specs.declared.plan.Plan.{Plan}
 use Rattle.rules.specs.declared.state.SyncState.{SyncState}
@@ -7,9 +7,10 @@ use Rattle.sync_state.specs.declared.journal.Journal.{Journal}
 use Rattle.sync_state.specs.declared.journal.Logged.{Logged}
 use Rattle.book.specs.declared.book.Pending.{Pending}
 use Rattle.book.specs.declared.book.Pending.TheVariants.{Missing}
-use Rattle.book.specs.Books.{Fits, Holds, IsSound}
+use Rattle.book.specs.Books.{Fits, Holds, IsPlanned, IsSound}
 use Rattle.book.specs.BookLogs.{MayBegin, MayLog, is_refused}
 use Rattle.book.specs.Commits.{IsFinished, Makes}
+use Rattle.book.specs.GivingUp.{LeftOf}
 use Rattle.book.specs.Shelves.{Files}
 use Rattle.outside.specs.declared.fault.OutsideFault.{OutsideFault}
 use Rattle.outside.specs.declared.fault.OutsideFault.TheVariants.{Stopped, Refused, Box, BadState, BadJournal, NoMemory}
@@ -57,6 +58,16 @@ AreCommitted None new = ⊥
 AreCommitted (Some old) None = ⊥
 AreCommitted (Some old) (Some new) = IsCommitted old new
 
+-- the state that is left of the plan, and no journal
+pub record IsGivenUp (lost : List ℕ) (old new : Kept) : Type 0 where
+  pub left : LeftOf lost old.pending old.state new.state
+  pub pending : new.pending ≡ Missing
+
+abbrev pub AreGivenUp : (lost : List ℕ) → (old new : Option Kept) → Type 0
+AreGivenUp lost None new = ⊥
+AreGivenUp lost (Some old) None = ⊥
+AreGivenUp lost (Some old) (Some new) = IsGivenUp lost old new
+
 -- ---- what calls ask
 
 abbrev pub IsRead : Option Kept → Type 0
@@ -74,6 +85,10 @@ TakesLog (Some k) step logged = MayLog k.pending step logged
 abbrev pub TakesCommit : Option Kept → Type 0
 TakesCommit None = ⊥
 TakesCommit (Some k) = IsFinished k.pending
+
+abbrev pub TakesGivingUp : Option Kept → Type 0
+TakesGivingUp None = ⊥
+TakesGivingUp (Some k) = IsPlanned k.pending
 
 -- ---- what calls do to the files, and what they tell
 

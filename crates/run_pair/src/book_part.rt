@@ -26,9 +26,11 @@ impl<S: Shelf + Drop> BookPart<S> {
     ghost use Rattle.book.specs.Books.{IsSound, mended, torn, Turns, TurnsHalf};
     ghost use Rattle.book.specs.BookLogs.{begun, as_done, logged_more};
     ghost use Rattle.book.specs.Commits.{CommitsHalf, CommitsTo};
+    ghost use Rattle.book.specs.GivingUp.{GivesUpHalf, GivesUpTo};
+    ghost use Rattle.std.specs.List.Sorted.{IsNonDecreasing};
     ghost use Rattle.outside.specs.Calls.{FromBook, FromShelf};
     ghost use Rattle.run_pair.specs.PartCalls.{Part, PartChanges};
-    ghost use Rattle.run_pair.specs.Kept.{AreCommitted, FromLog, IsBook, IsHeld, IsRead, LeavesUnread, OfKept, ReadsFiles, TakesCommit, TakesLog, TakesPlan, journal_of, state_of, turned};
+    ghost use Rattle.run_pair.specs.Kept.{AreCommitted, AreGivenUp, FromLog, IsBook, IsHeld, IsRead, LeavesUnread, OfKept, ReadsFiles, TakesCommit, TakesGivingUp, TakesLog, TakesPlan, journal_of, state_of, turned};
     ghost use Rattle.run_pair.specs.Stops.{standing_at};
     ghost use Rattle.run_pair.specs.BookParts.{Stops, files_of, kept_of, seen_of, standing_of};
 
@@ -154,6 +156,20 @@ impl<S: Shelf + Drop> BookPart<S> {
             (files_of self.old) (files_of self.new) result }
     {
         told_by(self.book.commit())
+    }
+
+    /// Puts the state that is left of the pending plan, with these far messages lost, in place of the old one, and then removes the journal.
+    pub fn give_up(&mut self, lost: &[u32]) -> Result<(), OutsideFault>
+        requires takes { TakesGivingUp (kept_of self.old) }
+        requires rising { IsNonDecreasing lost.now }
+        ensures kept { OnOk result (AreGivenUp lost.now (kept_of self.old) (kept_of self.new)) }
+        ensures held { OnOk result (S.is_honest ≡ true → IsHeld (kept_of self.new) (files_of self.new)) }
+        ensures told { IfErr result FromBook }
+        ensures stops { Stops self.old self.new result }
+        ensures part { PartChanges (S.is_honest ≡ true) (λ _. OfKept (GivesUpTo lost.now) (kept_of self.old)) (OfKept (GivesUpHalf lost.now) (kept_of self.old))
+            (files_of self.old) (files_of self.new) result }
+    {
+        told_by(self.book.give_up(lost))
     }
 
     /// Closes the book, if one is open, and opens the shelf again.

@@ -11,4 +11,5 @@ pub mod pair;
 mod plan_written;
 pub mod reopened;
 mod run_ended;
+mod run_given_up;
 pub mod tally;

@@ -8,6 +8,7 @@ use crate::book_part::BookPart;
 use crate::copying::copy;
 use crate::plan_written::begin_synced;
 use crate::run_ended::commit_synced;
+use crate::run_given_up::give_up_synced;
 use crate::tally::Tally;
 use book::shelf::Shelf;
 use mailbox::mailbox::Mailbox;
@@ -95,10 +96,12 @@ impl<F: Mailbox + Drop, N: Mailbox + Drop, S: Shelf + Drop> Outside for Pair<F, 
     ghost use Rattle.book.specs.Books.{mended, torn, Turns as TurnsJournal, TurnsHalf};
     ghost use Rattle.book.specs.BookLogs.{begun, as_done, logged_more};
     ghost use Rattle.book.specs.Commits.{CommitsHalf, CommitsTo};
+    ghost use Rattle.book.specs.GivingUp.{GivesUpHalf, GivesUpTo};
+    ghost use Rattle.std.specs.List.Sorted.{IsNonDecreasing};
     ghost use Rattle.outside.specs.Devices.{box};
     ghost use Rattle.outside.specs.Calls.{FromBook, FromBox, FromShelf, LeavesBy, opened_again, stopped};
-    ghost use Rattle.outside.specs.Opened.{AreCommitted, IsBook, IsHeld, IsOpen, IsRead, turned, with_box};
-    ghost use Rattle.outside.specs.Opened.{TakesCommit, TakesDiscard, TakesLog, TakesPlan};
+    ghost use Rattle.outside.specs.Opened.{AreCommitted, AreGivenUp, IsBook, IsHeld, IsOpen, IsRead, turned, with_box};
+    ghost use Rattle.outside.specs.Opened.{TakesCommit, TakesDiscard, TakesGivingUp, TakesLog, TakesPlan};
     ghost use Rattle.outside.specs.BookCalls.{FromLog, LeavesUnread, ReadsBook};
     ghost use Rattle.mailbox.specs.Operations.{HasNumbers, ListsWithin, removed, NoRoom};
     ghost use Rattle.outside.specs.BoxCalls.{Admits, AdmitsPart, Carry, ListsFar, ListsNear, Names, SetsAside, Turns};
@@ -242,6 +245,25 @@ impl<F: Mailbox + Drop, N: Mailbox + Drop, S: Shelf + Drop> Outside for Pair<F, 
             return Err(OutsideFault::Stopped);
         }
         let answer = commit_synced(&mut self.near, &mut self.book);
+        self.tally.end(answer)
+    }
+
+    fn give_up(&mut self, lost: &[u32]) -> Result<(), OutsideFault>
+        requires takes { TakesGivingUp (opened_of self.old) }
+        requires rising { IsNonDecreasing lost.now }
+        ensures was_honest { honest_of self.new → honest_of self.old }
+        ensures keywords { F.keywords self.new.far ≡ F.keywords self.old.far }
+        ensures opened { OnOk result (AreGivenUp lost.now (opened_of self.old) (opened_of self.new)) }
+        ensures held { result ≡ Ok tt → honest_of self.new → IsHeld (opened_of self.new) (seen_of self.new).device }
+        ensures call { BookCall FromBook (GivesUpTo lost.now) (GivesUpHalf lost.now) self.old self.new result }
+        ensures why { IsErrOf result OutsideFault.Stopped → BySyncedBook self.old self.new }
+        ensures tallied { Tallied (ended no_copies) result self.old.tally self.new.tally }
+        ensures synced { IsSyncedFirst self.old self.new }
+    {
+        if self.tally.is_broken() {
+            return Err(OutsideFault::Stopped);
+        }
+        let answer = give_up_synced(&mut self.near, &mut self.book, lost);
         self.tally.end(answer)
     }
 
@@ -446,7 +468,7 @@ impl<F: Mailbox + Drop, N: Mailbox + Drop, S: Shelf + Drop> Outside for Pair<F, 
         ensures was_honest { honest_of self.new → honest_of self.old }
         ensures keywords { F.keywords self.new.far ≡ F.keywords self.old.far }
         ensures opened { opened_of self.new ≡ opened_of self.old }
-        ensures call { BoxChange (Turns side uid (removed side uid)) (Names side uid) self.old self.new result }
+        ensures call { BoxChange (Turns side uid (removed uid)) (Names side uid) self.old self.new result }
         ensures why { IfErr result (ByBox side Never self.old self.new) }
         ensures tallied { Tallied (ended_naming side uid) result self.old.tally self.new.tally }
     {

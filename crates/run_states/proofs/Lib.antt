@@ -15,3 +15,5 @@ pub mod Admitting
 pub mod Listings
 pub mod Ends
 pub mod Expunging
+pub mod GivenMarks
+pub mod Stale

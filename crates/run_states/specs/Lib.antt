@@ -3,4 +3,5 @@ pub mod Plans
 pub mod Moments
 pub mod Endings
 pub mod Conditions
+pub mod Stale
 pub mod Laws

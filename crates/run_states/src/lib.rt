@@ -12,6 +12,12 @@ pub fn others_keep_underway()
     ensures pending { law.OthersKeepPending }
 {}
 
+/// No step of a plan that is pending is stale, where others add messages and nobody else removes any or changes flags. So whoever finds a
+/// stale one knows that someone has.
+pub fn nothing_is_stale()
+    ensures { law.NothingIsStale }
+{}
+
 /// Where nobody adds any messages, a run that is done has left both mailboxes and the state alike to the outcome of its opening.
 pub fn done_is_alike()
     ensures { law.DoneIsAlike }

@@ -87,7 +87,7 @@ same_none ours d = λ mark from side is. refl
 pub same_then : (ours : List ℕ → Bool) (a b c : Device) → FindsSame ours a b → FindsSame ours b c → FindsSame ours a c
 same_then ours a b c p q = λ mark from side is. q mark from side is ∙ p mark from side is
 
-same_arrives : (ours : List ℕ → Bool) (alone : Bool) (d m : Device) → Arrives ours alone d m → FindsSame ours d m
+pub same_arrives : (ours : List ℕ → Bool) (alone : Bool) (d m : Device) → Arrives ours alone d m → FindsSame ours d m
 same_arrives ours alone d m a = λ mark from side is. subst (λ (x : Device). marked_from mark from (box x side) ≡ marked_from mark from (box d side)) (sym a.now) (by_side mark from is side)
   where
     now : Device

@@ -37,7 +37,7 @@ agree_mapped : {Y : Type 0} (f g : Item → Option Y) (a b : Message → Item) �
 agree_mapped f g a b same [] = refl
 agree_mapped f g a b same (m ∷ ms) = rw (same m, agree_mapped f g a b same ms) refl
 
-flags_sparing : (spared : ℕ → Bool) (messages : List Message) (u : ℕ) → flags_at (map (item_sparing Near spared) messages) u ≡ flags_at (map (item_of Near) messages) u
+pub flags_sparing : (spared : ℕ → Bool) (messages : List Message) (u : ℕ) → flags_at (map (item_sparing Near spared) messages) u ≡ flags_at (map (item_of Near) messages) u
 flags_sparing spared [] u = refl
 flags_sparing spared (m ∷ messages) u = by_test (eqb m.uid u) (flags_sparing spared messages u)
   where

@@ -18,5 +18,7 @@ pub mod Attempts
 pub mod Reopening
 pub mod Ends
 pub mod Finding
+pub mod GivingUp
 pub mod PassTells
 pub mod Sourced
+pub mod HalfEntries

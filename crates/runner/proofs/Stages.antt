@@ -227,7 +227,7 @@ module _ {ours : List ℕ → Bool} {alone : Bool} (opening : Opening ours alone
   pub ready_deleted : (side : Side) (uid : ℕ) → next_at opened ≡ Some (step.Expunge side uid) → (d : Device) → BeforeStep opening opened true d → All (λ m. m.uid ≡ uid → has m.flags DELETED ≡ true) (messages_in (boxes_at d) side)
   ready_deleted side uid is d k = let s = k.since in stands_deleted ours alone s.world opening.options version plan log s.grows.in_order side uid is false d s.holds
 
-  pub expunge_made : (side : Side) (uid : ℕ) → next_at opened ≡ Some (step.Expunge side uid) → (d m d' : Device) → Arrives ours alone d m → BeforeStep opening opened true d → Turns side uid (removed side uid) m d' → AfterStep opening opened Done d'
+  pub expunge_made : (side : Side) (uid : ℕ) → next_at opened ≡ Some (step.Expunge side uid) → (d m d' : Device) → Arrives ours alone d m → BeforeStep opening opened true d → Turns side uid (removed uid) m d' → AfterStep opening opened Done d'
   expunge_made side uid is d m d' a r t = whole_made (step.Expunge side uid) is refl d m d' a r (removed_is side uid m d' (ready_deleted side uid is m (ready_arrives true d m a r)) t)
 
   -- ---- flags

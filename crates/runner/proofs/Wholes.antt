@@ -2,9 +2,8 @@
 use Rattle.std.proofs.Common.{◌≡◌, ℕ, Bool, true, false, not, ◌||◌, ◌==◌, List, [], ◌∷◌, None, refl, ap, subst, ◌∙◌, ◌^◌}
 use Rattle.std.specs.Prelude.{All, filter, ◌&&◌}
 use Rattle.std.proofs.lemmas.Bool.{both_ways, eqb-true}
-use Rattle.std.proofs.lemmas.List.Elements.{All-head, All-tail, All-weaker}
+use Rattle.std.proofs.lemmas.List.Elements.{All-head, All-tail}
 use Rattle.mailcore.specs.declared.side.Side.{Side}
-use Rattle.mailcore.specs.declared.side.Side.TheVariants.{Far, Near}
 use Rattle.mailcore.specs.declared.side.Direction.{Direction}
 use Rattle.mailcore.specs.declared.mailbox.Message.{Message}
 use Rattle.mailcore.specs.FlagSet.{DELETED, has, union}
@@ -13,7 +12,7 @@ use Rattle.mailcore.specs.Sides.{target}
 use Rattle.rules.specs.declared.plan.Step.TheVariants as step
 use Rattle.rules.specs.FlagRule.{with_deleted}
 use Rattle.law_steps.specs.Steps.{Boxes, changed_uid, step_after, without, box as messages_in, with_box as with_messages_in}
-use Rattle.mailbox.specs.Operations.{may_go, removed}
+use Rattle.mailbox.specs.Operations.{removed}
 use Rattle.outside.specs.BoxCalls.{Turns}
 use Rattle.outside.specs.Devices.{Device}
 use Rattle.run_states.specs.Moments.{boxes_at}
@@ -22,27 +21,23 @@ use Rattle.run_states.proofs.Flagged.{flagged_same}
 use Rattle.run_states.proofs.Moves.{IsMoved, moved}
 use Rattle.runner.specs.Going.{sets_first}
 
-without_one : (side : Side) (uid : ℕ) (ms : List Message) → All (λ m. m.uid ≡ uid → may_go side m ≡ true) ms → filter (λ m. not (m.uid == uid && may_go side m)) ms ≡ without uid ms
-without_one side uid [] h = refl
-without_one side uid (m ∷ ms) h =
-    by_test (m.uid == uid) (may_go side m) (λ e. All-head (λ (x : Message). x.uid ≡ uid → may_go side x ≡ true) m ms h (eqb-true m.uid uid e)) refl
-    (without_one side uid ms (All-tail (λ (x : Message). x.uid ≡ uid → may_go side x ≡ true) m ms h))
+without_one : (uid : ℕ) (ms : List Message) → All (λ m. m.uid ≡ uid → has m.flags DELETED ≡ true) ms → filter (λ m. not (m.uid == uid && has m.flags DELETED)) ms ≡ without uid ms
+without_one uid [] h = refl
+without_one uid (m ∷ ms) h =
+    by_test (m.uid == uid) (has m.flags DELETED) (λ e. All-head (λ (x : Message). x.uid ≡ uid → has x.flags DELETED ≡ true) m ms h (eqb-true m.uid uid e)) refl
+    (without_one uid ms (All-tail (λ (x : Message). x.uid ≡ uid → has x.flags DELETED ≡ true) m ms h))
   where
-    by_test : (a b : Bool) → ((m.uid == uid) ≡ true → may_go side m ≡ true) → (m.uid == uid) ≡ a → filter (λ x. not (x.uid == uid && may_go side x)) ms ≡ without uid ms →
-        filter (λ x. not (x.uid == uid && may_go side x)) (m ∷ ms) ≡ without uid (m ∷ ms)
+    by_test : (a b : Bool) → ((m.uid == uid) ≡ true → has m.flags DELETED ≡ true) → (m.uid == uid) ≡ a → filter (λ x. not (x.uid == uid && has x.flags DELETED)) ms ≡ without uid ms →
+        filter (λ x. not (x.uid == uid && has x.flags DELETED)) (m ∷ ms) ≡ without uid (m ∷ ms)
     by_test true b go e rest = rw (e, go e) rest
     by_test false b go e rest = rw e (ap (λ (xs : List Message). m ∷ xs) rest)
 
-goes : (side : Side) (uid : ℕ) (ms : List Message) → All (λ m. m.uid ≡ uid → has m.flags DELETED ≡ true) ms → All (λ m. m.uid ≡ uid → may_go side m ≡ true) ms
-goes Far uid ms h = h
-goes Near uid ms h = All-weaker (λ (m : Message). m.uid ≡ uid → has m.flags DELETED ≡ true) (λ m. m.uid ≡ uid → true ≡ true) (λ m k e. refl) ms h
-
 -- a message that is marked as deleted, if it is there, is removed
-pub removed_is : (side : Side) (uid : ℕ) (d d' : Device) → All (λ m. m.uid ≡ uid → has m.flags DELETED ≡ true) (messages_in (boxes_at d) side) → Turns side uid (removed side uid) d d' → IsMoved (names_of (step.Expunge side uid)) d d' (step_after (boxes_at d) (step.Expunge side uid) None)
+pub removed_is : (side : Side) (uid : ℕ) (d d' : Device) → All (λ m. m.uid ≡ uid → has m.flags DELETED ≡ true) (messages_in (boxes_at d) side) → Turns side uid (removed uid) d d' → IsMoved (names_of (step.Expunge side uid)) d d' (step_after (boxes_at d) (step.Expunge side uid) None)
 removed_is side uid d d' h t =
     let ms = messages_in (boxes_at d) side in
-    subst (λ (b : Boxes). IsMoved (names_of (step.Expunge side uid)) d d' b) (ap (λ (xs : List Message). with_messages_in (boxes_at d) side xs) (without_one side uid ms (goes side uid ms h)))
-    (moved side uid (filter (λ m. not (m.uid == uid && may_go side m))) d d' t)
+    subst (λ (b : Boxes). IsMoved (names_of (step.Expunge side uid)) d d' b) (ap (λ (xs : List Message). with_messages_in (boxes_at d) side xs) (without_one uid ms h))
+    (moved side uid (filter (λ m. not (m.uid == uid && has m.flags DELETED))) d d' t)
 
 deleted_is : (x : ℕ) → union x (2 ^ DELETED) ≡ with_deleted x
 unfolding with_deleted

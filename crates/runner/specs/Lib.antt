@@ -13,3 +13,5 @@ pub mod Finding
 pub mod Settled
 pub mod Passes
 pub mod Sources
+pub mod HalfEntries
+pub mod GivingUp

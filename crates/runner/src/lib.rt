@@ -4,6 +4,8 @@
 pub mod changing;
 pub mod copying;
 pub mod fault;
+pub mod give_up;
+mod half_entries;
 mod old_messages;
 pub mod opening;
 pub mod pass;

@@ -232,7 +232,7 @@ pub(crate) fn write_plan<O: Outside>(outside: &mut O, plan: Plan) -> Result<(), 
 }
 
 /// The UIDVALIDITY of a side that the run goes by: the journal's, or else, after a first run, the state's.
-fn recorded_validity<O: Outside>(outside: &O, side: Side) -> Option<u32>
+pub(crate) fn recorded_validity<O: Outside>(outside: &O, side: Side) -> Option<u32>
     requires read { IsRead (O.opened outside.now) }
     ensures { result ≡ recorded_in (O.opened outside.now) side }
 {

@@ -6,10 +6,33 @@ use test_scripts::told::Told;
 use test_scripts::words::Words;
 
 /// The words that the lines begin with.
-const WORDS: [&str; 22] = [
-    "far", "near", "box", "in", "stop", "refuse", "state", "journal", "unread", "cut", "left",
-    "steps", "synced", "locked", "shut", "barred", "fault", "unmade", "skipped", "alert", "words",
+const WORDS: [&str; 26] = [
+    "far",
+    "near",
+    "box",
+    "in",
+    "stop",
+    "refuse",
+    "state",
+    "journal",
+    "unread",
+    "cut",
+    "left",
+    "steps",
+    "synced",
+    "locked",
+    "shut",
+    "barred",
+    "fault",
+    "unmade",
+    "skipped",
+    "alert",
+    "words",
     "show",
+    "standing",
+    "kept",
+    "undeleted",
+    "unnamed",
 ];
 
 /// The lines that a case has so far, as they stand.

@@ -13,6 +13,9 @@
 //! | `state BOX "BYTES"`, `journal BOX "BYTES"` | the text of its state, or of its journal |
 //! | `unread BOX PATH` | this process may not read the message of this path: it is told where a run is stopped |
 //! | `cut BOX STORE WHY` | a stop of its run is the server's of this store: `unreached`, `connection_refused`, `ended` or `dismissed` |
+//! | `standing BOX UID PATH`, `kept BOX UID PATH` | what stops its run is a near message that is there again, or is not marked as deleted |
+//! | `undeleted BOX UID STORE` | what stops its run is a message that the server of this store did not expunge |
+//! | `unnamed BOX PATH` | a file of this path waits, whose name is no Maildir name |
 //! | `left BOX PATH` | the file of this path cannot get a UID: it is told behind a run |
 //! | `steps BOX` | how far its run was told to be is told behind the question for it: `0/2 1/2 2/2` |
 //! | `synced BOX` | the near folder has the state of a former run, where the mailbox is absent on a side |

@@ -1,11 +1,15 @@
 //! Stores in memory.
 
+ghost use Rattle.std.specs.Prelude.{IfOk};
+ghost use Rattle.channels.specs.Boxes.{Rises};
+
 use crate::facts::Facts;
 use crate::lent_box::{LentBox, box_named};
 use crate::said::Said;
 use crate::server_faults::{run_fault, server_fault};
 use crate::steps::Steps;
-use channels::channel_box::ChannelBox;
+use channels::boxes::in_order;
+use channels::channel_box::{ChannelBox, ChannelStores};
 use channels::notice::Notice;
 use channels::stop_cause::StopCause;
 use channels::store_fault::{ListFault, ServerFault, StoreFault};
@@ -31,6 +35,8 @@ pub(crate) struct MemStores<'a> {
     pub(crate) boxes: Vec<LentBox>,
     /// Whether it is still to be told what stopped the run over the last one.
     is_untold: bool,
+    /// Whether it was told which message has stopped a run.
+    is_message_told: bool,
     /// What is to be told beside faults.
     said: Said,
     /// Why a mailbox of the case cannot be had.
@@ -46,6 +52,7 @@ impl<'a> MemStores<'a> {
             asked: Told::new(alloc),
             boxes: Vec::new(alloc),
             is_untold: false,
+            is_message_told: false,
             said: Said::new(alloc),
             failure: None,
         }
@@ -58,7 +65,9 @@ impl<'a> MemStores<'a> {
     }
 
     /// The names of the mailboxes of a store.
-    fn list(&mut self, side: &str, store: &str) -> Result<Vec<MailboxName>, ListFault> {
+    fn list(&mut self, side: &str, store: &str) -> Result<Vec<MailboxName>, ListFault>
+        ensures { IfOk result (λ names. Rises names.items) }
+    {
         self.said.hear(self.facts, store, store);
         if self.facts.has("barred", store) {
             let why = self.why_barred(store);
@@ -137,14 +146,28 @@ impl<'a> MemStores<'a> {
         }
     }
 
+    /// Adds a mailbox as it is before the run, or as it was left where it was lent before.
     fn push_box(&mut self, name: &str) -> Result<(), Failure> {
-        let lent = box_named(self.alloc, self.facts, name)?;
+        let lent = match self.boxes.iter().position(|one| one.name.as_str() == name) {
+            Some(place) => self.boxes.remove(place),
+            None => box_named(self.alloc, self.facts, name)?,
+        };
         Ok(self.boxes.push(lent)?)
     }
 
-    /// What stopped the run over the last mailbox: a file that cannot be read, or the server of a store.
+    /// What stopped the run over the last mailbox: a message that is not as its plan took it to be, a file that cannot be read, or the server
+    /// of a store.
     fn cause(&self) -> Option<StopCause> {
         let name = self.boxes.last()?.name.as_str();
+        if let Some((path, uid)) = self.message("standing", name) {
+            return Some(StopCause::Standing(path, uid));
+        }
+        if let Some((path, uid)) = self.message("kept", name) {
+            return Some(StopCause::Kept(path, uid));
+        }
+        if let Some((store, uid)) = self.message("undeleted", name) {
+            return Some(StopCause::Undeleted(store, uid));
+        }
         if let Some(path) = self.facts.of("unread", name) {
             let path = String::from_str(self.alloc, path).ok()?;
             return Some(StopCause::Disk(path, Trouble::NoPermission));
@@ -152,6 +175,18 @@ impl<'a> MemStores<'a> {
         let (store, why) = self.facts.of("cut", name)?.split_once(' ')?;
         let store = String::from_str(self.alloc, store).ok()?;
         Some(StopCause::Server(store, server_fault(why)?))
+    }
+
+    /// The path or the store, and the UID, of a message that a line of this word gives a mailbox.
+    fn message(&self, word: &str, name: &str) -> Option<(String, u32)> {
+        if self.is_message_told {
+            return None;
+        }
+        let (uid, text) = self.facts.of(word, name)?.split_once(' ')?;
+        Some((
+            String::from_str(self.alloc, text).ok()?,
+            uid.parse::<u32>().ok()?,
+        ))
     }
 }
 
@@ -187,15 +222,17 @@ fn shut_store_fault(alloc: Global, name: &str) -> StoreFault {
     }
 }
 
-/// The names of a line, if there is one. Those outside the limits are left out.
-fn names_in(alloc: Global, line: Option<&str>) -> Result<Vec<MailboxName>, AllocError> {
+/// The names of a line, if there is one, in the order of their bytes. Those outside the limits are left out.
+fn names_in(alloc: Global, line: Option<&str>) -> Result<Vec<MailboxName>, AllocError>
+    ensures { IfOk result (λ names. Rises names.items) }
+{
     let mut names = Vec::new(alloc);
     for name in line.unwrap_or("").split_whitespace() {
         if let Some(name) = MailboxName::from_bytes(alloc, name.as_bytes())? {
             names.push(name)?;
         }
     }
-    Ok(names)
+    in_order(alloc, &names)
 }
 
 impl BoxLists for MemStores<'_> {
@@ -215,8 +252,8 @@ impl BoxLists for MemStores<'_> {
         self.list("near", &store.name)
     }
 
-    fn notices(&mut self) -> Vec<Notice> {
-        self.said.notices()
+    fn notices(&mut self, of: ChannelStores<'_>) -> Vec<Notice> {
+        self.said.notices(of)
     }
 
     fn server_words(&mut self) -> Option<String> {
@@ -272,7 +309,9 @@ impl Stores for MemStores<'_> {
             return None;
         }
         self.is_untold = false;
-        self.cause()
+        let cause = self.cause();
+        self.is_message_told = true;
+        cause
     }
 
     fn left_out(&mut self) -> Vec<String> {

@@ -1,6 +1,7 @@
 //! What stores in memory tell beside faults.
 
 use crate::facts::Facts;
+use channels::channel_box::ChannelStores;
 use channels::notice::Notice;
 use std::alloc::{AllocError, Global};
 use std::mem;
@@ -38,6 +39,10 @@ impl Said {
             );
             self.notices.push(Notice::Alert(store, text))?;
         }
+        if let Some(path) = facts.of("unnamed", name) {
+            let path = String::from_str(alloc, path)?;
+            self.notices.push(Notice::Unnamed(path))?;
+        }
         if let Some(text) = facts.of("words", name) {
             self.words = Some(String::from_str(alloc, text)?);
         }
@@ -53,13 +58,32 @@ impl Said {
         Ok(())
     }
 
-    /// What is to be told beside faults, once.
-    pub(crate) fn notices(&mut self) -> Vec<Notice> {
-        mem::replace(&mut self.notices, Vec::new(self.alloc))
+    /// What is to be told beside faults for this channel, once. What it cannot have chosen stays.
+    pub(crate) fn notices(&mut self, of: ChannelStores<'_>) -> Vec<Notice> {
+        let mut told = Vec::new(self.alloc);
+        let mut left = Vec::new(self.alloc);
+        for notice in mem::replace(&mut self.notices, Vec::new(self.alloc)) {
+            let notices = if is_for(&notice, of) {
+                &mut told
+            } else {
+                &mut left
+            };
+            let _ = notices.push(notice);
+        }
+        self.notices = left;
+        told
     }
 
     /// What a server said last, once.
     pub(crate) fn words(&mut self) -> Option<String> {
         self.words.take()
+    }
+}
+
+/// Whether a notice is to be told for this channel.
+fn is_for(notice: &Notice, of: ChannelStores<'_>) -> bool {
+    match notice {
+        Notice::Skipped(store, name) => of.could_choose(store.as_str(), name.as_str()),
+        Notice::Unnamed(_) | Notice::Alert(..) => true,
     }
 }

@@ -6,6 +6,7 @@
 //! ```text
 //! reply "* 1 RECENT\0d\0a"     these bytes come, and then the end: what is handed out, and whether the link gave up
 //! line * OK still here         the same of a line, with its end
+//! times 60000 * OK still here   this line comes so often: how many bytes are handed out, and whether the link gave up
 //! send "A1 NOOP\0d\0a"         these bytes are sent over the connection of this case: what the server gets
 //! copy MARK "a\0d\0a"           the same of the copy of this message under this mark, and the line end behind it
 //! connect                      a new connection is made for those that are sent next

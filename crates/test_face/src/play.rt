@@ -66,6 +66,7 @@ impl Player for Faces {
                 return Ok(());
             }
             "connect" => return self.sending.reconnect(),
+            "times" => return tell_often(self.alloc, line, &mut script.told),
             _ => return Err(Failure::Script),
         };
         tell_heard(self.alloc, &bytes, &mut script.told)
@@ -83,6 +84,24 @@ fn tell_sent(sent: &[u8], told: &mut Told) {
     }
 }
 
+/// Tells how much a client hears where one line comes so often.
+fn tell_often(alloc: Global, line: &mut Words<'_>, told: &mut Told) -> Result<(), Failure> {
+    let count = line.count();
+    let text = line.rest();
+    let mut bytes = Vec::new(alloc);
+    for _ in 0..count {
+        bytes.extend_from_slice(text)?;
+        bytes.extend_from_slice(b"\r\n")?;
+    }
+    let heard = Hearing::of(alloc, &bytes, usize::MAX)?;
+    told.begin();
+    told.number(heard.bytes.len() as u64);
+    told.text(" bytes");
+    told.end();
+    tell_end(&heard, told);
+    Ok(())
+}
+
 /// Tells what a client hears where these bytes come.
 fn tell_heard(alloc: Global, bytes: &[u8], told: &mut Told) -> Result<(), Failure> {
     let heard = Hearing::of(alloc, bytes, usize::MAX)?;
@@ -92,12 +111,7 @@ fn tell_heard(alloc: Global, bytes: &[u8], told: &mut Told) -> Result<(), Failur
     for reply in heard.bytes.split(|b| *b == b'\n') {
         tell_line(told, "", reply);
     }
-    if heard.gave_up {
-        told.answer("gives up");
-    }
-    if let Some(text) = &heard.unread {
-        tell_line(told, "cannot read ", text);
-    }
+    tell_end(&heard, told);
     for name in &heard.skipped {
         tell_line(told, "skips ", name);
     }
@@ -109,6 +123,16 @@ fn tell_heard(alloc: Global, bytes: &[u8], told: &mut Told) -> Result<(), Failur
     }
     tell_pieces(alloc, bytes, &heard, told)?;
     tell_cuts(alloc, bytes, &heard, told)
+}
+
+/// Tells whether the link gave up, and over which reply.
+fn tell_end(heard: &Hearing, told: &mut Told) {
+    if heard.gave_up {
+        told.answer("gives up");
+    }
+    if let Some(text) = &heard.unread {
+        tell_line(told, "cannot read ", text);
+    }
 }
 
 /// Tells where other bytes are heard if these come in pieces.

@@ -4,7 +4,7 @@ use crate::changes::change;
 use crate::ground::Ground;
 use config::config::MaildirStore;
 use mailcore::mailbox_name::MailboxName;
-use near_places::boxes::near_boxes;
+use near_places::boxes::{near_boxes, near_folder};
 use near_places::fresh::fresh_validity;
 use near_places::home::Home;
 use near_places::lock::{Lock, LockFault};
@@ -113,8 +113,13 @@ impl Scene<'_> {
     fn tell_folder(&self, name: &str, told: &mut Told) -> Result<(), Failure> {
         let alloc = self.rt.alloc();
         let name = MailboxName::from_bytes(alloc, name.as_bytes())?.ok_or(Failure::Script)?;
-        told.answer(&self.home.folder_of(alloc, &self.store, &name)?);
-        Ok(())
+        match near_folder(&self.rt, &self.home, &self.store, &name) {
+            Ok(folder) => {
+                told.answer(&folder);
+                Ok(())
+            }
+            Err(refusal) => tell_refusal(told, refusal),
+        }
     }
 
     fn lock(&mut self, folder: &str, told: &mut Told) -> Result<(), Failure> {

@@ -6,12 +6,10 @@ use Rattle.channels.proofs.boxes.add_chosen.Goals.{then-matches+in_ok-put_name, 
 
 pub loop-name-preserved : goal.loop-name-preserved
 loop-name-preserved c = record {
-  rising = λ old.
-      let h = c.loop-name.invariant.rising old in
-      elim c.if-matches.branch [
-        | then-matches+in_ok-put_name w ↦ rw w.boxes-is (w.in_ok-put_name.ensures.rising h)
-        | else-matches w ↦ rw w.boxes-is h
-      ];
+  rising = elim c.if-matches.branch [
+    | then-matches+in_ok-put_name w ↦ rw w.boxes-is w.in_ok-put_name.ensures.rising
+    | else-matches w ↦ rw w.boxes-is c.loop-name.invariant.rising
+  ];
   boxes = λ is_chosen tells.
       let h = c.loop-name.invariant.boxes is_chosen tells in
       let same = same_from_decides (is_chosen c.as_str.result.now) c.matches.result (tells c.as_str.result.now) c.matches.ensures in

@@ -6,6 +6,6 @@ use Rattle.channels.proofs.boxes.add_chosen.Given as goal
 -- the names so far that the patterns choose are put
 abbrev pub invariant-loop-name : goal.invariant-loop-name
 invariant-loop-name l = record {
-  rising : Rises l.initial.boxes.items → Rises l.boxes.items;
+  rising : Rises l.boxes.items;
   boxes : (is_chosen : List ℕ → Bool) → Tells is_chosen l.patterns → l.boxes.items ≡ put_names l.initial.boxes.items (filter is_chosen (take l.name-index l.names));
 }

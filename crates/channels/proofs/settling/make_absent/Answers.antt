@@ -1,8 +1,9 @@
-use Rattle.std.proofs.Common.{◌≡◌, false, is_some, refl, ap, sym, ◌∙◌, arith}
+use Rattle.std.proofs.Common.{◌≡◌, false, is_some, ap, sym, ◌∙◌, arith, subst}
 use Rattle.std.proofs.lemmas.Grind.{common_steps}
 use Rattle.std.proofs.lemmas.Result.{err_from_is_err_and}
 use Rattle.channels.specs.Scope.{uncovered}
-use Rattle.channels.specs.Asked.{place_of}
+use Rattle.channels.specs.Asked.{Outcome, outcome_of_state, place_of}
+use Rattle.channels.specs.Courses.{Makes}
 use Rattle.channels.specs.Outcomes.{outcome_of}
 use Rattle.channels.proofs.CourseLemmas.{Makes-near, Makes-no_far, Makes-old, Makes-uncovered, OnOk-makings}
 use Rattle.channels.proofs.settling.make_absent.Goals as goal
@@ -10,8 +11,10 @@ use Rattle.channels.proofs.settling.make_absent.Goals as goal
 -- a side that Create does not cover
 pub returns-in-Some-clause-asked : goal.returns-in-Some-clause-asked
 returns-in-Some-clause-asked g c =
-    Makes-uncovered g.S.BoxLists.noted (place_of c.args.place) c.args.absent (g.S.BoxLists.asked c.args.stores.now.stores.now) (g.S.BoxLists.asked c.args.stores.now.stores.now)
-    (ap is_some (sym c.uncovered.ensures ∙ c.in-Some.is)) refl
+    subst (λ (outcome : Outcome). Makes g.S.BoxLists.noted (place_of c.args.place) c.args.absent outcome (g.S.BoxLists.asked c.args.stores.now.stores.now)
+    (g.S.BoxLists.asked c.absence.new.stores.stores.now)) (sym c.absence.ensures.ends)
+    (Makes-uncovered g.S.BoxLists.noted (place_of c.args.place) c.args.absent (g.S.BoxLists.asked c.args.stores.now.stores.now) (g.S.BoxLists.asked c.absence.new.stores.stores.now)
+    (ap is_some (sym c.uncovered.ensures ∙ c.in-Some.is)) (outcome_of_state c.absence.ensures.asked.answer) c.absence.ensures.asked.grown)
 
 -- no new one
 pub returns-in_err-find_new-clause-asked : goal.returns-in_err-find_new-clause-asked

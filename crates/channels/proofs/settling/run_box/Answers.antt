@@ -1,10 +1,12 @@
-use Rattle.std.proofs.Common.{◌≡◌, arith, ap, ◌∙◌}
+use Rattle.std.proofs.Common.{◌≡◌, List, Option, None, option_map, arith, ap, ◌∙◌}
+use Rattle.std.specs.List.{fold}
 use Rattle.std.proofs.lemmas.Grind.{common_steps}
 use Rattle.channels.proofs.StreamLemmas.{IsQuiet-both, IsQuiet-from, stream_steps}
 use Rattle.std.proofs.lemmas.Result.{err_from_is_err_and}
-use Rattle.channels.specs.Asked.{Asked, Ran, place_of}
+use Rattle.channels.specs.Asked.{Asked, Outcome, Ran, place_of}
 use Rattle.channels.specs.Asks.{run_attempts}
-use Rattle.channels.specs.Outcomes.{has_void, outcome_of_box_fault, outcome_of_pass}
+use Rattle.channels.specs.Courses.{run_course}
+use Rattle.channels.specs.Outcomes.{has_void, outcome_of_box_fault, outcome_of_giving, outcome_of_pass}
 use Rattle.channels.proofs.CourseLemmas.{IsToldOf-behind, was_done}
 use Rattle.channels.proofs.OrderLemmas.{Begun-run, Begun-unrun, Goes-run, SoFar-fault}
 use Rattle.channels.proofs.settling.run_box.Goals as goal
@@ -33,7 +35,7 @@ returns-in_err-verdict-in-Ok-clause-asked g c =
     let ran : Asked = Ran (place_of c.args.place) c.args.work.options.now run_attempts (outcome_of_pass c.in-Ok.pass) in
     let same : g.S.BoxLists.asked c.print_box.new.self.stores.now ≡ g.S.BoxLists.asked c.args.stores.now.stores.now = grind (arith, common_steps) in
     let p = err_from_is_err_and c.from_residual-in_err-verdict-in-Ok.result c.from_residual-in_err-verdict-in-Ok.ensures.1 in
-    rw p.1 (Begun-run g.S.BoxLists.noted c.args.work.options.now (place_of c.args.place) (outcome_of_pass c.in-Ok.pass) (g.S.BoxLists.asked c.args.stores.now.stores.now)
+    rw p.1 (Begun-run g.S.BoxLists.noted c.args.work.options.now (place_of c.args.place) (outcome_of_pass c.in-Ok.pass) None (g.S.BoxLists.asked c.args.stores.now.stores.now)
     (g.S.BoxLists.asked c.print_answer.new.stores.stores.now)
     (c.print_answer.ensures.asks.1 ∙ c.in-Ok.ensures.asks.1 ∙ ap (λ l. g.S.BoxLists.noted l ran) same))
 
@@ -42,7 +44,7 @@ returns-in_err-tell_left_out-in-Ok-clause-asked g c =
     let ran : Asked = Ran (place_of c.args.place) c.args.work.options.now run_attempts (outcome_of_pass c.in-Ok.pass) in
     let same : g.S.BoxLists.asked c.print_box.new.self.stores.now ≡ g.S.BoxLists.asked c.args.stores.now.stores.now = grind (arith, common_steps) in
     let p = err_from_is_err_and c.from_residual-in_err-tell_left_out-in-Ok.result c.from_residual-in_err-tell_left_out-in-Ok.ensures.1 in
-    rw p.1 (Begun-run g.S.BoxLists.noted c.args.work.options.now (place_of c.args.place) (outcome_of_pass c.in-Ok.pass) (g.S.BoxLists.asked c.args.stores.now.stores.now)
+    rw p.1 (Begun-run g.S.BoxLists.noted c.args.work.options.now (place_of c.args.place) (outcome_of_pass c.in-Ok.pass) None (g.S.BoxLists.asked c.args.stores.now.stores.now)
     (g.S.BoxLists.asked c.tell_left_out.new.stores.stores.now)
     (c.tell_left_out.ensures.asks.1 ∙ c.print_answer.ensures.asks.1 ∙ c.in-Ok.ensures.asks.1 ∙ ap (λ l. g.S.BoxLists.noted l ran) same))
 
@@ -51,7 +53,7 @@ pub returns-in_ok-tell_left_out-in-Ok-clause-asked : goal.returns-in_ok-tell_lef
 returns-in_ok-tell_left_out-in-Ok-clause-asked g c =
     let ran : Asked = Ran (place_of c.args.place) c.args.work.options.now run_attempts (outcome_of_pass c.in-Ok.pass) in
     let same : g.S.BoxLists.asked c.print_box.new.self.stores.now ≡ g.S.BoxLists.asked c.args.stores.now.stores.now = grind (arith, common_steps) in
-    Goes-run g.S.BoxLists.noted c.args.work.options.now (place_of c.args.place) (outcome_of_pass c.in-Ok.pass) c.and.result (g.S.BoxLists.asked c.args.stores.now.stores.now)
+    Goes-run g.S.BoxLists.noted c.args.work.options.now (place_of c.args.place) (outcome_of_pass c.in-Ok.pass) None c.and.result (g.S.BoxLists.asked c.args.stores.now.stores.now)
     (g.S.BoxLists.asked c.tell_left_out.new.stores.stores.now)
     (c.tell_left_out.ensures.asks.1 ∙ c.print_answer.ensures.asks.1 ∙ c.in-Ok.ensures.asks.1 ∙ ap (λ l. g.S.BoxLists.noted l ran) same)
     (IsToldOf-behind (has_void c.in-Ok.pass) c.in_ok-verdict-in-Ok.verdict c.in_ok-tell_left_out-in-Ok.field-0 c.and.result c.and.ensures c.in_ok-verdict-in-Ok.ensures.tells
@@ -60,11 +62,12 @@ returns-in_ok-tell_left_out-in-Ok-clause-asked g c =
 -- or to a fault
 pub returns-in-Err-clause-asked : goal.returns-in-Err-clause-asked
 returns-in-Err-clause-asked g c =
-    let ran : Asked = Ran (place_of c.args.place) c.args.work.options.now run_attempts (outcome_of_box_fault c.in-Err.fault) in
+    let gave_up : Option Outcome = option_map outcome_of_giving c.in-Err.failure.giving_up in
+    let ran : List Asked = (run_course c.args.work.options.now (place_of c.args.place) (outcome_of_box_fault c.in-Err.failure.fault) gave_up).asked in
     let same : g.S.BoxLists.asked c.print_box.new.self.stores.now ≡ g.S.BoxLists.asked c.args.stores.now.stores.now = grind (arith, common_steps) in
-    SoFar-fault g.S.BoxLists.noted c.args.work.options.now (place_of c.args.place) c.in-Err.fault c.tell.result (g.S.BoxLists.asked c.args.stores.now.stores.now)
-    (g.S.BoxLists.asked c.tell.new.self.stores.now)
-    (c.tell.ensures.asks.1 ∙ c.in-Err.ensures.asks.1 ∙ ap (λ l. g.S.BoxLists.noted l ran) same) c.tell.ensures.verdict
+    SoFar-fault g.S.BoxLists.noted c.args.work.options.now (place_of c.args.place) c.in-Err.failure.fault gave_up c.tell_failure.result (g.S.BoxLists.asked c.args.stores.now.stores.now)
+    (g.S.BoxLists.asked c.tell_failure.new.self.stores.now)
+    (c.tell_failure.ensures.asks.1 ∙ c.in-Err.ensures.asks.1 ∙ ap (λ l. fold g.S.BoxLists.noted l ran) same) c.tell_failure.ensures.verdict
 
 -- without a fault it was done
 pub returns-in_ok-tell_left_out-in-Ok-clause-asks : goal.returns-in_ok-tell_left_out-in-Ok-clause-asks

@@ -1,4 +1,5 @@
 use Rattle.std.proofs.Common.{true, refl}
+use Rattle.mailcore.specs.declared.side.Side.TheVariants.{Far}
 use Rattle.rules.specs.declared.plan.Step.TheVariants as step
 use Rattle.sync_state.specs.declared.journal.Logged.TheVariants.{Done}
 use Rattle.run_states.specs.Conditions.{Underway}
@@ -7,7 +8,7 @@ use Rattle.runner.proofs.Stages.{done_underway, expunge_made, left_by, ready_arr
 use Rattle.runner.proofs.changing.remove.Goals as goal
 
 pub expunge-requires : goal.expunge-requires
-expunge-requires g c = record { is_open = c.requires.1.0.boxes c.args.side }
+expunge-requires g c = record { far_open = c.requires.1.0.boxes Far; is_open = c.requires.1.0.boxes c.args.side }
 
 pub returns-in-Ok-clause-part : goal.returns-in-Ok-clause-part
 returns-in-Ok-clause-part g c =

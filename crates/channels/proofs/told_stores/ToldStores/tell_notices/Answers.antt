@@ -16,6 +16,18 @@ loop-notice-preserved-in_ok-tell_notice g c = record {
   going = grind (arith, common_steps);
 }
 
+pub loop-notice-preserved-in_ok-tell_notice-2 : goal.loop-notice-preserved-in_ok-tell_notice-2
+loop-notice-preserved-in_ok-tell_notice-2 g c = record {
+  next = tt;
+  ends = tt;
+  stores = grind (arith, common_steps);
+  asked = grind (arith, common_steps);
+  out = grind (arith, common_steps);
+  err = grind (arith, common_steps);
+  notices = HasNotices-more _ _ _ c.loop-notice.invariant.notices c.in_ok-tell_notice.ensures.notices;
+  going = grind (arith, common_steps);
+}
+
 pub loop-notice-preserved : goal.loop-notice-preserved
 loop-notice-preserved g c = record {
   next = tt;

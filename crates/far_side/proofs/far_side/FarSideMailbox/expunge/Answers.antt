@@ -1,6 +1,5 @@
 use Rattle.std.proofs.Common.{[], ◌∷◌}
 use Rattle.std.proofs.lemmas.Bool.{false≢true}
-use Rattle.mailcore.specs.declared.side.Side.TheVariants.{Far}
 use Rattle.imap_session.specs.NamedMessages.{swept}
 use Rattle.imap_client.specs.Calls.{each_one}
 use Rattle.mailbox.specs.Operations.{removed}
@@ -48,5 +47,5 @@ returns-clause-call g c =
       still = said.same.3;
       counts = said.counts;
     } in
-    rw c.told_by.ensures (turns k g.met.L.Link.sound 1 (swept (each_one (c.args.uid ∷ []))) (removed Far c.args.uid) c.expunge.result said.ends
+    rw c.told_by.ensures (turns k g.met.L.Link.sound 1 (swept (each_one (c.args.uid ∷ []))) (removed c.args.uid) c.expunge.result said.ends
     (λ x. swept_same s.account.mailbox.items x c.args.uid) (removed_seen s.far.keywords c.args.uid) said.outcome)

@@ -2,8 +2,12 @@ use Rattle.std.proofs.Common.{◌≡◌, arith}
 use Rattle.mailcore.specs.KeywordNames.{kept}
 use Rattle.outside.specs.declared.outside.Carried.TheVariants.{Absent}
 use Rattle.std.proofs.lemmas.Result.{err_from_is_err_and}
-use Rattle.guarded.proofs.Again.{asked_again, not_listed, stops_again}
+use Rattle.guarded.proofs.Again.{asked_again, not_listed, stops_again, stops_ask}
 use Rattle.guarded.proofs.guarded_outside.GuardedOutsideOutside.carry.Goals as goal
+
+pub returns-then-not-may_change-clause-call : goal.returns-then-not-may_change-clause-call
+returns-then-not-may_change-clause-call g c =
+    stops_ask _ g.O.Outside.ours g.O.Outside.alone c.args.direction c.args.uid (kept (g.O.Outside.keywords c.args.self.now.outside) c.args.flags) c.args.mark _ _ _ c.stop.ensures.fault c.stop.ensures.stopped
 
 pub returns-in_err-listing-clause-call : goal.returns-in_err-listing-clause-call
 returns-in_err-listing-clause-call g c =
@@ -30,4 +34,4 @@ returns-then-is_listed-clause-call g c =
     stops_again _ _ _ _ g.O.Outside.ours g.O.Outside.alone c.args.direction c.args.uid (kept (g.O.Outside.keywords c.args.self.now.outside) c.args.flags) c.args.mark _ _ _ _ _ _ _ _ _
     c.in_ok-carried.ensures.call c.in-Absent-Pull.is-0 c.in_ok-listing.ensures.was_honest c.in_ok-listing.ensures.call
     c.in_ok-carried-2.ensures.was_honest (rw (c.in_ok-listing.ensures.keywords, c.in_ok-carried.ensures.keywords) at c.in_ok-carried-2.ensures.call) is_absent
-    c.stop.ensures.was_honest c.stop.ensures.fault c.stop.ensures.stopped
+    c.stop-then-is_listed.ensures.was_honest c.stop-then-is_listed.ensures.fault c.stop-then-is_listed.ensures.stopped

@@ -17,9 +17,9 @@ returns-clause-call g c =
     let m = c.args.self.now in
     let new = c.expunge.new.self in
     ends _ Never _ _ (near_of m.store m.waiting.items) m.condition tt (near_of new m.waiting.items) c.begin.new.self c.end.new.self c.end.result
-    c.requires.whole c.in_ok-stops.ensures.same (turned m.store new m.waiting.items (removed g.K.Kind.of c.args.uid) (rw c.side.ensures at c.expunge.ensures.now)) c.end.ensures.ends
+    c.requires.whole c.in_ok-stops.ensures.same (turned m.store new m.waiting.items (removed c.args.uid) c.expunge.ensures.now) c.end.ensures.ends
 
 pub invariant_of-self-2-clause-within : goal.invariant_of-self-2-clause-within
 invariant_of-self-2-clause-within g c =
     let m = c.args.self.now in
-    same_within m.keywords _ (store_of c.expunge.new.self) c.expunge.ensures.now (left_within m.keywords c.side.result c.args.uid (store_of m.store) m.within)
+    same_within m.keywords _ (store_of c.expunge.new.self) c.expunge.ensures.now (left_within m.keywords c.args.uid (store_of m.store) m.within)

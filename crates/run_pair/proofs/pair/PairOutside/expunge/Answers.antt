@@ -24,7 +24,7 @@ returns-in-Far g c =
     let b = c.expunge-answer in
     let e = c.end_naming in
     let whole = sym c.is_broken.ensures ∙ c.if-is_broken.false in
-    let ends = far_ends p (turning (device_of p) c.args.uid (removed side.Far c.args.uid) (removal_changes_one side.Far c.args.uid) side.Far) b.new.self e.new.self b.result e.result whole e.ensures.same e.ensures.now (rw p.far_is at b.ensures.call) in
+    let ends = far_ends p (turning (device_of p) c.args.uid (removed c.args.uid) (removal_changes_one c.args.uid) side.Far) b.new.self e.new.self b.result e.result whole e.ensures.same e.ensures.now (rw p.far_is at b.ensures.call) in
     record {
       was_honest = λ h. (b.ensures.was_honest h.0, h.1, h.2);
       keywords = b.ensures.keywords;
@@ -46,7 +46,7 @@ returns-in-Near g c =
     let b = c.expunge-answer-in-Near in
     let e = c.end_naming-in-Near in
     let whole = sym c.is_broken.ensures ∙ c.if-is_broken.false in
-    let ends = near_ends p (turning (device_of p) c.args.uid (removed side.Near c.args.uid) (removal_changes_one side.Near c.args.uid) side.Near) b.new.self e.new.self b.result e.result whole e.ensures.same e.ensures.now (rw p.near_is at b.ensures.call) in
+    let ends = near_ends p (turning (device_of p) c.args.uid (removed c.args.uid) (removal_changes_one c.args.uid) side.Near) b.new.self e.new.self b.result e.result whole e.ensures.same e.ensures.now (rw p.near_is at b.ensures.call) in
     record {
       was_honest = λ h. (h.0, b.ensures.was_honest h.1, h.2);
       keywords = refl;

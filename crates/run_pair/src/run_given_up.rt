@@ -1,0 +1,51 @@
+//! A run is given up after a sync of the near mailbox.
+
+ghost use Rattle.std.specs.Prelude.{◌≡◌, ◌⊎◌, ◌<◌, true, false, OnOk, IfErr, IsErrOf};
+ghost use Rattle.std.specs.List.Sorted.{IsNonDecreasing};
+ghost use Rattle.mailcore.specs.declared.side.Side.TheVariants as sides;
+ghost use Rattle.book.specs.GivingUp.{GivesUpHalf, GivesUpTo};
+ghost use Rattle.mailbox.specs.Arrivals.{Arrives};
+ghost use Rattle.mailbox.specs.Calls.{HasCause};
+ghost use Rattle.outside.specs.Calls.{FromBook};
+ghost use Rattle.run_pair.specs.PartCalls.{PartChanges};
+ghost use Rattle.run_pair.specs.BookParts.{files_of, kept_of, standing_of};
+ghost use Rattle.run_pair.specs.Kept.{AreGivenUp, IsHeld, OfKept, TakesGivingUp};
+
+use crate::book_part::BookPart;
+use crate::tally::told;
+use book::shelf::Shelf;
+use mailbox::mailbox::Mailbox;
+use mailcore::side::Side;
+use outside::fault::OutsideFault;
+
+/// Gives the plan up, after a sync of the near mailbox: no entry of a copy may outlive it.
+pub(crate) fn give_up_synced<N: Mailbox, S: Shelf + Drop>(
+    near: &mut N,
+    book: &mut BookPart<S>,
+    lost: &[u32],
+) -> Result<(), OutsideFault>
+    requires side { N.side ≡ sides.Near }
+    requires whole { (N.seen near.old).is_broken ≡ false }
+    requires ready { (standing_of book.old).is_ready ≡ true }
+    requires rising { IsNonDecreasing lost.now }
+    requires takes { TakesGivingUp (kept_of book.old) }
+    ensures was_honest { N.honest near.new → N.honest near.old }
+    ensures keywords { N.keywords near.new ≡ N.keywords near.old }
+    ensures open { N.is_open near.new ≡ N.is_open near.old }
+    ensures synced { N.is_open near.old ≡ true → (book.new ≡ book.old) ⊎ (N.is_synced near.new ≡ true) }
+    ensures whole { OnOk result ((N.seen near.new).is_broken ≡ false) }
+    ensures ready { OnOk result ((standing_of book.new).is_ready ≡ true) }
+    ensures kept { OnOk result (AreGivenUp lost.now (kept_of book.old) (kept_of book.new)) }
+    ensures held { OnOk result (S.is_honest ≡ true → IsHeld (kept_of book.new) (files_of book.new)) }
+    ensures told { IfErr result FromBook }
+    ensures arrives { N.honest near.new → Arrives sides.Near N.ours N.alone (N.seen near.old).stored (N.seen near.new).stored }
+    ensures cause { IsErrOf result OutsideFault.Stopped → HasCause (N.ended near.old near.new) (N.seen near.old) (N.seen near.new)
+        ⊎ ((standing_of book.old).stops < (standing_of book.new).stops) }
+    ensures part { N.honest near.new → PartChanges (S.is_honest ≡ true) (λ _. OfKept (GivesUpTo lost.now) (kept_of book.old))
+        (OfKept (GivesUpHalf lost.now) (kept_of book.old)) (files_of book.old) (files_of book.new) result }
+{
+    match near.sync() {
+        Ok(()) => book.give_up(lost),
+        Err(fault) => Err(told(Side::Near, fault)),
+    }
+}

@@ -1,0 +1,64 @@
+use Rattle.std.proofs.Common.{◌≡◌, ◌∙◌, subst, true, Option}
+use Rattle.std.proofs.lemmas.Result.{err_from_is_err_and}
+use Rattle.outside.specs.Opened.{Opened}
+use Rattle.runner.specs.GivingUp.{LeavesRead}
+use Rattle.runner.proofs.GivingUp.{boxes_next, read_done, read_left, read_pending, ready_going, ready_number}
+use Rattle.runner.proofs.PartCalls.{left_after, left_told, passed_after, passed_weaker}
+use Rattle.runner.proofs.StepParts.{calls_told, unrefused_told}
+use Rattle.runner.proofs.give_up.leave_plan.Goals as goal
+
+pub finish_log-requires : goal.finish_log-requires
+finish_log-requires g c = let counted = c.in_ok-get_ready.ensures.counted in record { going = rw c.in_ok-get_ready.ensures.opened (ready_going (g.O.Outside.opened c.args.outside.now) c.requires.plan); whole = counted.is_whole }
+
+pub returns-in_err-get_ready-clause-gives_up : goal.returns-in_err-get_ready-clause-gives_up
+returns-in_err-get_ready-clause-gives_up g c = λ honest held.
+    let e = err_from_is_err_and c.from_residual.result c.from_residual.ensures.1 in
+    rw e.1 (read_pending g.O.Outside.ours g.O.Outside.alone (g.O.Outside.opened c.args.outside.now) (g.O.Outside.seen c.args.outside.now).device (g.O.Outside.seen c.get_ready.new.outside).device _
+    (c.in_err-get_ready.ensures.left honest held))
+
+pub returns-in_err-get_ready-clause-counted : goal.returns-in_err-get_ready-clause-counted
+returns-in_err-get_ready-clause-counted g c =
+    let e = err_from_is_err_and c.from_residual.result c.from_residual.ensures.1 in
+    rw (e.1, e.2) (left_told _ _ _ _ _ _ _ _ (unrefused_told _ _ (λ step n. n)) c.in_err-get_ready.ensures.counted)
+
+pub returns-in-Ok-clause-gives_up : goal.returns-in-Ok-clause-gives_up
+returns-in-Ok-clause-gives_up g c = λ honest held.
+    let opened = g.O.Outside.opened c.args.outside.now in
+    let d = (g.O.Outside.seen c.args.outside.now).device in
+    let m = (g.O.Outside.seen c.get_ready.new.outside).device in
+    let last = (g.O.Outside.seen c.finish_log.new.outside).device in
+    let h = c.finish_log.ensures.was_honest honest in
+    let held_now = c.in_ok-get_ready.ensures.held h held in
+    read_done g.O.Outside.ours g.O.Outside.alone opened d m last true (c.get_ready.ensures.boxes h) (c.in_ok-get_ready.ensures.same h) (c.finish_log.ensures.boxes honest)
+    (rw c.in_ok-get_ready.ensures.opened at (c.in-Ok.ensures.gives_up honest held_now))
+
+pub returns-in-Err-clause-gives_up : goal.returns-in-Err-clause-gives_up
+returns-in-Err-clause-gives_up g c = λ honest held.
+    let opened = g.O.Outside.opened c.args.outside.now in
+    let d = (g.O.Outside.seen c.args.outside.now).device in
+    let m = (g.O.Outside.seen c.get_ready.new.outside).device in
+    let last = (g.O.Outside.seen c.finish_log.new.outside).device in
+    let h = c.finish_log.ensures.was_honest honest in
+    let held_now = c.in_ok-get_ready.ensures.held h held in
+    read_left g.O.Outside.ours g.O.Outside.alone opened d m last c.in-Err.fault (c.get_ready.ensures.boxes h)
+    (rw c.in_ok-get_ready.ensures.opened at (c.in-Err.ensures.gives_up honest held_now))
+
+pub returns-in-Ok-clause-boxes : goal.returns-in-Ok-clause-boxes
+returns-in-Ok-clause-boxes g c = λ honest.
+    boxes_next g.O.Outside.ours g.O.Outside.alone _ (g.O.Outside.seen c.get_ready.new.outside).device _ (c.get_ready.ensures.boxes (c.finish_log.ensures.was_honest honest)) (c.finish_log.ensures.boxes honest)
+
+pub returns-in-Err-clause-boxes : goal.returns-in-Err-clause-boxes
+returns-in-Err-clause-boxes g c = λ honest.
+    boxes_next g.O.Outside.ours g.O.Outside.alone _ (g.O.Outside.seen c.get_ready.new.outside).device _ (c.get_ready.ensures.boxes (c.finish_log.ensures.was_honest honest)) (c.finish_log.ensures.boxes honest)
+
+pub returns-in-Ok-clause-counted : goal.returns-in-Ok-clause-counted
+returns-in-Ok-clause-counted g c =
+    let s1 = g.O.Outside.seen c.get_ready.new.outside in
+    passed_after _ _ _ _ _ _ _ _ s1 _ c.finish_log.ensures.was_honest c.in_ok-get_ready.ensures.counted c.in-Ok.ensures.counted
+
+pub returns-in-Err-clause-counted : goal.returns-in-Err-clause-counted
+returns-in-Err-clause-counted g c =
+    let s1 = g.O.Outside.seen c.get_ready.new.outside in
+    let number = ready_number (g.O.Outside.opened c.args.outside.now) in
+    left_after _ _ _ _ _ _ _ _ s1 _ c.finish_log.ensures.was_honest c.in_ok-get_ready.ensures.counted
+    (left_told _ _ _ _ _ _ _ _ (calls_told _ _ (λ step k. k ∙ number) tt) (rw c.in_ok-get_ready.ensures.opened at c.in-Err.ensures.counted))

@@ -1,0 +1,28 @@
+use Rattle.std.proofs.Common.{◌≡◌, ◌∙◌, ℕ, List, ap, sym}
+use Rattle.mailcore.specs.declared.listing.Item.{Item}
+use Rattle.mailcore.specs.declared.side.Side.TheVariants.{Near}
+use Rattle.mailcore.specs.Spared.{spares}
+use Rattle.rules.specs.Scene.{flags_at}
+use Rattle.runner.proofs.Fitness.{flags_sparing}
+use Rattle.runner.proofs.GivingUp.{all_read}
+use Rattle.runner.proofs.PartCalls.{left_call, line_of_box, passed_call}
+use Rattle.runner.proofs.half_entries.list_near.Goals as goal
+
+pub list_near-requires : goal.list_near-requires
+list_near-requires g c = record { is_open = c.requires.boxes Near }
+
+pub returns-in-Ok-clause-shows : goal.returns-in-Ok-clause-shows
+returns-in-Ok-clause-shows g c = λ honest uid. let w = c.in-Ok.ensures.call in let acts = w.acts in let e = acts.effect honest in let l = e.behind.1 in
+    rw e.behind.0 (ap (λ (is : List Item). flags_at is uid) l.items ∙ flags_sparing _ e.mid.near.store.messages uid)
+
+pub returns-in-Ok-clause-kept : goal.returns-in-Ok-clause-kept
+returns-in-Ok-clause-kept g c = λ honest. let w = c.in-Ok.ensures.call in let acts = w.acts in let e = acts.effect honest in all_read g.O.Outside.ours g.O.Outside.alone _ e.mid _ e.before e.behind.0
+
+pub returns-clause-kept : goal.returns-clause-kept
+returns-clause-kept g c = λ honest. let w = c.in-Err.ensures.call in let acts = w.acts in let l = acts.left honest in all_read g.O.Outside.ours g.O.Outside.alone _ l.mid _ l.before l.behind
+
+pub returns-in-Ok-clause-counted : goal.returns-in-Ok-clause-counted
+returns-in-Ok-clause-counted g c = passed_call _ _ _ _ _ _ _ _ _ _ _ c.in-Ok.ensures.call (λ m at a own. at)
+
+pub returns-clause-counted : goal.returns-clause-counted
+returns-clause-counted g c = rw c.call_fault.ensures (left_call _ _ _ _ _ _ _ _ _ _ _ tt c.in-Err.ensures.call (line_of_box _) (λ m at a own told. absurd at))

@@ -1,0 +1,186 @@
+-- What giving up a plan leaves of both mailboxes and of the files.
+use Rattle.std.specs.Prelude.{◌≡◌, ◌≤◌, ◌⊎◌, ◌+◌, ◌++◌, ℕ, Bool, true, List, length, Option, None, Some, Result, Ok, Err}
+use Rattle.std.specs.Option.{option_map}
+use Rattle.mailcore.specs.declared.listing.Item.{Item}
+use Rattle.mailcore.specs.declared.mailbox.Message.{Message}
+use Rattle.mailcore.specs.declared.side.Side.TheVariants.{Far}
+use Rattle.rules.specs.declared.plan.Plan.{Plan}
+use Rattle.rules.specs.declared.plan.Step.{Step}
+use Rattle.rules.specs.declared.state.SyncState.{SyncState}
+use Rattle.sync_state.specs.declared.journal.Journal.{Journal}
+use Rattle.sync_state.specs.declared.journal.Logged.TheVariants.{Copied}
+use Rattle.sync_state.specs.declared.journal.WrittenJournal.{WrittenJournal}
+use Rattle.book.specs.declared.book.Pending.{Pending}
+use Rattle.book.specs.declared.book.Pending.TheVariants.{Missing, Planned}
+use Rattle.book.specs.Books.{Holds}
+use Rattle.book.specs.BookLogs.{with_logged}
+use Rattle.book.specs.GivingUp.{GivesUp}
+use Rattle.outside.specs.Calls.{Seen}
+use Rattle.outside.specs.Devices.{Device}
+use Rattle.outside.specs.GoingOn.{Continues}
+use Rattle.outside.specs.Opened.{Opened, journal_of, state_of}
+use Rattle.run_states.specs.Openings.{IsIdle}
+use Rattle.run_states.specs.Plans.{next_of}
+use Rattle.runner.specs.declared.fault.RunFault.{RunFault}
+use Rattle.runner.specs.Faults.{Reasons, TellsUnread, because, or_refused, or_unread}
+use Rattle.runner.specs.Finding.{FindsSame, copy_at}
+use Rattle.runner.specs.HalfEntries.{lost_among, lost_at, removes_some}
+use Rattle.runner.specs.Parts.{PartOr, Unstepped}
+use Rattle.runner.specs.Validities.{TellsChanged}
+
+-- Both mailboxes are as they were, but for what others added: no call has named a message, and under a mark that nobody else writes the
+-- same copies stand there.
+pub record KeepsBoxes (ours : List ℕ → Bool) (alone : Bool) (d d' : Device) : Type 0 where
+  pub far_validity : d'.far.validity ≡ d.far.validity
+  pub far_next : d.far.next ≤ d'.far.next
+  pub far_added : List Message
+  pub far : d'.far.messages ≡ d.far.messages ++ far_added
+  pub near : d'.near.store ≡ d.near.store
+  pub named : d'.named ≡ d.named
+  pub copies : FindsSame ours d d'
+  pub nobody : alone ≡ true → (d'.far ≡ d.far) × (d'.near ≡ d.near)
+
+-- and the files are as they were
+abbrev pub KeepsAll : (ours : List ℕ → Bool) → (alone : Bool) → (d d' : Device) → Type 0
+KeepsAll ours alone d d' = KeepsBoxes ours alone d d' × (d'.files ≡ d.files)
+
+-- ---- the copy behind the log
+
+-- the copy that the next step may have made: it bears its mark, under a UID that was given since the plan was made
+abbrev pub copy_of_next : Plan → Option Step → Device → Option ℕ
+copy_of_next plan None d = None
+copy_of_next plan (Some s) d = copy_at plan s d
+
+abbrev pub next_copy : Journal → Device → Option ℕ
+next_copy j d = copy_of_next j.plan (next_of j.plan.steps j.log) d
+
+-- the journal, with that copy logged if it is there
+abbrev pub with_found : Journal → Option ℕ → Journal
+with_found j None = j
+with_found j (Some copy) = with_logged j (Copied copy)
+
+-- ---- what the files hold
+
+-- the state that was read, and its plan with at least the steps that were logged
+pub record StillPending (opened : Option Opened) (d : Device) : Type 0 where
+  pub state : SyncState
+  pub journal : Journal
+  pub written : WrittenJournal
+  pub state_is : state_of opened ≡ Some state
+  pub journal_is : journal_of opened ≡ Some journal
+  pub goes_on : Continues journal written.journal
+  pub held : Holds d.files state (Planned written)
+
+-- the state that is left of the plan that was read, with these far messages lost, and this journal
+pub record HoldsLeftOf (lost : List ℕ) (opened : Option Opened) (pending : Pending) (d : Device) : Type 0 where
+  pub before : SyncState
+  pub journal : Journal
+  pub state : SyncState
+  pub before_is : state_of opened ≡ Some before
+  pub journal_is : journal_of opened ≡ Some journal
+  pub left : GivesUp journal lost before state
+  pub held : Holds d.files state pending
+
+-- the same, with those far messages lost that the plan has removed, or found removed, and whose near ones were undeleted, by both mailboxes as
+-- they were looked at
+pub record HoldsLeft (ours : List ℕ → Bool) (alone : Bool) (opened : Option Opened) (pending : Pending) (d d' : Device) : Type 0 where
+  pub before : SyncState
+  pub journal : Journal
+  pub looked : Device
+  pub boxes : KeepsBoxes ours alone d looked
+  pub state : SyncState
+  pub before_is : state_of opened ≡ Some before
+  pub journal_is : journal_of opened ≡ Some journal
+  pub left : GivesUp journal (lost_at journal before looked) before state
+  pub held : Holds d'.files state pending
+
+-- The state that is left of this plan, of whose next step a copy was sought: it is logged if it was there. The device on which it was sought
+-- has the same copies as this one. Lost are the far messages that the plan has removed, or found removed, and whose near ones were undeleted, by
+-- both mailboxes as they were looked at.
+pub record IsGivenUp (ours : List ℕ → Bool) (alone : Bool) (before : SyncState) (j : Journal) (d d' : Device) (pending : Pending) : Type 0 where
+  pub sought : Device
+  pub same : FindsSame ours d sought
+  pub looked : Device
+  pub boxes : KeepsBoxes ours alone d looked
+  pub state : SyncState
+  pub left : GivesUp (with_found j (next_copy j sought)) (lost_at (with_found j (next_copy j sought)) before looked) before state
+  pub held : Holds d'.files state pending
+
+-- the plan is pending still, with at least the steps that were logged
+pub record IsPending (before : SyncState) (j : Journal) (d : Device) : Type 0 where
+  pub written : WrittenJournal
+  pub goes_on : Continues j written.journal
+  pub held : Holds d.files before (Planned written)
+
+-- What giving up leaves: if it succeeds, the state that is left, no journal, and mailboxes with the UIDVALIDITYs of the plan. Else the plan
+-- is pending still, or given up, with a journal that is useless, or none.
+abbrev pub GivesUpSo : {T : Type 0} → (ours : List ℕ → Bool) → (alone : Bool) → (before : SyncState) → Journal → (d d' : Device) → Result T RunFault → Type 0
+GivesUpSo ours alone before j d d' (Ok answer) =
+    IsGivenUp ours alone before j d d' Missing × (j.plan.far.validity ≡ d'.far.validity) × (j.plan.near.validity ≡ d'.near.store.validity)
+GivesUpSo ours alone before j d d' (Err fault) = IsPending before j d' ⊎ ((pending : Pending) × IsIdle pending × IsGivenUp ours alone before j d d' pending)
+
+-- the same, by what was read
+pub record IsGivenUpRead (ours : List ℕ → Bool) (alone : Bool) (opened : Option Opened) (d d' : Device) (pending : Pending) : Type 0 where
+  pub before : SyncState
+  pub journal : Journal
+  pub before_is : state_of opened ≡ Some before
+  pub journal_is : journal_of opened ≡ Some journal
+  pub given_up : IsGivenUp ours alone before journal d d' pending
+
+abbrev pub LeavesRead : {T : Type 0} → (ours : List ℕ → Bool) → (alone : Bool) → Option Opened → (d d' : Device) → Result T RunFault → Type 0
+LeavesRead ours alone opened d d' (Ok answer) = IsGivenUpRead ours alone opened d d' Missing
+LeavesRead ours alone opened d d' (Err fault) = StillPending opened d' ⊎ ((pending : Pending) × IsIdle pending × IsGivenUpRead ours alone opened d d' pending)
+
+pub record GivesUpRead {T : Type 0} (ours : List ℕ → Bool) (alone : Bool) (opened : Option Opened) (d d' : Device) (result : Result T RunFault) : Type 0 where
+  pub before : SyncState
+  pub journal : Journal
+  pub before_is : state_of opened ≡ Some before
+  pub journal_is : journal_of opened ≡ Some journal
+  pub gives_up : GivesUpSo ours alone before journal d d' result
+
+-- what was read, with the copy of the next step, which was sought on a device that has the same copies as this one
+pub record NotesCopy (ours : List ℕ → Bool) (opened now : Option Opened) (d : Device) : Type 0 where
+  pub sought : Device
+  pub same : FindsSame ours d sought
+  pub state : state_of now ≡ state_of opened
+  pub journal : journal_of now ≡ option_map (λ j. with_found j (next_copy j sought)) (journal_of opened)
+
+-- ---- which far messages are lost
+
+-- by what was read, and by these listings
+abbrev pub LosesListed : Option Opened → (far near : List Item) → (lost : List ℕ) → Type 0
+LosesListed opened far near lost = (s : SyncState) (j : Journal) → state_of opened ≡ Some s → journal_of opened ≡ Some j → lost ≡ lost_among j Far far near s.entries
+
+-- by what was read, and by both mailboxes as they were looked at
+pub record LosesBy (ours : List ℕ → Bool) (alone : Bool) (opened : Option Opened) (d : Device) (lost : List ℕ) : Type 0 where
+  pub looked : Device
+  pub boxes : KeepsBoxes ours alone d looked
+  pub lost_is : (s : SyncState) (j : Journal) → state_of opened ≡ Some s → journal_of opened ≡ Some j → lost ≡ lost_at j s looked
+
+-- whether the plan that was read has removed a message, or found one removed
+abbrev pub RemovesSome : Option Opened → Bool → Type 0
+RemovesSome opened removes = (j : Journal) → journal_of opened ≡ Some j → removes ≡ removes_some j
+
+-- ---- why giving up may tell a fault, and what it counts
+
+abbrev pub Nowhere : Device → Type 0
+Nowhere d = ⊥
+
+-- a part of giving up: it makes no copy, counts its stop, and has a cause for its fault; where it leads is said by other clauses
+abbrev pub Counted : {T : Type 0} → Reasons → (honest : Type 0) → Seen → Seen → Result T RunFault → Type 0
+Counted reasons honest old new result = PartOr reasons honest Nowhere Nowhere (λ _. 0) (λ _. Nowhere) old new result
+
+-- a refusal may be told of the step of this number
+abbrev pub InLook : (number : ℕ) → Reasons
+InLook number = or_refused (λ step. step ≡ number) Unstepped
+
+-- a refusal may be told of the next step of the plan that the files held
+abbrev pub TellsNext : (honest : Type 0) → Device → (step : ℕ) → Type 0
+TellsNext honest d step = honest → (s : SyncState) (w : WrittenJournal) → Holds d.files s (Planned w) → step ≡ length w.journal.log + 1
+
+-- Why giving up may tell a fault: `ValidityChanged` comes only where that side's UIDVALIDITY is not the plan's, far before near, and nothing
+-- has changed then; a line of the state or the journal only where the files that stand there hold no book, but line 0 of the state, which the
+-- outside has told last, of a copy whose UID is taken; and a refusal only of the step after the logged ones, or of a call by which no step is
+-- performed.
+abbrev pub giving_up_reasons : (honest : Type 0) → (alone : Bool) → (old new : Device) → Reasons
+giving_up_reasons honest alone old new = or_unread (TellsUnread honest new) (or_refused (TellsNext honest old) (because (TellsChanged honest alone old new) ⊥))

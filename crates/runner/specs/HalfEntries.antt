@@ -1,0 +1,96 @@
+-- Which entries of a plan that is given up lose a side: the plan has removed the message of that side, or found it removed, and the other one
+-- was undeleted since. A plan that is made anew would take such an entry for one whose message somebody removed.
+use Rattle.std.specs.Prelude.{◌&&◌, ◌||◌, ◌+◌, ◌==◌, ℕ, Bool, false, true, not, List, filter, is_none, length, map, take, Option, None, Some}
+use Rattle.std.specs.List.{list_any}
+use Rattle.mailcore.specs.declared.listing.Item.{Item}
+use Rattle.mailcore.specs.declared.side.Side.{Side}
+use Rattle.mailcore.specs.declared.side.Side.TheVariants.{Far, Near}
+use Rattle.mailcore.specs.FlagSet.{DELETED, has}
+use Rattle.mailcore.specs.Listed.{item_of}
+use Rattle.mailcore.specs.Sides.{other, source}
+use Rattle.rules.specs.declared.entry.Entry.{Entry}
+use Rattle.rules.specs.declared.plan.Step.{Step}
+use Rattle.rules.specs.declared.plan.Step.TheVariants as step
+use Rattle.rules.specs.declared.state.SyncState.{SyncState}
+use Rattle.rules.specs.Entries.{is_full, uid_of}
+use Rattle.rules.specs.Scene.{flags_at}
+use Rattle.sync_state.specs.declared.journal.Journal.{Journal}
+use Rattle.outside.specs.Devices.{Device}
+
+-- ---- what the plan has removed, or found removed
+
+abbrev pub logged : Journal → List Step
+logged j = take (length j.log) j.plan.steps
+
+-- the steps that are logged, and the one after them, which may be done
+abbrev pub tried : Journal → List Step
+tried j = take (length j.log + 1) j.plan.steps
+
+abbrev pub is_side : Side → Side → Bool
+is_side Far Far = true
+is_side Far Near = false
+is_side Near Far = false
+is_side Near Near = true
+
+abbrev pub is_expunge : Step → Bool
+is_expunge (step.New direction uid flags mark) = false
+is_expunge (step.Gone direction far near) = false
+is_expunge (step.Flags direction far near set cleared) = false
+is_expunge (step.Expunge side uid) = true
+
+abbrev pub is_gone : Step → Bool
+is_gone (step.New direction uid flags mark) = false
+is_gone (step.Gone direction far near) = true
+is_gone (step.Flags direction far near set cleared) = false
+is_gone (step.Expunge side uid) = false
+
+-- the step removes the entry's message of this side
+abbrev pub removes : Side → Entry → Step → Bool
+removes side e (step.New direction uid flags mark) = false
+removes side e (step.Gone direction far near) = false
+removes side e (step.Flags direction far near set cleared) = false
+removes side e (step.Expunge at uid) = is_side at side && uid == uid_of side e
+
+-- the step was called for since the entry's message of this side had gone
+abbrev pub tells_gone : Side → Entry → Step → Bool
+tells_gone side e (step.New direction uid flags mark) = false
+tells_gone side e (step.Gone direction far near) = is_side (source direction) side && far == uid_of Far e && near == uid_of Near e
+tells_gone side e (step.Flags direction far near set cleared) = false
+tells_gone side e (step.Expunge at uid) = false
+
+-- The plan has removed the entry's message of this side, or found it removed. A step after the log that tells it gone does not count: where it
+-- is not done, the other message stays as it was, and the next plan calls for it again.
+abbrev pub has_removed : Journal → Side → Entry → Bool
+has_removed j side e = list_any (removes side e) (tried j) || list_any (tells_gone side e) (logged j)
+
+-- the plan has removed a message, or found one removed
+abbrev pub removes_some : Journal → Bool
+removes_some j = list_any is_expunge (tried j) || list_any is_gone (logged j)
+
+-- ---- which entries lose a side
+
+-- a message that is listed is not marked as deleted
+abbrev pub lacks_mark : Option ℕ → Bool
+lacks_mark None = false
+lacks_mark (Some flags) = not (has flags DELETED)
+
+-- The plan has removed the entry's message of this side, or found it removed. It is not among what is listed of its side, and the other one is
+-- among what is listed of the other side, and is not marked as deleted.
+abbrev pub loses : Journal → (side : Side) → (own others : List Item) → Entry → Bool
+loses j side own others e = is_full e && is_none (flags_at own (uid_of side e)) && lacks_mark (flags_at others (uid_of (other side) e)) && has_removed j side e
+
+-- the far UIDs of those that lose this side
+abbrev pub lost_among : Journal → (side : Side) → (own others : List Item) → List Entry → List ℕ
+lost_among j side own others entries = map (uid_of Far) (filter (loses j side own others) entries)
+
+-- ---- by both mailboxes
+
+abbrev pub far_items : Device → List Item
+far_items d = map (item_of Far) d.far.messages
+
+abbrev pub near_items : Device → List Item
+near_items d = map (item_of Near) d.near.store.messages
+
+-- those that lose their far side, of a state and a plan, by what both mailboxes of a device hold
+abbrev pub lost_at : Journal → SyncState → Device → List ℕ
+lost_at j s d = lost_among j Far (far_items d) (near_items d) s.entries

@@ -1,0 +1,373 @@
+//! A plan that has become wrong is given up: neither mailbox is changed, and what it has copied is recorded.
+
+ghost use Rattle.std.specs.Prelude.{◌≡◌, ◌⊎◌, false, is_some, true, Some, OnOk, OnErr, IfOk};
+ghost use Rattle.std.specs.List.Sorted.{IsNonDecreasing};
+ghost use Rattle.mailcore.specs.Operations.{marked_from};
+ghost use Rattle.rules.specs.declared.state.SyncState.{SyncState as State};
+ghost use Rattle.sync_state.specs.declared.journal.WrittenJournal.{WrittenJournal};
+ghost use Rattle.sync_state.specs.declared.journal.Logged.TheVariants.{Copied};
+ghost use Rattle.book.specs.declared.book.Pending.{Pending};
+ghost use Rattle.book.specs.declared.book.Pending.TheVariants.{Missing, Planned};
+ghost use Rattle.book.specs.Books.{Holds, mended};
+ghost use Rattle.book.specs.BookLogs.{logged_more};
+ghost use Rattle.outside.specs.Devices.{box};
+ghost use Rattle.outside.specs.Opened.{IsBook, IsHeld, journal_in, turned, with_box};
+ghost use Rattle.run_states.specs.Openings.{IsIdle};
+ghost use Rattle.run_states.specs.Plans.{first_uid as first_of};
+ghost use Rattle.runner.specs.Before.{HasPlan};
+ghost use Rattle.runner.specs.Faults.{TellsUnread, because, or_refused, or_unread};
+ghost use Rattle.runner.specs.GivingUp.{Counted, GivesUpRead, GivesUpSo, HoldsLeft, HoldsLeftOf, InLook, KeepsAll, KeepsBoxes, LeavesRead, NotesCopy, StillPending, giving_up_reasons};
+ghost use Rattle.runner.specs.Going.{AreOpen, CopiesUnder, FitsNext, IsGoing, next_at, number_at, plan_at};
+ghost use Rattle.runner.specs.Parts.{IsStuck, Unstepped};
+ghost use Rattle.runner.specs.Validities.{BothSame, HasSame, IsKept, TellsChange, TellsOther};
+
+use crate::fault::{RunFault, call_fault, step_fault};
+use crate::half_entries::lost_far;
+use crate::opening::recorded_validity;
+use crate::pending::{first_uid, next_step};
+use mailcore::side::{Direction, Side};
+use mailcore::tuid::Tuid;
+use mailcore::uid::Uid;
+use outside::outside::Outside;
+use rules::plan::Step;
+use std::alloc::Global;
+
+/// Reads the shelf.
+fn read_book<O: Outside>(outside: &mut O) -> Result<(), RunFault>
+    ensures was_honest { O.honest outside.new → O.honest outside.old }
+    ensures keywords { O.keywords outside.new ≡ O.keywords outside.old }
+    ensures book { OnOk result (IsBook (O.opened outside.new)) }
+    ensures held { OnOk result (O.honest outside.new → IsHeld (O.opened outside.new) (O.seen outside.new).device) }
+    ensures kept { O.honest outside.new → KeepsAll O.ours O.alone (O.seen outside.old).device (O.seen outside.new).device }
+    ensures same { O.honest outside.new → IsKept O.alone (O.seen outside.old).device (O.seen outside.new).device }
+    ensures stuck { IsStuck (O.seen outside.old) (O.seen outside.new) result }
+    ensures counted { Counted (or_unread (TellsUnread (O.honest outside.new) (O.seen outside.new).device) Unstepped) (O.honest outside.new)
+        (O.seen outside.old) (O.seen outside.new) result }
+{
+    match outside.open_book() {
+        Ok(()) => Ok(()),
+        Err(fault) => Err(call_fault(fault)),
+    }
+}
+
+/// Opens the box of a side. `ValidityChanged`: its UIDVALIDITY is not the plan's.
+fn open_same<O: Outside>(outside: &mut O, side: Side) -> Result<(), RunFault>
+    requires plan { HasPlan (O.opened outside.old) }
+    ensures was_honest { O.honest outside.new → O.honest outside.old }
+    ensures keywords { O.keywords outside.new ≡ O.keywords outside.old }
+    ensures opened { OnOk result (O.opened outside.new ≡ with_box side (O.opened outside.old)) }
+    ensures same { OnOk result (O.honest outside.new → HasSame (O.opened outside.old) side (O.seen outside.new).device × IsKept O.alone
+        (O.seen outside.old).device (O.seen outside.new).device) }
+    ensures kept { O.honest outside.new → KeepsAll O.ours O.alone (O.seen outside.old).device (O.seen outside.new).device }
+    ensures counted { Counted (because (TellsOther (O.honest outside.new) O.alone (O.opened outside.old) side (O.seen outside.old).device
+        (O.seen outside.new).device) ⊥) (O.honest outside.new) (O.seen outside.old) (O.seen outside.new) result }
+{
+    let recorded = recorded_validity(outside, side);
+    match outside.open_box(side) {
+        Ok(validity) => match recorded {
+            Some(before) => {
+                if before == validity {
+                    Ok(())
+                } else {
+                    Err(RunFault::ValidityChanged(side))
+                }
+            }
+            None => Ok(()),
+        },
+        Err(fault) => Err(call_fault(fault)),
+    }
+}
+
+/// Takes a torn line off the journal, so that a copy can be logged after it.
+fn mend_plan<O: Outside>(outside: &mut O) -> Result<(), RunFault>
+    requires plan { HasPlan (O.opened outside.old) }
+    ensures was_honest { O.honest outside.new → O.honest outside.old }
+    ensures keywords { O.keywords outside.new ≡ O.keywords outside.old }
+    ensures opened { OnOk result (O.opened outside.new ≡ turned mended (O.opened outside.old)) }
+    ensures held { OnOk result (O.honest outside.new → IsHeld (O.opened outside.old) (O.seen outside.old).device
+        → IsHeld (O.opened outside.new) (O.seen outside.new).device) }
+    ensures left { OnErr result (O.honest outside.new → IsHeld (O.opened outside.old) (O.seen outside.old).device
+        → StillPending (O.opened outside.old) (O.seen outside.new).device) }
+    ensures boxes { O.honest outside.new → KeepsBoxes O.ours O.alone (O.seen outside.old).device (O.seen outside.new).device }
+    ensures counted { Counted Unstepped (O.honest outside.new) (O.seen outside.old) (O.seen outside.new) result }
+{
+    match outside.mend() {
+        Ok(()) => Ok(()),
+        Err(fault) => Err(call_fault(fault)),
+    }
+}
+
+/// Looks for the copy that the next step may have made.
+fn look<O: Outside>(
+    outside: &mut O,
+    number: usize,
+    side: Side,
+    mark: Tuid,
+) -> Result<Option<Uid>, RunFault>
+    requires going { IsGoing (O.opened outside.old) }
+    ensures was_honest { O.honest outside.new → O.honest outside.old }
+    ensures keywords { O.keywords outside.new ≡ O.keywords outside.old }
+    ensures opened { O.opened outside.new ≡ O.opened outside.old }
+    ensures found { IfOk result (λ found. O.honest outside.new
+        → found ≡ marked_from mark (first_of (plan_at (O.opened outside.old)) side) (box (O.seen outside.new).device side)) }
+    ensures kept { O.honest outside.new → KeepsAll O.ours O.alone (O.seen outside.old).device (O.seen outside.new).device }
+    ensures counted { Counted (InLook number) (O.honest outside.new) (O.seen outside.old) (O.seen outside.new) result }
+{
+    let from = first_uid(outside, side);
+    match outside.find_mark(side, mark, from) {
+        Ok(found) => Ok(found),
+        Err(fault) => Err(step_fault(fault, number)),
+    }
+}
+
+/// Logs the copy that the next step has made.
+fn log_copy<O: Outside>(outside: &mut O, number: usize, copy: Uid) -> Result<(), RunFault>
+    requires going { IsGoing (O.opened outside.old) }
+    requires number { number ≡ number_at (O.opened outside.old) }
+    requires fits { FitsNext (next_at (O.opened outside.old)) (Copied copy) }
+    ensures was_honest { O.honest outside.new → O.honest outside.old }
+    ensures keywords { O.keywords outside.new ≡ O.keywords outside.old }
+    ensures opened { OnOk result (O.opened outside.new ≡ turned (λ p. logged_more p (Copied copy)) (O.opened outside.old)) }
+    ensures held { OnOk result (O.honest outside.new → IsHeld (O.opened outside.old) (O.seen outside.old).device
+        → IsHeld (O.opened outside.new) (O.seen outside.new).device) }
+    ensures left { OnErr result (O.honest outside.new → IsHeld (O.opened outside.old) (O.seen outside.old).device
+        → StillPending (O.opened outside.old) (O.seen outside.new).device) }
+    ensures boxes { O.honest outside.new → KeepsBoxes O.ours O.alone (O.seen outside.old).device (O.seen outside.new).device }
+    ensures open { OnOk result (AreOpen (O.opened outside.new)) }
+    ensures counted { Counted (InLook number) (O.honest outside.new) (O.seen outside.old) (O.seen outside.new) result }
+{
+    match outside.done(number, Some(copy)) {
+        Ok(()) => Ok(()),
+        Err(fault) => Err(step_fault(fault, number)),
+    }
+}
+
+/// Looks for the copy that the next step may have made, and logs it if it is there.
+fn seek_and_log<O: Outside>(
+    outside: &mut O,
+    number: usize,
+    direction: Direction,
+    mark: Tuid,
+) -> Result<(), RunFault>
+    requires going { IsGoing (O.opened outside.old) }
+    requires number { number ≡ number_at (O.opened outside.old) }
+    requires next { CopiesUnder (O.opened outside.old) direction mark }
+    ensures was_honest { O.honest outside.new → O.honest outside.old }
+    ensures keywords { O.keywords outside.new ≡ O.keywords outside.old }
+    ensures plan { OnOk result (HasPlan (O.opened outside.new)) }
+    ensures notes { OnOk result (O.honest outside.new → NotesCopy O.ours (O.opened outside.old) (O.opened outside.new)
+        (O.seen outside.old).device) }
+    ensures held { OnOk result (O.honest outside.new → IsHeld (O.opened outside.old) (O.seen outside.old).device
+        → IsHeld (O.opened outside.new) (O.seen outside.new).device) }
+    ensures left { OnErr result (O.honest outside.new → IsHeld (O.opened outside.old) (O.seen outside.old).device
+        → StillPending (O.opened outside.old) (O.seen outside.new).device) }
+    ensures boxes { O.honest outside.new → KeepsBoxes O.ours O.alone (O.seen outside.old).device (O.seen outside.new).device }
+    ensures open { OnOk result (AreOpen (O.opened outside.new)) }
+    ensures counted { Counted (InLook number) (O.honest outside.new) (O.seen outside.old) (O.seen outside.new) result }
+{
+    match look(outside, number, direction.target(), mark)? {
+        Some(copy) => log_copy(outside, number, copy),
+        None => Ok(()),
+    }
+}
+
+/// Looks for the copy that this step, which is the next one, may have made, and logs it if it is there.
+fn note_step<O: Outside>(outside: &mut O, number: usize, step: Step) -> Result<(), RunFault>
+    requires going { IsGoing (O.opened outside.old) }
+    requires whole { (O.seen outside.old).is_broken ≡ false }
+    requires number { number ≡ number_at (O.opened outside.old) }
+    requires next { next_at (O.opened outside.old) ≡ Some step }
+    ensures was_honest { O.honest outside.new → O.honest outside.old }
+    ensures keywords { O.keywords outside.new ≡ O.keywords outside.old }
+    ensures plan { OnOk result (HasPlan (O.opened outside.new)) }
+    ensures notes { OnOk result (O.honest outside.new → NotesCopy O.ours (O.opened outside.old) (O.opened outside.new)
+        (O.seen outside.old).device) }
+    ensures held { OnOk result (O.honest outside.new → IsHeld (O.opened outside.old) (O.seen outside.old).device
+        → IsHeld (O.opened outside.new) (O.seen outside.new).device) }
+    ensures left { OnErr result (O.honest outside.new → IsHeld (O.opened outside.old) (O.seen outside.old).device
+        → StillPending (O.opened outside.old) (O.seen outside.new).device) }
+    ensures boxes { O.honest outside.new → KeepsBoxes O.ours O.alone (O.seen outside.old).device (O.seen outside.new).device }
+    ensures open { OnOk result (AreOpen (O.opened outside.new)) }
+    ensures counted { Counted (InLook number) (O.honest outside.new) (O.seen outside.old) (O.seen outside.new) result }
+{
+    match step {
+        Step::New {
+            direction,
+            mark,
+            ..
+        } => seek_and_log(outside, number, direction, mark),
+        Step::Gone { .. } => Ok(()),
+        Step::Flags { .. } => Ok(()),
+        Step::Expunge { .. } => Ok(()),
+    }
+}
+
+/// Looks for the copy that the step after the logged ones may have made, and logs it if it is there.
+fn note_copy<O: Outside>(outside: &mut O) -> Result<(), RunFault>
+    requires going { IsGoing (O.opened outside.old) }
+    requires whole { (O.seen outside.old).is_broken ≡ false }
+    ensures was_honest { O.honest outside.new → O.honest outside.old }
+    ensures keywords { O.keywords outside.new ≡ O.keywords outside.old }
+    ensures plan { OnOk result (HasPlan (O.opened outside.new)) }
+    ensures notes { OnOk result (O.honest outside.new → NotesCopy O.ours (O.opened outside.old) (O.opened outside.new)
+        (O.seen outside.old).device) }
+    ensures held { OnOk result (O.honest outside.new → IsHeld (O.opened outside.old) (O.seen outside.old).device
+        → IsHeld (O.opened outside.new) (O.seen outside.new).device) }
+    ensures left { OnErr result (O.honest outside.new → IsHeld (O.opened outside.old) (O.seen outside.old).device
+        → StillPending (O.opened outside.old) (O.seen outside.new).device) }
+    ensures boxes { O.honest outside.new → KeepsBoxes O.ours O.alone (O.seen outside.old).device (O.seen outside.new).device }
+    ensures open { OnOk result (AreOpen (O.opened outside.new)) }
+    ensures counted { Counted (InLook (number_at (O.opened outside.old))) (O.honest outside.new) (O.seen outside.old) (O.seen outside.new) result }
+{
+    match next_step(outside) {
+        Some((number, step)) => note_step(outside, number, step),
+        None => Ok(()),
+    }
+}
+
+/// The state that is left takes the old one's place, and the journal goes.
+fn leave<O: Outside>(outside: &mut O, lost: &[u32]) -> Result<(), RunFault>
+    requires plan { HasPlan (O.opened outside.old) }
+    requires rising { IsNonDecreasing lost.now }
+    ensures was_honest { O.honest outside.new → O.honest outside.old }
+    ensures keywords { O.keywords outside.new ≡ O.keywords outside.old }
+    ensures done { OnOk result (O.honest outside.new → IsHeld (O.opened outside.old) (O.seen outside.old).device
+        → HoldsLeftOf lost.now (O.opened outside.old) Missing (O.seen outside.new).device) }
+    ensures left { OnErr result (O.honest outside.new → IsHeld (O.opened outside.old) (O.seen outside.old).device
+        → StillPending (O.opened outside.old) (O.seen outside.new).device ⊎ ((pending : Pending) × IsIdle pending
+        × HoldsLeftOf lost.now (O.opened outside.old) pending (O.seen outside.new).device)) }
+    ensures boxes { O.honest outside.new → KeepsBoxes O.ours O.alone (O.seen outside.old).device (O.seen outside.new).device }
+    ensures counted { Counted Unstepped (O.honest outside.new) (O.seen outside.old) (O.seen outside.new) result }
+{
+    match outside.give_up(lost) {
+        Ok(()) => Ok(()),
+        Err(fault) => Err(call_fault(fault)),
+    }
+}
+
+/// Looks which far messages are lost, and leaves the plan.
+fn look_and_leave<O: Outside>(alloc: Global, outside: &mut O) -> Result<(), RunFault>
+    requires plan { HasPlan (O.opened outside.old) }
+    requires boxes { AreOpen (O.opened outside.old) }
+    requires whole { (O.seen outside.old).is_broken ≡ false }
+    ensures was_honest { O.honest outside.new → O.honest outside.old }
+    ensures keywords { O.keywords outside.new ≡ O.keywords outside.old }
+    ensures done { OnOk result (O.honest outside.new → IsHeld (O.opened outside.old) (O.seen outside.old).device
+        → HoldsLeft O.ours O.alone (O.opened outside.old) Missing (O.seen outside.old).device (O.seen outside.new).device) }
+    ensures left { OnErr result (O.honest outside.new → IsHeld (O.opened outside.old) (O.seen outside.old).device
+        → StillPending (O.opened outside.old) (O.seen outside.new).device ⊎ ((pending : Pending) × IsIdle pending
+        × HoldsLeft O.ours O.alone (O.opened outside.old) pending (O.seen outside.old).device (O.seen outside.new).device)) }
+    ensures boxes { O.honest outside.new → KeepsBoxes O.ours O.alone (O.seen outside.old).device (O.seen outside.new).device }
+    ensures counted { Counted Unstepped (O.honest outside.new) (O.seen outside.old) (O.seen outside.new) result }
+{
+    let lost = lost_far(alloc, outside)?;
+    leave(outside, &lost)
+}
+
+/// Opens both boxes. `ValidityChanged`: a UIDVALIDITY is not the plan's.
+fn open_both<O: Outside>(outside: &mut O) -> Result<(), RunFault>
+    requires plan { HasPlan (O.opened outside.old) }
+    ensures was_honest { O.honest outside.new → O.honest outside.old }
+    ensures keywords { O.keywords outside.new ≡ O.keywords outside.old }
+    ensures opened { OnOk result (O.opened outside.new ≡ with_box Side.Near (with_box Side.Far (O.opened outside.old))) }
+    ensures same { OnOk result (O.honest outside.new → BothSame (O.opened outside.old) (O.seen outside.new).device × IsKept O.alone
+        (O.seen outside.old).device (O.seen outside.new).device) }
+    ensures kept { O.honest outside.new → KeepsAll O.ours O.alone (O.seen outside.old).device (O.seen outside.new).device }
+    ensures counted { Counted (because (TellsChange (O.honest outside.new) O.alone (O.opened outside.old) (O.seen outside.old).device
+        (O.seen outside.new).device) ⊥) (O.honest outside.new) (O.seen outside.old) (O.seen outside.new) result }
+{
+    open_same(outside, Side::Far)?;
+    open_same(outside, Side::Near)
+}
+
+/// Opens both boxes, and takes a torn line off the journal.
+fn get_ready<O: Outside>(outside: &mut O) -> Result<(), RunFault>
+    requires plan { HasPlan (O.opened outside.old) }
+    ensures was_honest { O.honest outside.new → O.honest outside.old }
+    ensures keywords { O.keywords outside.new ≡ O.keywords outside.old }
+    ensures opened { OnOk result (O.opened outside.new ≡ turned mended (with_box Side.Near (with_box Side.Far (O.opened outside.old)))) }
+    ensures same { OnOk result (O.honest outside.new → BothSame (O.opened outside.old) (O.seen outside.new).device) }
+    ensures held { OnOk result (O.honest outside.new → IsHeld (O.opened outside.old) (O.seen outside.old).device
+        → IsHeld (O.opened outside.new) (O.seen outside.new).device) }
+    ensures left { OnErr result (O.honest outside.new → IsHeld (O.opened outside.old) (O.seen outside.old).device
+        → StillPending (O.opened outside.old) (O.seen outside.new).device) }
+    ensures boxes { O.honest outside.new → KeepsBoxes O.ours O.alone (O.seen outside.old).device (O.seen outside.new).device }
+    ensures counted { Counted (because (TellsChange (O.honest outside.new) O.alone (O.opened outside.old) (O.seen outside.old).device
+        (O.seen outside.new).device) ⊥) (O.honest outside.new) (O.seen outside.old) (O.seen outside.new) result }
+{
+    open_both(outside)?;
+    mend_plan(outside)
+}
+
+/// Logs the copy that the step after the logged ones may have made, looks which far messages are lost, and leaves the plan.
+fn finish_log<O: Outside>(alloc: Global, outside: &mut O) -> Result<(), RunFault>
+    requires going { IsGoing (O.opened outside.old) }
+    requires whole { (O.seen outside.old).is_broken ≡ false }
+    ensures was_honest { O.honest outside.new → O.honest outside.old }
+    ensures keywords { O.keywords outside.new ≡ O.keywords outside.old }
+    ensures gives_up { O.honest outside.new → IsHeld (O.opened outside.old) (O.seen outside.old).device
+        → LeavesRead O.ours O.alone (O.opened outside.old) (O.seen outside.old).device (O.seen outside.new).device result }
+    ensures boxes { O.honest outside.new → KeepsBoxes O.ours O.alone (O.seen outside.old).device (O.seen outside.new).device }
+    ensures counted { Counted (InLook (number_at (O.opened outside.old))) (O.honest outside.new) (O.seen outside.old) (O.seen outside.new)
+        result }
+{
+    note_copy(outside)?;
+    look_and_leave(alloc, outside)
+}
+
+/// Gives up the plan that was read.
+fn leave_plan<O: Outside>(alloc: Global, outside: &mut O) -> Result<bool, RunFault>
+    requires book { IsBook (O.opened outside.old) }
+    requires plan { HasPlan (O.opened outside.old) }
+    ensures was_honest { O.honest outside.new → O.honest outside.old }
+    ensures keywords { O.keywords outside.new ≡ O.keywords outside.old }
+    ensures answer { IfOk result (λ given_up. given_up ≡ true) }
+    ensures gives_up { O.honest outside.new → IsHeld (O.opened outside.old) (O.seen outside.old).device
+        → GivesUpRead O.ours O.alone (O.opened outside.old) (O.seen outside.old).device (O.seen outside.new).device result }
+    ensures boxes { O.honest outside.new → KeepsBoxes O.ours O.alone (O.seen outside.old).device (O.seen outside.new).device }
+    ensures counted { Counted (or_refused (λ step. step ≡ number_at (O.opened outside.old)) (because (TellsChange (O.honest outside.new)
+        O.alone (O.opened outside.old) (O.seen outside.old).device (O.seen outside.new).device) ⊥)) (O.honest outside.new)
+        (O.seen outside.old) (O.seen outside.new) result }
+{
+    get_ready(outside)?;
+    match finish_log(alloc, outside) {
+        Ok(()) => Ok(true),
+        Err(fault) => Err(fault),
+    }
+}
+
+/// Gives up the plan of the next run, and tells whether one was pending: what it has copied is recorded, and the next run plans anew.
+/// Neither mailbox is changed. `ValidityChanged`: a UIDVALIDITY is not the plan's. `BadState(0)`: a copy has a UID that is taken.
+///
+/// After an error the plan is still pending, or was given up, and this can be called again, once the outside was reopened.
+pub fn give_up<O: Outside>(alloc: Global, outside: &mut O) -> Result<bool, RunFault>
+    ensures was_honest { O.honest outside.new → O.honest outside.old }
+    ensures keywords { O.keywords outside.new ≡ O.keywords outside.old }
+
+    // Whatever the answer, both mailboxes are as they were, but for what others added.
+    ensures boxes { O.honest outside.new → KeepsBoxes O.ours O.alone (O.seen outside.old).device (O.seen outside.new).device }
+
+    // It answers whether a plan was pending.
+    ensures answer { O.honest outside.new → (s : State) (p : Pending) → Holds (O.seen outside.old).device.files s p
+        → IfOk result (λ given_up. given_up ≡ is_some (journal_in p)) }
+
+    // A plan that was pending is given up if this succeeds, and is pending or given up if it fails.
+    ensures gives_up { O.honest outside.new → (s : State) (w : WrittenJournal) → Holds (O.seen outside.old).device.files s (Planned w)
+        → GivesUpSo O.ours O.alone s w.journal (O.seen outside.old).device (O.seen outside.new).device result }
+
+    // Where none was pending, nothing has changed.
+    ensures none { O.honest outside.new → (s : State) (p : Pending) → IsIdle p → Holds (O.seen outside.old).device.files s p
+        → (O.seen outside.new).device.files ≡ (O.seen outside.old).device.files }
+
+    // On an outside that had failed before, it stops and changes nothing. Else an error has its cause, and success counts none.
+    ensures stuck { IsStuck (O.seen outside.old) (O.seen outside.new) result }
+    ensures counted { Counted (giving_up_reasons (O.honest outside.new) O.alone (O.seen outside.old).device (O.seen outside.new).device)
+        (O.honest outside.new) (O.seen outside.old) (O.seen outside.new) result }
+{
+    read_book(outside)?;
+    if outside.pending().is_some() {
+        leave_plan(alloc, outside)
+    } else {
+        Ok(false)
+    }
+}

@@ -1,0 +1,289 @@
+//! Which entries of a plan that is given up lose their far side: the plan has removed their far message, or found it removed, and their near
+//! one was undeleted since.
+
+ghost use Rattle.std.specs.Prelude.{◌≡◌, ℕ, IfErr, IfOk, false};
+ghost use Rattle.std.specs.List.{list_any};
+ghost use Rattle.std.specs.List.Sorted.{IsNonDecreasing};
+ghost use Rattle.mailcore.specs.Listed.{IsRising};
+ghost use Rattle.rules.specs.Scene.{flags_at};
+ghost use Rattle.runner.specs.Before.{HasPlan};
+ghost use Rattle.runner.specs.GivingUp.{Counted, KeepsAll, LosesBy, LosesListed, RemovesSome};
+ghost use Rattle.runner.specs.Going.{AreOpen};
+ghost use Rattle.runner.specs.HalfEntries.{far_items, has_removed, is_expunge, is_gone, is_side, lacks_mark, logged, loses, lost_among, near_items, removes, removes_some, tells_gone, tried};
+ghost use Rattle.runner.specs.Parts.{Unstepped};
+
+use crate::fault::{RunFault, call_fault};
+use mailcore::flags::Flag;
+use mailcore::listing::{Item, Listing};
+use mailcore::side::Side;
+use mailcore::spared::Spared;
+use outside::outside::Outside;
+use planner::searches::item_with;
+use rules::entry::Entry;
+use rules::plan::Step;
+use rules::state::SyncState;
+use std::alloc::{AllocError, Global};
+use sync_state::journal::Journal;
+
+/// Whether two sides are one.
+fn is_side(at: Side, side: Side) -> bool
+    ensures { result ≡ is_side at side }
+{
+    at == side
+}
+
+/// Whether a step removes a message.
+fn is_expunge(step: &Step) -> bool
+    ensures { result ≡ is_expunge step.now }
+{
+    match *step {
+        Step::Expunge { .. } => true,
+        Step::New { .. } | Step::Gone { .. } | Step::Flags { .. } => false,
+    }
+}
+
+/// Whether a step was called for since a message had gone.
+fn is_gone(step: &Step) -> bool
+    ensures { result ≡ is_gone step.now }
+{
+    match *step {
+        Step::Gone { .. } => true,
+        Step::New { .. } | Step::Flags { .. } | Step::Expunge { .. } => false,
+    }
+}
+
+/// Whether a step removes the entry's message of this side.
+fn removes(step: &Step, side: Side, entry: &Entry) -> bool
+    ensures { result ≡ removes side entry.now step.now }
+{
+    match *step {
+        Step::Expunge { side: at, uid } => is_side(at, side) && uid.get() == entry.number(side),
+        Step::New { .. } | Step::Gone { .. } | Step::Flags { .. } => false,
+    }
+}
+
+/// Whether a step was called for since the entry's message of this side had gone.
+fn tells_gone(step: &Step, side: Side, entry: &Entry) -> bool
+    ensures { result ≡ tells_gone side entry.now step.now }
+{
+    match *step {
+        Step::Gone {
+            direction,
+            far,
+            near,
+        } => {
+            is_side(direction.source(), side)
+                && far.get() == entry.number(Side::Far)
+                && near.get() == entry.number(Side::Near)
+        }
+        Step::New { .. } | Step::Flags { .. } | Step::Expunge { .. } => false,
+    }
+}
+
+/// Whether a step that is logged, or the one after them, which may be done, removes a message.
+fn tries_expunge(journal: &Journal) -> bool
+    ensures { result ≡ list_any is_expunge (tried journal.now) }
+{
+    let count = journal.log.as_slice().len() + 1;
+    let steps = journal.plan.steps.as_slice();
+    steps.iter().take(count).any(|step| is_expunge(step))
+}
+
+/// Whether a step that is logged was called for since a message had gone.
+fn logs_gone(journal: &Journal) -> bool
+    ensures { result ≡ list_any is_gone (logged journal.now) }
+{
+    let count = journal.log.as_slice().len();
+    let steps = journal.plan.steps.as_slice();
+    steps.iter().take(count).any(|step| is_gone(step))
+}
+
+/// Whether the plan has removed a message, or found one removed.
+fn removes_some(journal: &Journal) -> bool
+    ensures { result ≡ removes_some journal.now }
+{
+    tries_expunge(journal) || logs_gone(journal)
+}
+
+/// Whether a step that is logged, or the one after them, removes the entry's message of this side.
+fn tries_to_remove(journal: &Journal, side: Side, entry: &Entry) -> bool
+    ensures { result ≡ list_any (removes side entry.now) (tried journal.now) }
+{
+    let count = journal.log.as_slice().len() + 1;
+    let steps = journal.plan.steps.as_slice();
+    steps
+        .iter()
+        .take(count)
+        .any(|step| removes(step, side, entry))
+}
+
+/// Whether a step that is logged was called for since the entry's message of this side had gone.
+fn logs_as_gone(journal: &Journal, side: Side, entry: &Entry) -> bool
+    ensures { result ≡ list_any (tells_gone side entry.now) (logged journal.now) }
+{
+    let count = journal.log.as_slice().len();
+    let steps = journal.plan.steps.as_slice();
+    steps
+        .iter()
+        .take(count)
+        .any(|step| tells_gone(step, side, entry))
+}
+
+/// Whether the plan has removed the entry's message of this side, or found it removed.
+fn has_removed(journal: &Journal, side: Side, entry: &Entry) -> bool
+    ensures { result ≡ has_removed journal.now side entry.now }
+{
+    tries_to_remove(journal, side, entry) || logs_as_gone(journal, side, entry)
+}
+
+/// Whether a message is listed, and not marked as deleted.
+fn lacks_mark(items: &[Item], uid: u32) -> bool
+    requires rising { IsRising items.now }
+    ensures { result ≡ lacks_mark (flags_at items.now uid) }
+{
+    match item_with(items, uid) {
+        Some(item) => !item.flags.has(Flag::Deleted),
+        None => false,
+    }
+}
+
+/// Whether an entry loses this side: the plan has removed its message there, or found it removed, that message is not listed, and the other
+/// one is listed, and was undeleted.
+fn loses(journal: &Journal, side: Side, own: &[Item], others: &[Item], entry: &Entry) -> bool
+    requires own { IsRising own.now }
+    requires others { IsRising others.now }
+    ensures { result ≡ loses journal.now side own.now others.now entry.now }
+{
+    entry.is_full()
+        && item_with(own, entry.number(side)).is_none()
+        && lacks_mark(others, entry.number(side.other()))
+        && has_removed(journal, side, entry)
+}
+
+/// The far UIDs of the entries that lose this side, by the listing of this side and that of the other one.
+fn lost_among(
+    alloc: Global,
+    state: &SyncState,
+    journal: &Journal,
+    side: Side,
+    own: &Listing,
+    others: &Listing,
+) -> Result<Vec<u32>, AllocError>
+    ensures lost { IfOk result (λ lost. lost.items ≡ lost_among journal.now side own.now.items others.now.items state.now.entries) }
+    ensures rising { IfOk result (λ lost. IsNonDecreasing lost.items) }
+{
+    let (own, others) = (own.items.as_slice(), others.items.as_slice());
+    let mut lost = Vec::new(alloc);
+    for entry in state.entries.as_slice() {
+        if loses(journal, side, own, others, entry) {
+            lost.push(entry.number(Side::Far))?;
+        }
+    }
+    Ok(lost)
+}
+
+/// Lists the far mailbox.
+fn list_far<O: Outside>(outside: &mut O) -> Result<Listing, RunFault>
+    requires boxes { AreOpen (O.opened outside.old) }
+    ensures was_honest { O.honest outside.new → O.honest outside.old }
+    ensures keywords { O.keywords outside.new ≡ O.keywords outside.old }
+    ensures opened { O.opened outside.new ≡ O.opened outside.old }
+    ensures shows { IfOk result (λ far. O.honest outside.new → far.items ≡ far_items (O.seen outside.new).device) }
+    ensures kept { O.honest outside.new → KeepsAll O.ours O.alone (O.seen outside.old).device (O.seen outside.new).device }
+    ensures counted { Counted Unstepped (O.honest outside.new) (O.seen outside.old) (O.seen outside.new) result }
+{
+    match outside.list_far() {
+        Ok(far) => Ok(far),
+        Err(fault) => Err(call_fault(fault)),
+    }
+}
+
+/// Lists the near mailbox, of which no message is read.
+fn list_near<O: Outside>(alloc: Global, outside: &mut O) -> Result<Listing, RunFault>
+    requires boxes { AreOpen (O.opened outside.old) }
+    ensures was_honest { O.honest outside.new → O.honest outside.old }
+    ensures keywords { O.keywords outside.new ≡ O.keywords outside.old }
+    ensures opened { O.opened outside.new ≡ O.opened outside.old }
+    ensures shows { IfOk result (λ near. O.honest outside.new → (uid : ℕ) → flags_at near.items uid
+        ≡ flags_at (near_items (O.seen outside.new).device) uid) }
+    ensures kept { O.honest outside.new → KeepsAll O.ours O.alone (O.seen outside.old).device (O.seen outside.new).device }
+    ensures counted { Counted Unstepped (O.honest outside.new) (O.seen outside.old) (O.seen outside.new) result }
+{
+    let all = Spared::of(u32::MAX, Vec::new(alloc));
+    match outside.list_near(&all) {
+        Ok(near) => Ok(near),
+        Err(fault) => Err(call_fault(fault)),
+    }
+}
+
+/// The far UIDs of the entries that lose their far side, by what was read, and by these listings.
+fn lost_by<O: Outside>(
+    alloc: Global,
+    outside: &O,
+    far: &Listing,
+    near: &Listing,
+) -> Result<Vec<u32>, RunFault>
+    requires plan { HasPlan (O.opened outside.now) }
+    ensures lost { IfOk result (λ lost. LosesListed (O.opened outside.now) far.now.items near.now.items lost.items) }
+    ensures rising { IfOk result (λ lost. IsNonDecreasing lost.items) }
+    ensures fault { IfErr result (λ fault. fault ≡ RunFault.NoMemory) }
+{
+    let Some(journal) = outside.pending() else {
+        return Ok(Vec::new(alloc));
+    };
+    match lost_among(alloc, outside.state(), journal, Side::Far, far, near) {
+        Ok(lost) => Ok(lost),
+        Err(_) => Err(RunFault::NoMemory),
+    }
+}
+
+/// Whether the plan that is pending has removed a message, or found one removed.
+fn has_removed_some<O: Outside>(outside: &O) -> bool
+    requires plan { HasPlan (O.opened outside.now) }
+    ensures { RemovesSome (O.opened outside.now) result }
+{
+    match outside.pending() {
+        Some(journal) => removes_some(journal),
+        None => false,
+    }
+}
+
+/// Lists both mailboxes, and tells the far UIDs of the entries that lose their far side, in rising order.
+fn look_for_lost<O: Outside>(alloc: Global, outside: &mut O) -> Result<Vec<u32>, RunFault>
+    requires plan { HasPlan (O.opened outside.old) }
+    requires boxes { AreOpen (O.opened outside.old) }
+    ensures was_honest { O.honest outside.new → O.honest outside.old }
+    ensures keywords { O.keywords outside.new ≡ O.keywords outside.old }
+    ensures opened { O.opened outside.new ≡ O.opened outside.old }
+    ensures lost { IfOk result (λ lost. O.honest outside.new → LosesBy O.ours O.alone (O.opened outside.old) (O.seen outside.old).device
+        lost.items) }
+    ensures rising { IfOk result (λ lost. IsNonDecreasing lost.items) }
+    ensures kept { O.honest outside.new → KeepsAll O.ours O.alone (O.seen outside.old).device (O.seen outside.new).device }
+    ensures counted { Counted Unstepped (O.honest outside.new) (O.seen outside.old) (O.seen outside.new) result }
+{
+    let far = list_far(outside)?;
+    let near = list_near(alloc, outside)?;
+    lost_by(alloc, outside, &far, &near)
+}
+
+/// The far UIDs of the entries that lose their far side, in rising order. Nothing is listed where the plan has removed no message
+/// and found none removed.
+pub(crate) fn lost_far<O: Outside>(alloc: Global, outside: &mut O) -> Result<Vec<u32>, RunFault>
+    requires plan { HasPlan (O.opened outside.old) }
+    requires boxes { AreOpen (O.opened outside.old) }
+    requires whole { (O.seen outside.old).is_broken ≡ false }
+    ensures was_honest { O.honest outside.new → O.honest outside.old }
+    ensures keywords { O.keywords outside.new ≡ O.keywords outside.old }
+    ensures opened { O.opened outside.new ≡ O.opened outside.old }
+    ensures lost { IfOk result (λ lost. O.honest outside.new → LosesBy O.ours O.alone (O.opened outside.old) (O.seen outside.old).device
+        lost.items) }
+    ensures rising { IfOk result (λ lost. IsNonDecreasing lost.items) }
+    ensures kept { O.honest outside.new → KeepsAll O.ours O.alone (O.seen outside.old).device (O.seen outside.new).device }
+    ensures counted { Counted Unstepped (O.honest outside.new) (O.seen outside.old) (O.seen outside.new) result }
+{
+    if has_removed_some(outside) {
+        look_for_lost(alloc, outside)
+    } else {
+        Ok(Vec::new(alloc))
+    }
+}
