@@ -109,7 +109,7 @@ def in_order(clone):
 def table_in(path):
     """The minutes of each crate, by the last column of the table in this file."""
     with open(path, encoding="utf-8") as text:
-        rows = [[it.strip() for it in line.strip().strip("|").split("|")] for line in text if line.startswith("| `")]
+        rows = [[it.strip() for it in line.split("|")] for line in text if line.startswith("`") and "|" in line]
     return {row[0].strip("`"): float(row[-1]) for row in rows}
 
 
@@ -132,13 +132,13 @@ def print_table(clone, used, checks):
     for check in checks:
         minutes[check.crate, check.kind] += check.seconds / 60
     kinds = [kind for kind in KINDS if any(of == kind for _, of in minutes)]
-    print(f"| Crate | {' | '.join(kind.capitalize() for kind in kinds)} | Together |\n|{'---|' * (len(kinds) + 2)}")
+    print(f"Crate | {' | '.join(kind.capitalize() for kind in kinds)} | Together\n{'---|' * (len(kinds) + 1)}---")
     for crate in in_order(clone):
         parts = [minutes[crate, kind] for kind in kinds]
-        print(f"| `{crate}` | " + " | ".join(f"{part:.1f}" if part else "" for part in parts) + f" | {sum(parts):.1f} |")
+        print(f"`{crate}` | " + " | ".join(f"{part:.1f}" if part else "" for part in parts) + f" | {sum(parts):.1f}")
     sums = [sum(it for (_, of), it in minutes.items() if of == kind) for kind in kinds]
-    print("| all else " + "| " * len(kinds) + f"| {max(used - sum(sums), 0):.1f} |")
-    print("| together | " + " | ".join(f"{part:.1f}" for part in sums) + f" | {used:.1f} |")
+    print("all else " + "| " * len(kinds) + f"| {max(used - sum(sums), 0):.1f}")
+    print("together | " + " | ".join(f"{part:.1f}" for part in sums) + f" | {used:.1f}")
     return {crate: sum(minutes[crate, kind] for kind in KINDS) for crate in in_order(clone)}
 
 

@@ -23,10 +23,9 @@ from tests.support.scripted_server import Box
 from tests.support.tally import Tally
 
 LEFT_OUT = "  its name is not UTF-8, or is too long to get a UID: rename it, and run again"
-REMOVED = '  it was there at the last run, and is not made anew: the manual page says what to do under "How to recover"'
 BAD_NAME = "the name is too long, or is not UTF-8. Rename it, and run again"
 NO_FILE = "this is not a file. Move it elsewhere, and run again"
-STANDING = "is there, but its message was about to count as removed: run again"
+STANDING = "is there, but its message (UID 2) was about to count as removed: run again"
 NO_PERMISSION = "no permission. Let yourself read and write it, and run again"
 FULL = "the disk is full. Make room, and run again"
 READ_ONLY = "the file system is read-only"
@@ -201,6 +200,11 @@ def things_for_our_files(tally):
                 tally.same("put right, it is taken", [scene.run("c"), sorted(scene.own())], [[0, "c:INBOX", "ran"], sorted(own)])
 
 
+def is_removed(told, side):
+    """Whether a run tells that mailbox `a` was removed on this side, and what can be done, after another mailbox that went well."""
+    return told[:4] == [1, "all:INBOX", "ran", f"mbsync: all:a: absent {side}"] and all(line.startswith("  ") for line in told[4:]) and len(told) > 4
+
+
 def removed_far(tally):
     """A mailbox that was synchronised is removed on the server."""
     with Edge(ONE, create="Both") as scene:
@@ -210,7 +214,8 @@ def removed_far(tally):
         del scene.server.boxes["a"]
         before = [scene.own("mail/a"), scene.near_messages("mail/a")]
         for words in (("all",), ("--expunge", "all")):
-            tally.same("the removed one is told", scene.run(*words), [1, "all:INBOX", "ran", "mbsync: all:a: absent far", REMOVED])
+            told = scene.run(*words)
+            tally.check("the removed one is told", is_removed(told, "far"), told)
             tally.same("it is not made anew", list(scene.server.boxes), ["INBOX"])
             tally.same("the near folder stays as it is", [scene.own("mail/a"), scene.near_messages("mail/a")], before)
         os.remove(scene.path("mail/a/.mbsyncstate"))
@@ -227,8 +232,8 @@ def removed_near(tally):
             for part in gone:
                 shutil.rmtree(scene.path("mail/a/" + part))
             before = [sorted(os.listdir(scene.path("mail/a"))), scene.own("mail/a"), scene.far_messages("a")]
-            told = [1, "all:INBOX", "ran", "mbsync: all:a: absent near", REMOVED]
-            tally.same(f"a near folder without {', '.join(gone)} is told", scene.run("--expunge", "all"), told)
+            told = scene.run("--expunge", "all")
+            tally.check(f"a near folder without {', '.join(gone)} is told", is_removed(told, "near"), told)
             after = [sorted(os.listdir(scene.path("mail/a"))), scene.own("mail/a"), scene.far_messages("a")]
             tally.same("nothing is made, marked or removed", after, before)
             if "cur" in gone:

@@ -7,6 +7,7 @@ here by hand."""
 import fcntl
 import os
 import pathlib
+import re
 import signal
 import subprocess
 import sys
@@ -254,15 +255,23 @@ def a_terminal(tally):
         scene.make_far("a")
         out = scene.path("out")
         steps = b"".join(back + b": %d of 1 steps" % logged for logged in (0, 1))
-        shown = wipe + b"all:INBOX" + keep + steps + wipe + wipe + b"all:a" + keep + wipe
-        tally.same("a terminal shows each box with its steps, and wipes it", scene.run_on_terminal("all", out=out), [0, shown])
+        store, end = wipe + b"far at 127.0.0.1" + keep + wipe, wipe + b"mbsync" + keep + wipe
+        shown = store + wipe + b"all:INBOX" + keep + steps + wipe + wipe + b"all:a" + keep + wipe + end
+        waits = re.compile(re.escape(back) + rb": ([a-z ]+) \.\.")
+        status, text = scene.run_on_terminal("all", out=out)
+        tally.same("a terminal shows each box with its steps, and wipes it", [status, waits.sub(b"", text)], [0, shown])
+        wanted = [b"connecting", b"waiting for server", b"logging in", b"listing mailboxes"]
+        wanted += [b"opening the mailbox", b"reading the mailbox"] * 2 + [b"logging out"]
+        tally.same("and what the server is waited for", waits.findall(text), wanted)
         lines = [b"all:INBOX", b"new pull 1 -> 1", b"ran", b"all:a", b"ran"]
         tally.same("standard output is as ever", open(out, "rb").read().splitlines(), lines)
         os.remove(scene.path("inbox/.uidvalidity"))
         advice = (b'  .uidvalidity is damaged, too low, or missing beside files with UIDs: '
                   b'the manual page says what to do under "How to recover"\r\n')
         told = b"mbsync: c:INBOX: store fault near 4\r\n" + advice
-        tally.same("a fault and its advice stand in lines of their own", scene.run_on_terminal("c", out=out), [1, wipe + b"c:INBOX" + keep + wipe + told])
+        status, text = scene.run_on_terminal("c", out=out)
+        shown = store + wipe + b"c:INBOX" + keep + wipe + told + end
+        tally.same("a fault and its advice stand in lines of their own", [status, waits.sub(b"", text)], [1, shown])
 
 
 SCENES = [first_pull, changes_both_ways, gone, only_what_is_asked, several_boxes, absent_boxes, the_walk, the_lock, usage,

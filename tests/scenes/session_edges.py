@@ -3,7 +3,7 @@ import os
 
 from tests.support.configuration import imap_store
 from tests.support.edge_scene import THREE, Edge, far, near
-from tests.support.scene import HOME_STORE, ONE, TWO, near_text
+from tests.support.scene import HOME_STORE, ONE, TWO, configuration, near_text
 from tests.support.scripted_server import BODY, Box, ScriptedServer
 
 TWENTY = [f"box{number:02}" for number in range(1, 21)]
@@ -150,6 +150,10 @@ def unopened(tally):
             talk.done(command, b"NO user u with verysecret is unknown"), True)
         line = "  the server rejected the login: correct User or Pass of IMAPStore far, and run again"
         tally.same("a server that tells the password is not repeated", scene.run("c"), [1, "mbsync: cannot open far", line])
+    with Edge(ONE, password=r'"se\"cr\\et"') as scene:
+        scene.server.script = lambda talk, command: command.verb == b"LOGIN" and (
+            talk.done(command, b'NO LOGIN "u" "se\\"cr\\\\et" was refused'), True)
+        tally.same("nor one that tells it as it was sent", scene.run("c"), [1, "mbsync: cannot open far", line])
 
 
 def skipped(tally):
@@ -168,4 +172,58 @@ def skipped(tally):
         tally.same("the others are synchronised", [scene.near_messages(), scene.near_messages("mail/fit")], [near(ONE), near(THREE)])
 
 
-SCENES = [twenty, stores, ended_between, failed_box, refused_box, words, unopened, skipped]
+def own_parts(tally):
+    """Mailboxes below whose folders those of another one would lie, or its own files, and channels that name such a mailbox."""
+    with Edge(ONE, patterns="* INBOX", create="Near") as scene:
+        odd = ("a/cur", "a/cur/x", "new", "tmp/x", ".uidvalidity.new", "a/.mbsyncstate.journal")
+        scene.server.boxes.update({name: Box([TWO]) for name in ("a", *odd)})
+        lines = [f"mbsync: skipped for its name: far:{name}" for name in odd]
+        found = scene.run("-l", "all")
+        tally.same("names of folders and files of a mailbox, with -l", [found[0], sorted(found[1:])], [0, sorted(["all:INBOX", "all:a", *lines])])
+        tally.same("a channel that could not choose them tells nothing of them", [it for it in scene.run("c") if "skipped" in str(it)], [])
+        found = scene.run("c", "all")
+        tally.same("one that could tells each once", sorted(it for it in found[1:] if "skipped" in it), sorted(lines))
+        tally.same("nothing is made for them", [scene.near_messages("mail/a"), os.path.exists(scene.path("mail/tmp"))], [near(TWO), False])
+        for far, near_box in (("a/cur", ""), ("a", "tmp/x")):
+            scene.configure(configuration(scene.server.port, "*") + f"\nChannel odd\nFar :far:{far}\nNear :near:{near_box}\nCreate Both\n")
+            scene.server.counts.clear()
+            told = f"mbsync: config channel odd: mailbox {far if '/' in far else near_box}"
+            tally.same(f"a channel between {far} and {near_box}", [scene.run("odd")[:2], scene.server.counts], [[1, told], {}])
+
+
+def inbox(tally):
+    """INBOX is one mailbox, however the server, a folder or the configuration spells it."""
+    with Edge(ONE, patterns="* INBOX", create="Both") as scene:
+        scene.server.script = lambda talk, command: command.verb == b"LIST" and (
+            talk.send(b'* LIST () "/" Inbox', b'* LIST () "/" inbox'), talk.done(command), True)
+        tally.same("a server that spells it otherwise", scene.run("-l", "all"), [0, "all:INBOX"])
+        tally.same("its mail is pulled", [scene.run("all")[0], scene.near_messages()], [0, near(ONE)])
+        os.makedirs(scene.path("mail"))
+        os.rename(scene.path("inbox"), scene.path("mail/Inbox"))
+        text = configuration(scene.server.port, "* INBOX", "Both").replace("~/inbox", "~/mail/Inbox")
+        scene.configure(text + "\nChannel other\nFar :far:inbox\nNear :near:Inbox\n")
+        tally.same("Inbox below Path is no mailbox beside INBOX", scene.run("all"), [0, "all:INBOX", "ran"])
+        tally.same("nor is it in the configuration", scene.run("other"), [0, "other:INBOX", "ran"])
+        scene.near("mail/INBOX")
+        notice = "mbsync: skipped for its name: near:INBOX"
+        tally.same("another folder of this name is skipped", scene.run("-l", "all"), [0, "all:INBOX"])
+        scene.configure(text.replace("* INBOX", "INBOX"))
+        tally.same("with a notice", scene.run("-l", "all"), [0, "all:INBOX", notice])
+
+
+def begun(tally):
+    """A mailbox whose first run was interrupted, and that was removed at the server then, is not made there again."""
+    with Edge(ONE, TWO, patterns="a", create="Both") as scene:
+        scene.server.boxes["a"] = Box([ONE, TWO])
+        scene.server.script = lambda talk, command: command.verb == b"UID FETCH" and command.count > 2 and (talk.hang_up(), True)
+        scene.run("all")
+        tally.same("a journal stands, and no state", [os.path.exists(scene.path("mail/a/" + name)) for name in (".mbsyncstate.journal", ".mbsyncstate")],
+                   [True, False])
+        scene.server.script = None
+        del scene.server.boxes["a"]
+        found = scene.run("all")
+        tally.same("it is absent", found[:2], [1, "mbsync: all:a: absent far"])
+        tally.same("and is not made", "a" in scene.server.boxes, False)
+
+
+SCENES = [twenty, stores, ended_between, failed_box, refused_box, words, unopened, skipped, own_parts, inbox, begun]
