@@ -102,7 +102,7 @@ class Scene:
         """What a run writes to a terminal that is its standard error. Its standard output goes to this file."""
         line = f"{shlex.join([self.program, *words])} > {shlex.quote(out)}"
         known = self.words(words, True)
-        known["args"] = ["script", "-q", "-e", "-c", line, self.path("typescript")]
+        known["args"] = ["script", "-q", "-e", "-f", "-c", line, self.path("typescript")]
         done = subprocess.run(**known, stdout=subprocess.PIPE, timeout=120, check=False)
         return [done.returncode, done.stdout]
 
