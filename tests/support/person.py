@@ -86,7 +86,7 @@ class Person:
         kinds = kinds or (self.mark_near, self.mark_near, self.mark_far, self.take, self.take, self.remove, self.expunge, self.undelete_near,
                           self.undelete_far, self.put_back, self.spoil, self.flag, self.move)
         kind = self.rng.choice(kinds)
-        able = [it for _, it in sorted(self.messages.items()) if not it.odd]
+        able = [it for _, it in sorted(self.messages.items(), key=lambda pair: str(pair[0])) if not it.odd]
         self.rng.shuffle(able)
         for message in able:
             try:
