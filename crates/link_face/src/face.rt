@@ -6,7 +6,7 @@ ghost use Rattle.wire_reader.specs.Spelling.{crlf};
 ghost use Rattle.wire_reader.specs.Scanning.{start, scanned, owed_in};
 ghost use Rattle.link_face.specs.Commands.{GoesAsItIs, IsRenamed};
 ghost use Rattle.link_face.specs.Faces.{IsSpelled};
-ghost use Rattle.link_face.specs.Rooms.{whole_room, Takes};
+ghost use Rattle.link_face.specs.Rooms.{whole_room, CountsReply};
 ghost use Rattle.link_face.specs.Turning.{IsTurned, Leaves, Unchanged, held_of};
 
 use crate::command::with_far_name;
@@ -146,20 +146,18 @@ impl Face {
         Ok(!self.ready.is_empty())
     }
 
-    /// Turns the reply of so many bytes at the front of what came, if there is room for it. Else the connection is given up.
+    /// Turns the reply of so many bytes at the front of what came. Where there is no room for what is handed out, the connection is
+    /// given up.
     fn turn_front(&mut self, len: usize) -> Result<(), LinkFault>
         requires within { len ≤ length self.old.incoming }
         requires none { self.old.ready ≡ [] }
         ensures unchanged { Unchanged self.old self.new }
         ensures ready { OnOk result (IsTurned self.new.ready) }
-        ensures room { OnOk result (Takes (take len self.old.incoming) self.old.room self.new.room) }
+        ensures room { OnOk result (CountsReply self.new.ready self.old.room self.new.room true) }
         ensures counts { self.old.stops ≤ self.new.stops }
         ensures steady { OnOk result (self.new.stops ≡ self.old.stops) }
         ensures stopped { IsErrOf result LinkFault.Stopped → self.old.stops < self.new.stops }
     {
-        if !self.room.take(self.incoming.front(len)) {
-            return Err(self.lose());
-        }
         match turned(self.alloc, self.incoming.front(len)) {
             Ok(Turn::Keep) => self.keep(len),
             Ok(Turn::Replace(bytes)) => self.replace(len, bytes),
@@ -169,13 +167,32 @@ impl Face {
         }
     }
 
-    /// The reply of so many bytes at the front is ready, as it came.
+    /// The reply of so many bytes at the front is ready, as it came, if there is room for it.
     fn keep(&mut self, len: usize) -> Result<(), LinkFault>
         requires within { len ≤ length self.old.incoming }
         requires none { self.old.ready ≡ [] }
         requires spelled { IsSpelled (take len self.old.incoming) }
         ensures unchanged { Unchanged self.old self.new }
         ensures ready { OnOk result (IsTurned self.new.ready) }
+        ensures room { OnOk result (CountsReply self.new.ready self.old.room self.new.room true) }
+        ensures counts { self.old.stops ≤ self.new.stops }
+        ensures steady { OnOk result (self.new.stops ≡ self.old.stops) }
+        ensures stopped { IsErrOf result LinkFault.Stopped → self.old.stops < self.new.stops }
+    {
+        match self.room.take(self.alloc, self.incoming.front(len)) {
+            Ok(true) => self.keep_front(len),
+            Ok(false) => Err(self.lose()),
+            Err(AllocError) => Err(LinkFault::NoMemory),
+        }
+    }
+
+    /// The reply of so many bytes at the front is ready, as it came.
+    fn keep_front(&mut self, len: usize) -> Result<(), LinkFault>
+        requires within { len ≤ length self.old.incoming }
+        requires none { self.old.ready ≡ [] }
+        requires spelled { IsSpelled (take len self.old.incoming) }
+        ensures unchanged { Unchanged self.old self.new }
+        ensures ready { OnOk result (self.new.ready ≡ take len self.old.incoming) }
         ensures room { self.new.room ≡ self.old.room }
         ensures stops { self.new.stops ≡ self.old.stops }
         ensures err { IsErrOf result LinkFault.Stopped → ⊥ }
@@ -188,13 +205,31 @@ impl Face {
         Ok(())
     }
 
-    /// These bytes, a reply or none, are ready in place of the reply of so many bytes at the front.
+    /// These bytes, a reply or none, are ready in place of the reply of so many bytes at the front, if there is room for them.
     fn replace(&mut self, len: usize, bytes: Vec<u8>) -> Result<(), LinkFault>
         requires within { len ≤ length self.old.incoming }
         requires none { self.old.ready ≡ [] }
         requires turned { IsTurned bytes.items }
         ensures unchanged { Unchanged self.old self.new }
         ensures ready { OnOk result (IsTurned self.new.ready) }
+        ensures room { OnOk result (CountsReply self.new.ready self.old.room self.new.room true) }
+        ensures counts { self.old.stops ≤ self.new.stops }
+        ensures steady { OnOk result (self.new.stops ≡ self.old.stops) }
+        ensures stopped { IsErrOf result LinkFault.Stopped → self.old.stops < self.new.stops }
+    {
+        match self.room.take(self.alloc, &bytes) {
+            Ok(true) => self.replace_front(len, bytes),
+            Ok(false) => Err(self.lose()),
+            Err(AllocError) => Err(LinkFault::NoMemory),
+        }
+    }
+
+    /// These bytes, a reply or none, are ready in place of the reply of so many bytes at the front.
+    fn replace_front(&mut self, len: usize, bytes: Vec<u8>) -> Result<(), LinkFault>
+        requires within { len ≤ length self.old.incoming }
+        requires none { self.old.ready ≡ [] }
+        ensures unchanged { Unchanged self.old self.new }
+        ensures ready { OnOk result (self.new.ready ≡ bytes.items) }
         ensures room { self.new.room ≡ self.old.room }
         ensures stops { self.new.stops ≡ self.old.stops }
         ensures err { IsErrOf result LinkFault.Stopped → ⊥ }

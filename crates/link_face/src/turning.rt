@@ -60,7 +60,7 @@ fn is_kept(alloc: Global, raw: &[u8]) -> Result<bool, AllocError>
 
 /// The reply that these bytes are, if they are one.
 #[tactic(auto, using(crate::proofs::TakenLemmas::found_whole, crate::proofs::TakenLemmas::spelled_whole, crate::proofs::TakenLemmas::memory_alone))]
-fn reply_of(alloc: Global, bytes: &[u8]) -> Result<Option<Reply<'_>>, AllocError>
+pub(crate) fn reply_of(alloc: Global, bytes: &[u8]) -> Result<Option<Reply<'_>>, AllocError>
     ensures spelled { IfOk result (λ found. IfSome found (λ _. IsSpelled bytes.now)) }
     ensures found { (reply : Reply) → ReplyText reply bytes.now → outside bytes.now ≤ 65536 → IfOk result (λ found. found ≡ Some reply) }
 {

@@ -1,4 +1,4 @@
-use Rattle.std.proofs.Common.{◌≡◌, ◌∙◌, ◌<◌, List, ℕ, Global, ap, arith, get_or, length, subst}
+use Rattle.std.proofs.Common.{◌≡◌, ◌∙◌, ◌<◌, List, ℕ, Global, arith, length, subst}
 use Rattle.std.specs.Prelude.{String, string_bytes}
 use Rattle.config_words.proofs.MeaningLemmas.{no_patterns}
 use Rattle.config_words.proofs.setting.read_patterns.Goals as goal
