@@ -1,5 +1,5 @@
 -- What a search by halves finds among names that rise.
-use Rattle.std.proofs.Common.{◌≡◌, ℕ, ◌+◌, ◌<◌, ◌≤◌, zero, suc, true, false, ◌||◌, Bool, List, [], ◌∷◌, Option, None, Some, Result, Ok, Err, length, refl, ap, sym, ◌∙◌, arith, subst}
+use Rattle.std.proofs.Common.{◌≡◌, ℕ, ◌+◌, ◌<◌, ◌≤◌, zero, suc, true, false, ◌||◌, Bool, List, [], ◌∷◌, None, Some, Result, Ok, Err, length, refl, ap, sym, ◌∙◌, arith, subst}
 use Rattle.std.specs.Prelude.{slice_index_or, nat_eq, MatchResult}
 use Rattle.std.specs.Result.{is_ok}
 use Rattle.std.specs.Ordering.{match_ordering, nat_cmp, ordering_index, is_eq}
@@ -7,7 +7,7 @@ use Rattle.std.specs.declared.cmp.Ordering.{Ordering}
 use Rattle.std.specs.declared.cmp.Ordering.TheVariants.{Less, Equal, Greater}
 use Rattle.std.specs.Cmp.Lexicographic.{slice_cmp, pointwise, nat_list_cmp_total, texts_ties}
 use Rattle.std.proofs.lemmas.Cmp.{alike_right}
-use Rattle.std.specs.List.{AllWithin, HoldsAt, list_any}
+use Rattle.std.specs.List.{AllWithin, HoldsAt}
 use Rattle.std.specs.List.Sorted.{IsBinarySearchResult, IsNonDecreasingBy, IsSearchInRange}
 use Rattle.channels.specs.Boxes.{IsBelowFirst, Rises, place_from, stands_in}
 

@@ -1,4 +1,4 @@
-//! What is told after a fault: what was found, and what can be done, on lines that begin with two spaces.
+//! What is reported after a fault: what was found, and what can be done, on lines that begin with two spaces.
 
 use crate::fault::{BoxFault, GivingUp};
 use crate::run_advice::{advise_refused, advise_run, advise_step};
@@ -10,7 +10,7 @@ use mailcore::side::Side;
 use std::io;
 use std::io::Write;
 
-/// Tells what was found, how giving up the unfinished run ended, and what can be done, where that is known.
+/// Reports what was found, how giving up the unfinished run ended, and what can be done, where that is known.
 pub(crate) fn advise<E: Write>(
     err: &mut E,
     fault: &BoxFault,
@@ -37,7 +37,7 @@ pub(crate) fn advise<E: Write>(
     }
 }
 
-/// Tells what can be done, where that is known.
+/// Reports what can be done, where that is known.
 fn advise_on<E: Write>(err: &mut E, fault: &BoxFault) -> io::Result<()> {
     if fault.is_stale() {
         tell_stale(err, fault)?;
@@ -64,8 +64,8 @@ fn advise_on<E: Write>(err: &mut E, fault: &BoxFault) -> io::Result<()> {
     }
 }
 
-/// Tells why the plan of an unfinished run is wrong, without an end of line: which message is not as it took it to be, or that its keywords
-/// have other letters.
+/// Reports why the plan of an unfinished run is wrong, without an end of line: which message is not as it took it to be, or that its
+/// keywords have other letters.
 fn tell_stale<E: Write>(err: &mut E, fault: &BoxFault) -> io::Result<()> {
     match fault {
         BoxFault::Stopped(StopCause::Standing(path, uid)) => write!(
@@ -84,7 +84,7 @@ fn tell_stale<E: Write>(err: &mut E, fault: &BoxFault) -> io::Result<()> {
     }
 }
 
-/// Tells which side of a mailbox could be made.
+/// Reports which side of a mailbox could be made.
 fn advise_create<E: Write>(err: &mut E, side: Side) -> io::Result<()> {
     let word = match side {
         Side::Far => "Far",
@@ -96,7 +96,7 @@ fn advise_create<E: Write>(err: &mut E, side: Side) -> io::Result<()> {
     )
 }
 
-/// Tells what can be done where a mailbox is gone that a former run has synchronised. No way leads to a message that comes twice.
+/// Reports what can be done where a mailbox is gone that a former run has synchronised. No way leads to a message that comes twice.
 fn advise_removed<E: Write>(err: &mut E, side: Side) -> io::Result<()> {
     match side {
         Side::Far => writeln!(
@@ -112,7 +112,7 @@ fn advise_removed<E: Write>(err: &mut E, side: Side) -> io::Result<()> {
     }
 }
 
-/// Tells what stopped a run.
+/// Reports what stopped a run.
 fn advise_stop<E: Write>(err: &mut E, cause: &StopCause) -> io::Result<()> {
     match cause {
         StopCause::Server(store, why) => advise_server(err, store.as_str(), *why),
@@ -127,7 +127,7 @@ fn advise_stop<E: Write>(err: &mut E, cause: &StopCause) -> io::Result<()> {
     }
 }
 
-/// Tells that a server keeps a message back.
+/// Reports that a server keeps a message back.
 fn advise_withheld<E: Write>(err: &mut E, store: &str, uid: u32) -> io::Result<()> {
     writeln!(
         err,
@@ -135,7 +135,7 @@ fn advise_withheld<E: Write>(err: &mut E, store: &str, uid: u32) -> io::Result<(
     )
 }
 
-/// Tells that a state is not at fault.
+/// Reports that a state is not at fault.
 fn advise_given_again<E: Write>(err: &mut E, uid: u32, side: Option<Side>) -> io::Result<()> {
     match side {
         Some(Side::Far) => writeln!(

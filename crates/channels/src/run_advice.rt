@@ -1,4 +1,4 @@
-//! What is told behind a fault of a run, on a line that begins with two spaces.
+//! What to do after a fault of a run, printed on a line that begins with two spaces.
 
 use mailbox::fault_number;
 use mailcore::side::{Direction, Side};
@@ -8,7 +8,7 @@ use runner::fault::RunFault;
 use std::io;
 use std::io::Write;
 
-/// Tells what a fault of a run means, and where the manual page says what to do.
+/// Prints what a fault of a run means, and where the manual page says what to do.
 pub(crate) fn advise_run<E: Write>(err: &mut E, fault: RunFault) -> io::Result<()> {
     match fault {
         RunFault::Stopped => writeln!(
@@ -38,7 +38,7 @@ pub(crate) fn advise_run<E: Write>(err: &mut E, fault: RunFault) -> io::Result<(
     }
 }
 
-/// Tells that the server said no to the step of this number, and which step it is, if it could be read again.
+/// Prints that the server said no to the step of this number, and which step it is, if it could be read again.
 pub(crate) fn advise_refused<E: Write>(
     err: &mut E,
     number: usize,
@@ -58,7 +58,7 @@ pub(crate) fn advise_refused<E: Write>(
     }
 }
 
-/// Tells what a fault of a run means that stands before this step.
+/// Prints what a fault of a run means that comes before this step.
 pub(crate) fn advise_step<E: Write>(
     err: &mut E,
     fault: RunFault,
@@ -88,7 +88,7 @@ pub(crate) fn advise_step<E: Write>(
     }
 }
 
-/// Tells how a step can be left out for good, and what comes of that.
+/// Prints how a step can be left out for good, and what follows from that.
 fn advise_leaving_out<E: Write>(
     err: &mut E,
     condition: &str,
@@ -174,7 +174,7 @@ fn store_fault(side: Side, number: u8) -> &'static str {
     }
 }
 
-/// Tells what a bad state is. Line 0 comes where its text is not at fault, and line 1 where another program wrote it.
+/// Prints what a bad state is. Line 0 comes where its text is not at fault, and line 1 where another program wrote it.
 fn advise_state<E: Write>(err: &mut E, line: usize) -> io::Result<()> {
     match line {
         0 => writeln!(

@@ -25,7 +25,7 @@ pub trait BoxLists {
     /// A record of what stores are asked for.
     ghost Record: { Type 0 };
 
-    /// The record behind one thing more.
+    /// The record after one thing more.
     ghost noted: { Record → Asked → Record };
 
     /// The record of what these stores were asked for.
@@ -44,14 +44,14 @@ pub trait BoxLists {
         ensures rising { IfOk result (λ names. Rises names.items) }
         ensures asked { asked self.new ≡ noted (asked self.old) (NearListed store.now (names_of result)) };
 
-    /// What is to be told beside faults of the calls before. Of the mailboxes that are left out these are those that this channel could
-    /// choose (`ChannelStores::could_choose`): the others stay noted for a later channel. Each is told once, and each mailbox and file that
-    /// is left out once in a run. Where memory is wanting, some may be missing.
+    /// What is to be reported beside faults of the calls before. Of the mailboxes that are left out these are those that this channel could
+    /// choose (`ChannelStores::could_choose`): the others stay noted for a later channel. Each is reported once, and each mailbox and file
+    /// that is left out once in a run. Where memory is wanting, some may be missing.
     fn notices(&mut self, of: ChannelStores<'_>) -> Vec<Notice>
         ensures { asked self.new ≡ asked self.old };
 
     /// What the server that was asked last said in its last NO, BAD or BYE, or the front of what it sent where that is no answer: one
-    /// line of at most 200 bytes, of which those that are no plain characters stand as a backslash and two digits. It is told once. None:
+    /// line of at most 200 bytes, of which those that are no plain characters stand as a backslash and two digits. It is given once. None:
     /// it said nothing, or memory is wanting.
     fn server_words(&mut self) -> Option<String>
         ensures { asked self.new ≡ asked self.old };
@@ -88,7 +88,7 @@ pub trait Stores: BoxLists {
 
     /// Makes this side of a mailbox, which is absent there. Only a side that the channel's Create covers is made.
     ///
-    /// Behind a fault it is not known whether it was made: a server may have made it, and its answer was lost. The other side is as it
+    /// After a fault it is not known whether it was made: a server may have made it, and its answer was lost. The other side is as it
     /// was, made or not, since no call of these removes a mailbox.
     fn make(&mut self, side: Side, place: ChannelBox<'_>) -> Result<(), StoreFault>
         requires { covers place.of.channel.now.create side ≡ true }
@@ -103,12 +103,12 @@ pub trait Stores: BoxLists {
         ensures { Self.asked self.new ≡ Self.noted (Self.asked self.old)
             (W.asking work (place_of place.entry) (outcome_by W.ends result)) };
 
-    /// What stopped the run over the mailbox that was opened last, if it was stopped and this is known. It is told once.
+    /// What stopped the run over the mailbox that was opened last, if it was stopped and this is known. It is given once.
     fn stop_cause(&mut self) -> Option<StopCause>
         ensures { Self.asked self.new ≡ Self.asked self.old };
 
     /// The paths of the near files that the run over the mailbox that was opened last left out: they wait for a UID, and their names are no
-    /// UTF-8, or too long with one. They are told once. Where memory is wanting, some may be missing.
+    /// UTF-8, or too long with one. They are given once. Where memory is wanting, some may be missing.
     fn left_out(&mut self) -> Vec<String>
         ensures { Self.asked self.new ≡ Self.asked self.old };
 

@@ -1,4 +1,4 @@
-//! The stores of a run behind its streams: they are asked only as long as what is done could be told.
+//! The stores of a run and its streams, as one: the stores are asked only as long as what is done could be written.
 
 ghost use Rattle.std.specs.Prelude.{◌≡◌, ◌∷◌, [], false, true, is_some, option_map, IfErr, IfOk, OnOk, string_bytes};
 ghost use Rattle.std.specs.Io.KnownBytes.{Appends};
@@ -35,7 +35,7 @@ use std::io;
 use std::io::Write;
 
 /// The stores of a run and its streams, as one. Each call of the stores goes through it, and each write. A store may be asked only where
-/// no write has failed before (`going`): so nothing is listed, made or run behind a failed write.
+/// no write has failed before (`going`): so nothing is listed, made or run after a failed write.
 #[derive(Drop)]
 pub(crate) struct ToldStores<'a, S: BoxLists, O: Write, E: Write> {
     stores: &'a mut S,
@@ -109,7 +109,7 @@ impl<'a, S: BoxLists, O: Write, E: Write> ToldStores<'a, S, O, E> {
         written
     }
 
-    /// Tells what is to be told beside faults of what was asked of the stores for this channel.
+    /// Reports what is to be reported beside faults of what was asked of the stores for this channel.
     #[tactic(auto, using(crate::proofs::StreamLemmas::notice_steps))]
     pub(crate) fn tell_notices(&mut self, of: ChannelStores<'_>) -> io::Result<()>
         requires going { self.old.write_failed ≡ false }
@@ -125,7 +125,7 @@ impl<'a, S: BoxLists, O: Write, E: Write> ToldStores<'a, S, O, E> {
         Ok(())
     }
 
-    /// Tells what is no fault.
+    /// Reports what is no fault.
     #[tactic(auto, using(crate::proofs::StreamLemmas::notice_steps))]
     fn tell_notice(&mut self, notice: &Notice) -> io::Result<()>
         ensures others { self.new ≡ record self.old { err = self.new.err; write_failed = self.new.write_failed } }
@@ -148,7 +148,7 @@ impl<'a, S: BoxLists, O: Write, E: Write> ToldStores<'a, S, O, E> {
         if is_of_server { words } else { None }
     }
 
-    /// Tells why the mailboxes of a channel are not listed, and what the server said of it.
+    /// Reports why the mailboxes of a channel are not listed, and what the server said of it.
     pub(crate) fn tell_list(&mut self, fault: &ListFault) -> io::Result<Verdict>
         requires going { self.old.write_failed ≡ false }
         ensures others { self.new ≡ record self.old { stores = self.new.stores; err = self.new.err; write_failed = self.new.write_failed } }
@@ -164,7 +164,7 @@ impl<'a, S: BoxLists, O: Write, E: Write> ToldStores<'a, S, O, E> {
         written
     }
 
-    /// Tells why the mailboxes of a channel are not listed, and then what is to be told beside.
+    /// Reports why the mailboxes of a channel are not listed, and then what is to be reported beside.
     pub(crate) fn tell_unlisted(
         &mut self,
         of: ChannelStores<'_>,
@@ -183,7 +183,7 @@ impl<'a, S: BoxLists, O: Write, E: Write> ToldStores<'a, S, O, E> {
         Ok(verdict)
     }
 
-    /// Tells that a channel or a store of it is not in the configuration.
+    /// Reports that a channel or a store of it is not in the configuration.
     pub(crate) fn tell_no_channel(&mut self) -> io::Result<Verdict>
         ensures others { self.new ≡ record self.old { err = self.new.err; write_failed = self.new.write_failed } }
         ensures err { self.new.err.ghost_name ≡ self.old.err.ghost_name }
@@ -196,7 +196,7 @@ impl<'a, S: BoxLists, O: Write, E: Write> ToldStores<'a, S, O, E> {
         written
     }
 
-    /// Tells why a mailbox was not synchronised, and what the server said of it.
+    /// Reports why a mailbox was not synchronised, and what the server said of it.
     pub(crate) fn tell(&mut self, place: ChannelBox<'_>, fault: &BoxFault) -> io::Result<Verdict>
         requires going { self.old.write_failed ≡ false }
         ensures others { self.new ≡ record self.old { stores = self.new.stores; err = self.new.err; write_failed = self.new.write_failed } }
@@ -209,7 +209,7 @@ impl<'a, S: BoxLists, O: Write, E: Write> ToldStores<'a, S, O, E> {
         self.tell_with(place, fault, None)
     }
 
-    /// Tells why a run over a mailbox failed, what became of its plan, and what the server said of it.
+    /// Reports why a run over a mailbox failed, what became of its plan, and what the server said of it.
     pub(crate) fn tell_failure(
         &mut self,
         place: ChannelBox<'_>,
@@ -226,7 +226,7 @@ impl<'a, S: BoxLists, O: Write, E: Write> ToldStores<'a, S, O, E> {
         self.tell_with(place, &failure.fault, failure.giving_up.as_ref())
     }
 
-    /// Tells why a mailbox was not synchronised, how giving up its unfinished run ended, and what the server said of it.
+    /// Reports why a mailbox was not synchronised, how giving up its unfinished run ended, and what the server said of it.
     fn tell_with(
         &mut self,
         place: ChannelBox<'_>,
@@ -346,7 +346,7 @@ impl<S: Stores, O: Write, E: Write> ToldStores<'_, S, O, E> {
         }
     }
 
-    /// Makes one run over a mailbox. Where it is known what stopped it, the fault tells it.
+    /// Makes one run over a mailbox. Where it is known what stopped it, the fault says so.
     fn settle_told<R: Rng>(
         &mut self,
         alloc: Global,

@@ -15,7 +15,7 @@ use mailcore::uid::Uid;
 use outside::fault::OutsideFault;
 use outside::outside::Outside;
 
-/// Removes a message, if a guard lets it that was told what the far mailbox lists. Else the call stops before it has an effect.
+/// Removes a message, if a guard that has seen what the far mailbox lists lets it. Else the call stops before it has an effect.
 #[tactic(auto, using(crate::proofs::Again::is_open_still))]
 pub(crate) fn expunge_listed<O: Outside, G: Guard>(
     outside: &mut O,

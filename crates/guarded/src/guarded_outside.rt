@@ -6,6 +6,7 @@ use crate::begin_if::begin_if;
 use crate::expunge_listed::expunge_listed;
 use crate::guard::{Change, Guard};
 use crate::still_listed::is_listed;
+use book::lost_sides::LostSides;
 use mailbox::far_next::FarNext;
 use mailcore::flags::Flags;
 use mailcore::listing::Listing;
@@ -167,7 +168,7 @@ impl<O: Outside + FarNext, G: Guard> Outside for GuardedOutside<O, G> {
         self.outside.commit()
     }
 
-    fn give_up(&mut self, lost: &[u32]) -> Result<(), OutsideFault> {
+    fn give_up(&mut self, lost: &LostSides) -> Result<(), OutsideFault> {
         self.outside.give_up(lost)
     }
 

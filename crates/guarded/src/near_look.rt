@@ -219,7 +219,7 @@ impl<R: Files + Clock + AllocGlobal + Clone + Drop> Guard for NearLook<R> {
     }
 
     fn forget(&mut self) {
-        // A UID that was given again ends the run, so it is told whatever is opened then.
+        // A UID that was given again ends the run, so it is reported whatever is opened then.
         let noted = self.objection.take();
         if let Some(Objection::GivenAgain(uid)) = noted {
             self.objection.set(Some(Objection::GivenAgain(uid)));

@@ -66,8 +66,9 @@ fn refuse_boxes(alloc: Global, config: &Config) -> Result<(), Failure>
 }
 
 /// Does what a command line asks for, over the servers and the folders of its configuration (`channels::run::run_config`). The file of the
-/// configuration is that of the command line, or else `.mbsyncrc` in HOME. It gives the exit status: 1 also where a file cannot be read
-/// or the configuration is a bad one, or names a mailbox that no Maildir store can have, which `err` is told (docs/MBSYNC.md, "What is printed").
+/// configuration is that of the command line, or else `.mbsyncrc` in HOME. It gives the exit status: 1 also where a file cannot be read,
+/// or where the configuration is a bad one or names a mailbox that no Maildir store can have, which `err` gets a line about
+/// (docs/MBSYNC.md, "What is printed").
 ///
 /// Where there is a terminal, a line of it shows which mailbox is at work, and how many steps of its plan are logged; it is wiped before
 /// anything is written to `out` or `err`.

@@ -1,4 +1,4 @@
-//! The line on a terminal that tells which mailbox is at work, how far its run is, and what a server is waited for.
+//! The line on a terminal that shows which mailbox is at work, how far its run is, and what mbsync waits for.
 
 use channels::channel_box::ChannelBox;
 use config::config::ImapStore;
@@ -67,7 +67,7 @@ impl<T: Write + Copy> Screen<T> {
         }
     }
 
-    /// Who is told how far the run over the mailbox is that is shown, and what is waited for.
+    /// Shows how far the run over this mailbox is, and what mbsync waits for.
     pub(crate) fn steps(&self) -> Steps<T> {
         Steps {
             terminal: self.terminal,
@@ -84,15 +84,15 @@ impl<T: Write + Copy> Screen<T> {
     }
 }
 
-/// The end of the line: how far the run over the mailbox is that is shown, or what the server is waited for that is asked. It is written
-/// only while nothing is told: a run and a server tell nothing before they have ended or answered.
+/// The end of the line: how far the run over this mailbox is, or what mbsync waits for. It is written only while nothing is printed: a
+/// run and a server print nothing before they have ended or answered.
 #[derive(Clone, Copy)]
 pub(crate) struct Steps<T: Write + Copy> {
     terminal: Option<T>,
 }
 
 impl<T: Write + Copy> Progress for Steps<T> {
-    /// Shows behind the name of the mailbox how many steps are logged. Where there is nothing to do, the name stands alone.
+    /// Shows after the name of the mailbox how many steps are logged. Where there is nothing to do, the name stands alone.
     fn tell(&self, logged: usize, steps: usize) {
         if steps == 0 {
             return;
@@ -104,7 +104,7 @@ impl<T: Write + Copy> Progress for Steps<T> {
 }
 
 impl<T: Write + Copy> Waits for Steps<T> {
-    /// Shows behind the name what the server is waited for.
+    /// Shows after the name what mbsync waits for.
     fn wait(&self, wait: Wait) {
         let text = text_of(wait);
         if let Some(mut terminal) = self.terminal {

@@ -14,9 +14,9 @@ use texts::escape::push_escaped;
 pub(crate) struct Asked {
     /// Its name.
     pub(crate) store: String,
-    /// The password that it was sent, which is never told.
+    /// The password that it was sent, which is never printed.
     password: String,
-    /// The same as it was sent: `"` and `\` each behind a `\` (RFC 9051, section 9: quoted).
+    /// The same as it was sent: `"` and `\` each after a `\` (RFC 9051, section 9: quoted).
     sent: Vec<u8>,
 }
 
@@ -38,7 +38,7 @@ impl Asked {
         self.shown(alloc, &text)
     }
 
-    /// A text of its server as it is told. None where it repeats the password, or is empty, or memory is wanting.
+    /// A text of its server as it is printed. None where it repeats the password, or is empty, or memory is wanting.
     pub(crate) fn shown(&self, alloc: Global, text: &[u8]) -> Option<String> {
         if text.is_empty() || self.is_repeated_in(text) {
             return None;
@@ -81,7 +81,7 @@ fn push_sent(b: u8, spelled: &mut Vec<u8>) -> Result<(), AllocError>
     Ok(())
 }
 
-/// Whether a word stands somewhere in a text, with no letter and no digit before it or behind it.
+/// Whether a word stands somewhere in a text, with no letter and no digit before or after it.
 fn has_word(text: &[u8], word: &[u8]) -> bool {
     !word.is_empty() && (0..text.len()).any(|start| stands_at(text, start, word))
 }

@@ -21,8 +21,8 @@ pub enum LinkEnd {
 /// Where it is noted how the last connection came to its end. None: it stands, or none was asked for.
 pub(crate) type NotedEnd = Rc<Cell<Option<LinkEnd>>>;
 
-/// A link that passes each call on, and notes how its connection came to its end. A new connection is noted anew. It tells what the server
-/// is waited for before it is.
+/// A link that passes each call on, and notes how its connection came to its end. A new connection is noted anew. Before it waits for the
+/// server, it reports what for.
 #[derive(Drop)]
 pub struct NotedLink<L, W> {
     link: L,
@@ -31,7 +31,7 @@ pub struct NotedLink<L, W> {
 }
 
 impl<L: Link, W: Waits> NotedLink<L, W> {
-    /// This link, which notes there how its connection came to its end, and tells this one what the server is waited for.
+    /// This link, which notes there how its connection came to its end, and reports to this one what it waits for.
     pub(crate) fn new(link: L, end: NotedEnd, waits: W) -> Self
         ensures { result.link ≡ link }
     {

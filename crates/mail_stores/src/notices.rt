@@ -1,4 +1,4 @@
-//! What is told beside faults: mailboxes and files that are left out, and what a server says to its users.
+//! What is printed beside faults: mailboxes and files that are left out, and what a server says to its users.
 
 ghost use Rattle.std.specs.Prelude.{◌↔◌, All, IsTrue};
 ghost use Rattle.channels.specs.Asked.{joined_of};
@@ -11,7 +11,7 @@ use link_face::words::Words;
 use std::alloc::{AllocError, Global};
 use std::mem;
 
-/// What is to be told beside faults.
+/// What is to be printed beside faults.
 #[derive(Drop)]
 pub(crate) struct Notices {
     alloc: Global,
@@ -40,7 +40,7 @@ impl Notices {
         }
     }
 
-    /// Takes out what is to be told over a channel. A mailbox that is left out, and that the channel could not choose, waits for one that
+    /// Takes out what is to be printed over a channel. A mailbox that is left out, and that the channel could not choose, waits for one that
     /// could.
     pub(crate) fn take(&mut self, of: ChannelStores<'_>) -> Vec<Notice>
         ensures { All (IsFor (joined_of of.entry)) result.items }
@@ -123,7 +123,7 @@ impl Notices {
     }
 }
 
-/// Adds a text to texts in order, if it is not there, and tells whether it was not.
+/// Adds a text to texts in order, if it is not there; true where it was not.
 fn add_once(texts: &mut Vec<String>, text: String) -> Result<bool, AllocError> {
     match texts.binary_search_by(|other| other.as_str().cmp(text.as_str())) {
         Ok(_) => Ok(false),

@@ -21,13 +21,13 @@ pub enum Wait {
     Logout,
 }
 
-/// Who is told what a server is waited for, before it is.
+/// Shows what mbsync waits for, before it waits.
 pub trait Waits {
     /// A server is waited for this from now on.
     fn wait(&self, wait: Wait);
 }
 
-/// Nobody is told.
+/// Shows nothing.
 impl Waits for () {
     fn wait(&self, wait: Wait) {
         let _ = wait;

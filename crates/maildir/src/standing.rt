@@ -105,7 +105,7 @@ impl<'a> Look<'a> {
     }
 }
 
-/// The first UID that a name tells and that is one of these, which rise.
+/// The first UID in a name that is one of these, which rise.
 fn told_among(name: &[u8], uids: &[Uid]) -> Option<Uid> {
     if uids.is_empty() {
         return None;
@@ -120,7 +120,7 @@ fn told_among(name: &[u8], uids: &[Uid]) -> Option<Uid> {
     None
 }
 
-/// The UID that stands behind `U=` at the head of this piece of a name, whatever comes after its digits.
+/// The UID after `U=` at the head of this piece of a name, whatever comes after its digits.
 fn told_uid(piece: &[u8]) -> Option<Uid> {
     let behind = piece.strip_prefix(b"U=")?;
     let digits = behind.split(|byte| !byte.is_ascii_digit()).next()?;

@@ -1,5 +1,4 @@
-use Rattle.std.proofs.Common.{[], ap, sym, ◌∙◌}
-use Rattle.channels.specs.Boxes.{put_name}
+use Rattle.std.proofs.Common.{[], ◌∙◌}
 use Rattle.channels.proofs.BoxLemmas.{put_names-next}
 use Rattle.channels.proofs.boxes.in_order.Goals as goal
 
