@@ -24,7 +24,8 @@ use Rattle.sync_state.specs.JournalText.{HasJournal, bottom}
 use Rattle.book.specs.Agreement.{Agrees, is_pair}
 use Rattle.book.specs.Committed.{entries_of_copies}
 use Rattle.book.specs.EntryOrders.{IsNotAfter}
-use Rattle.book.specs.GivingUp.{entry_behind, flags_at, flags_behind, half_of, left_entry, loses_far}
+use Rattle.book.specs.GivingUp.{entry_behind, flags_at, flags_behind, half_of, left_entry, loses, without}
+use Rattle.book.specs.LostSides.{Lost, lost_on}
 use Rattle.book.proofs.EntryPairLemmas.{Apart, AllPairs-append, AllPairs-map, ArePairs-from, apart_from_pairs, apart_moved}
 use Rattle.book.proofs.CopiedUids.{Fresh, copies_are}
 use Rattle.book.proofs.CommittedPairs.{AreCommitted, IsUnnamed, IsWhole, apart_numbers, copies_whole, fresh_unnamed, lines_of_agreed}
@@ -66,37 +67,53 @@ same_uid Near e b k = rw k.near refl
 same_side : (e b : Entry) → IsSamePair e b → has_a_side b ≡ has_a_side e
 same_side e b k = rw (k.far, k.near) refl
 
--- ---- an entry that may lose its far side keeps the other
+-- ---- an entry that may lose a side keeps the other
 
 pub record IsKeptPair (e b : Entry) : Type 0 where
   pub far : (b.far ≡ e.far) ⊎ (b.far ≡ None)
-  pub near : b.near ≡ e.near
+  pub near : (b.near ≡ e.near) ⊎ (b.near ≡ None)
   pub some : has_a_side e ≡ true → has_a_side b ≡ true
   pub flags : e.flags < 2 ^ FLAGS → b.flags < 2 ^ FLAGS
 
-half_kept : (t : Bool) (e b : Entry) → IsSamePair e b → (t ≡ true → is_full b ≡ true) → IsKeptPair e (cond t (record b { far = None }) b)
-half_kept true e b k full = record { far = inr refl; near = k.near; some = λ h. (and_parts (is_some b.far) (is_some b.near) (full refl)).1; flags = k.flags }
-half_kept false e b k full = record { far = inl k.far; near = k.near; some = λ h. same_side e b k ∙ h; flags = k.flags }
+whole_kept : (e b : Entry) → IsSamePair e b → IsKeptPair e b
+whole_kept e b k = record { far = inl k.far; near = inl k.near; some = λ h. same_side e b k ∙ h; flags = k.flags }
 
-pub left_kept : (j : Journal) (lost : List ℕ) (e : Entry) → IsKeptPair e (left_entry j lost e)
+-- the other side stands still
+one_left : (side : Side) (b : Entry) → is_full b ≡ true → has_a_side (without side b) ≡ true
+one_left Far b full = (and_parts (is_some b.far) (is_some b.near) full).1
+one_left Near b full = rw (and_parts (is_some b.far) (is_some b.near) full).0 refl
+
+without_kept : (side : Side) (e b : Entry) → IsSamePair e b → is_full b ≡ true → IsKeptPair e (without side b)
+without_kept Far e b k full = record { far = inr refl; near = inl k.near; some = λ h. one_left Far b full; flags = k.flags }
+without_kept Near e b k full = record { far = inl k.far; near = inr refl; some = λ h. one_left Near b full; flags = k.flags }
+
+half_kept : (side : Side) (t : Bool) (e b other : Entry) → IsSamePair e b → (t ≡ true → is_full b ≡ true) → IsKeptPair e other → IsKeptPair e (cond t (without side b) other)
+half_kept side true e b other k full kept = without_kept side e b k (full refl)
+half_kept side false e b other k full kept = kept
+
+pub left_kept : (j : Journal) (lost : Lost) (e : Entry) → IsKeptPair e (left_entry j lost e)
 left_kept j lost e =
     let b = entry_behind j.plan.steps j.log e in
-    half_kept (loses_far lost b) e b (same_pair j.plan.steps j.log e) (λ t. (and_parts (is_full b) (list_any (λ u. u == uid_of Far b) lost) t).0)
+    let same = same_pair j.plan.steps j.log e in
+    let full : (side : Side) → loses lost side b ≡ true → is_full b ≡ true = λ side t. (and_parts (is_full b) (list_any (λ u. u == uid_of Far b) (lost_on lost side)) t).0 in
+    half_kept Far (loses lost Far b) e b (cond (loses lost Near b) (without Near b) b) same (full Far)
+    (half_kept Near (loses lost Near b) e b b same (full Near) (whole_kept e b same))
 
 -- a side has its UID, or is gone
-pub kept_uid : (side : Side) (e b : Entry) → IsKeptPair e b → (uid_of side b ≡ uid_of side e) ⊎ (uid_of side b ≡ 0)
-kept_uid Far e b k = elim k.far [
-  | inl same ↦ inl (ap (λ (o : Option ℕ). unwrap_or o 0) same)
-  | inr none ↦ inr (ap (λ (o : Option ℕ). unwrap_or o 0) none)
-]
-kept_uid Near e b k = inl (ap (λ (o : Option ℕ). unwrap_or o 0) k.near)
+gone_or_same : (x y : Option ℕ) → (y ≡ x) ⊎ (y ≡ None) → (unwrap_or y 0 ≡ unwrap_or x 0) ⊎ (unwrap_or y 0 ≡ 0)
+gone_or_same x y (inl same) = inl (ap (λ (o : Option ℕ). unwrap_or o 0) same)
+gone_or_same x y (inr none) = inr (ap (λ (o : Option ℕ). unwrap_or o 0) none)
 
-far_fits : (x y : Option ℕ) → (y ≡ x) ⊎ (y ≡ None) → IsUidOrNone x → IsUidOrNone y
-far_fits x y (inl same) h = subst (λ (o : Option ℕ). IsUidOrNone o) (sym same) h
-far_fits x y (inr none) h = subst (λ (o : Option ℕ). IsUidOrNone o) (sym none) tt
+pub kept_uid : (side : Side) (e b : Entry) → IsKeptPair e b → (uid_of side b ≡ uid_of side e) ⊎ (uid_of side b ≡ 0)
+kept_uid Far e b k = gone_or_same e.far b.far k.far
+kept_uid Near e b k = gone_or_same e.near b.near k.near
+
+side_fits : (x y : Option ℕ) → (y ≡ x) ⊎ (y ≡ None) → IsUidOrNone x → IsUidOrNone y
+side_fits x y (inl same) h = subst (λ (o : Option ℕ). IsUidOrNone o) (sym same) h
+side_fits x y (inr none) h = subst (λ (o : Option ℕ). IsUidOrNone o) (sym none) tt
 
 kept_fits : (e b : Entry) → IsKeptPair e b → IsEntry Two e → IsEntry Two b
-kept_fits e b k f = record { far = far_fits e.far b.far k.far f.far; near = rw k.near f.near; flags = k.flags f.flags }
+kept_fits e b k f = record { far = side_fits e.far b.far k.far f.far; near = side_fits e.near b.near k.near f.near; flags = k.flags f.flags }
 
 -- ---- all of them
 
@@ -133,7 +150,7 @@ module _ (f : Entry → Entry) (keeps : (e : Entry) → IsKeptPair e (f e)) wher
       let sides : All (λ e. has_a_side e ≡ true) new = All-weaker IsWhole (λ e. has_a_side e ≡ true) (λ e w. w.some) new whole in
       record { fits = ranges; pairs = ArePairs-from new ranges sides apart order }
 
-given_up_pairs : (j : Journal) (lost : List ℕ) (old new : List Entry) → HasJournal j → ArePairs old → All (IsEntry Two) old → Agrees old j
+given_up_pairs : (j : Journal) (lost : Lost) (old new : List Entry) → HasJournal j → ArePairs old → All (IsEntry Two) old → Agrees old j
     → IsPermutation (map (left_entry j lost) old ++ entries_of_copies j.plan.steps j.log) new → AllPairs IsNotAfter new → AreCommitted new
 given_up_pairs j lost old new = given_up_by (left_entry j lost) (left_kept j lost) j old new
 
@@ -143,12 +160,12 @@ map_twice : (f g : Entry → Entry) (xs : List Entry) → map g (map f xs) ≡ m
 map_twice f g [] = refl
 map_twice f g (x ∷ xs) = ap (λ (l : List Entry). g (f x) ∷ l) (map_twice f g xs)
 
-pub record AreLeft (j : Journal) (lost : List ℕ) (old new : List Entry) : Type 0 where
+pub record AreLeft (j : Journal) (lost : Lost) (old new : List Entry) : Type 0 where
   pub moved : IsPermutation (map (left_entry j lost) old ++ entries_of_copies j.plan.steps j.log) new
   pub are : AreCommitted new
 
 -- by the list after each step: first the old entries, with the flags that were given, without lost sides, with the copies, and sorted
-pub left_so : (j : Journal) (lost : List ℕ) (old first noted halves all new : List Entry) (steps : List Step) (log : List Logged)
+pub left_so : (j : Journal) (lost : Lost) (old first noted halves all new : List Entry) (steps : List Step) (log : List Logged)
     → HasJournal j → ArePairs old → All (IsEntry Two) old → Agrees old j → steps ≡ j.plan.steps → log ≡ j.log
     → first ≡ old → noted ≡ map (entry_behind steps log) first → halves ≡ map (half_of lost) noted → all ≡ halves ++ entries_of_copies steps log
     → IsPermutation all new → AllPairs IsNotAfter new → AreLeft j lost old new

@@ -4,7 +4,8 @@ use Rattle.std.specs.List.{list_any}
 use Rattle.std.specs.List.Sorted.{IsPermutation}
 use Rattle.device.specs.Calls.{Effect}
 use Rattle.mailcore.specs.FlagSet.{DELETED, has, minus, union}
-use Rattle.mailcore.specs.declared.side.Side.TheVariants.{Far}
+use Rattle.mailcore.specs.declared.side.Side.{Side}
+use Rattle.mailcore.specs.declared.side.Side.TheVariants.{Far, Near}
 use Rattle.rules.specs.declared.entry.Entry.{Entry}
 use Rattle.rules.specs.declared.plan.Step.{Step}
 use Rattle.rules.specs.declared.plan.Step.TheVariants as step
@@ -20,6 +21,7 @@ use Rattle.book.specs.declared.book.Pending.TheVariants.{Missing, Useless, Plann
 use Rattle.book.specs.Shelves.{Files}
 use Rattle.book.specs.Books.{Holds, HoldsStateIn}
 use Rattle.book.specs.Agreement.{is_pair}
+use Rattle.book.specs.LostSides.{Lost, lost_on}
 use Rattle.book.specs.Committed.{entries_of_copies}
 
 -- ---- what a plan has made of the flags of old entries
@@ -44,22 +46,27 @@ entry_behind [] log e = e
 entry_behind (s ∷ steps) [] e = record e { flags = flags_at s e }
 entry_behind (s ∷ steps) (logged ∷ log) e = entry_behind steps log (record e { flags = flags_behind s e })
 
--- ---- an entry that loses its far side
+-- ---- an entry that loses a side
 
--- both messages of the entry are recorded, and its far one is among those that are lost
-abbrev pub loses_far : (lost : List ℕ) → Entry → Bool
-loses_far lost e = is_full e && list_any (λ u. u == uid_of Far e) lost
+-- both messages of the entry are recorded, and it is among those that lose this side
+abbrev pub loses : Lost → Side → Entry → Bool
+loses lost side e = is_full e && list_any (λ u. u == uid_of Far e) (lost_on lost side)
 
-abbrev pub half_of : (lost : List ℕ) → Entry → Entry
-half_of lost e = if loses_far lost e then record e { far = None } else e
+abbrev pub without : Side → Entry → Entry
+without Far e = record e { far = None }
+without Near e = record e { near = None }
+
+abbrev pub half_of : Lost → Entry → Entry
+half_of lost e = if loses lost Far e then without Far e else if loses lost Near e then without Near e else e
 
 -- what an old entry becomes
-abbrev pub left_entry : Journal → (lost : List ℕ) → Entry → Entry
+abbrev pub left_entry : Journal → (lost : Lost) → Entry → Entry
 left_entry j lost e = half_of lost (entry_behind j.plan.steps j.log e)
 
--- The state that is left of a plan, some of whose far messages are lost: the entries are the old ones, with the flags that logged steps gave, and one for each copy that is
--- logged. An old entry whose far message is lost keeps its near side alone. What is new stays new, since the highest UIDs are the old ones.
-pub record GivesUp (j : Journal) (lost : List ℕ) (old new : SyncState) : Type 0 where
+-- The state that is left of a plan, where these entries lose a side: the entries are the old ones, with the flags that logged steps gave, and
+-- one for each copy that is logged. An old entry that loses a side keeps the other one alone. What is new stays new, since the highest UIDs
+-- are the old ones.
+pub record GivesUp (j : Journal) (lost : Lost) (old new : SyncState) : Type 0 where
   pub run : new.run ≡ j.plan.run
   pub far_validity : new.far_validity ≡ j.plan.far.validity
   pub near_validity : new.near_validity ≡ j.plan.near.validity
@@ -68,38 +75,38 @@ pub record GivesUp (j : Journal) (lost : List ℕ) (old new : SyncState) : Type 
   pub entries : IsPermutation (map (left_entry j lost) old.entries ++ entries_of_copies j.plan.steps j.log) new.entries
 
 -- the plan that is pending leaves this state of the one before
-abbrev pub LeftOf : (lost : List ℕ) → Pending → (old new : SyncState) → Type 0
+abbrev pub LeftOf : (lost : Lost) → Pending → (old new : SyncState) → Type 0
 LeftOf lost Missing old new = ⊥
 LeftOf lost Useless old new = ⊥
 LeftOf lost (Planned written) old new = GivesUp written.journal lost old new
 
 -- the files hold what is left of the plan, in the second version, and the journal, which is useless now, or none
-pub record HoldsLeft (lost : List ℕ) (pending : Pending) (old : SyncState) (files : Files) : Type 0 where
+pub record HoldsLeft (lost : Lost) (pending : Pending) (old : SyncState) (files : Files) : Type 0 where
   pub state : SyncState
   pub left : LeftOf lost pending old state
   pub written : HoldsStateIn Two files.state state
   pub held : Holds files state Useless ⊎ Holds files state Missing
 
 -- a plan is pending still, or it was given up
-abbrev pub LeavesGivingUp : (lost : List ℕ) → Pending → (old : SyncState) → Files → Type 0
+abbrev pub LeavesGivingUp : (lost : Lost) → Pending → (old : SyncState) → Files → Type 0
 LeavesGivingUp lost pending old files = Holds files old pending ⊎ HoldsLeft lost pending old files
 
 -- the files hold what is left of the plan, in the second version, and no journal
-pub record HoldsGivenUp (lost : List ℕ) (pending : Pending) (old : SyncState) (files : Files) : Type 0 where
+pub record HoldsGivenUp (lost : Lost) (pending : Pending) (old : SyncState) (files : Files) : Type 0 where
   pub state : SyncState
   pub left : LeftOf lost pending old state
   pub written : HoldsStateIn Two files.state state
   pub held : Holds files state Missing
 
 -- the plan is given up, whatever the state before
-abbrev pub GivesUpTo : (lost : List ℕ) → Pending → Effect Files
+abbrev pub GivesUpTo : (lost : Lost) → Pending → Effect Files
 GivesUpTo lost pending old new = (s : SyncState) → Holds old s pending → HoldsGivenUp lost pending s new
 
 -- the journal is still there, or given up and useless, or given up and removed
-abbrev pub GivesUpHalf : (lost : List ℕ) → Pending → Effect Files
+abbrev pub GivesUpHalf : (lost : Lost) → Pending → Effect Files
 GivesUpHalf lost pending old new = (s : SyncState) → Holds old s pending → LeavesGivingUp lost pending s new
 
 -- where it answers, the plan is given up; else it may be, in part or whole
-abbrev pub LeavesGivenUp : {T : Type 0} → (lost : List ℕ) → Pending → (old new : Files) → Result T BookFault → Type 0
+abbrev pub LeavesGivenUp : {T : Type 0} → (lost : Lost) → Pending → (old new : Files) → Result T BookFault → Type 0
 LeavesGivenUp lost pending old new (Ok answer) = GivesUpTo lost pending old new
 LeavesGivenUp lost pending old new (Err fault) = GivesUpHalf lost pending old new

@@ -12,6 +12,7 @@ pub mod DiskShelves
 pub mod EntryOrders
 pub mod GivenUpParts
 pub mod GivingUp
+pub mod LostSides
 pub mod MemShelves
 pub mod PlacedLists
 pub mod Shelves

@@ -1,12 +1,13 @@
 //! How a run is given up.
 
 ghost use Rattle.std.specs.Prelude.{◌≡◌, false, true, OnOk, OnErr};
-ghost use Rattle.std.specs.List.Sorted.{IsNonDecreasing};
 ghost use Rattle.book.specs.Books.{Holds, Ends, IsPlanned};
 ghost use Rattle.book.specs.GivingUp.{LeftOf, LeavesGivenUp};
+ghost use Rattle.book.specs.LostSides.{AreRising};
 
 use crate::book::{Book, Pending};
 use crate::given_up::given_up;
+use crate::lost_sides::LostSides;
 use crate::shelf::{File, Shelf};
 use sync_state::fault::BookFault;
 use sync_state::state_text::write_state_text;
@@ -15,11 +16,10 @@ impl<S: Shelf> Book<S> {
     ghost use Rattle.book.specs.Standings.{files_in, standing};
 
     /// Puts the state that is left of the pending plan in place of the old one, in the second version, and then removes the journal: one
-    /// `replace` and one `remove`. An entry whose far message is lost, of which these are the UIDs, keeps its near side alone. A fault
-    /// leaves the old state and the journal, the new state and the journal, which is useless then, or the new state alone.
-    pub fn give_up(&mut self, lost: &[u32]) -> Result<(), BookFault>
+    /// `replace` and one `remove`. An entry that loses a side keeps the other one alone. A fault leaves the old state and the journal, the new state and the journal, which is useless then, or the new state alone.
+    pub fn give_up(&mut self, lost: &LostSides) -> Result<(), BookFault>
         requires planned { IsPlanned self.old.pending }
-        requires rising { IsNonDecreasing lost.now }
+        requires rising { AreRising lost.now }
         ensures left { OnOk result (LeftOf lost.now self.old.pending self.old.state self.new.state) }
         ensures removed { OnOk result (self.new.pending ≡ Pending.Missing) }
         ensures kept { OnErr result ((self.new.state ≡ self.old.state) × (self.new.pending ≡ self.old.pending)) }

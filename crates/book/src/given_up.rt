@@ -1,16 +1,17 @@
 //! The state that is left of a plan that is given up.
 
 ghost use Rattle.std.specs.Prelude.{◌≡◌, ◌+◌, ◌++◌, All, IfOk, MatchOption, OnOk, map};
-ghost use Rattle.std.specs.List.Sorted.{IsNonDecreasing};
 ghost use Rattle.sync_state.specs.declared.version.Version.TheVariants.{Two};
 ghost use Rattle.sync_state.specs.StateText.{HasText, IsEntry, IsHighest};
 ghost use Rattle.sync_state.specs.JournalText.{HasJournal};
 ghost use Rattle.book.specs.Agreement.{Agrees};
-ghost use Rattle.book.specs.GivingUp.{GivesUp, entry_behind, flags_at, flags_behind, half_of, loses_far};
+ghost use Rattle.book.specs.GivingUp.{GivesUp, entry_behind, flags_at, flags_behind, half_of, loses, without};
+ghost use Rattle.book.specs.LostSides.{AreRising};
 ghost use Rattle.book.specs.GivenUpParts.{HasNoPair, HasPairAt, IsOfNone, IsOfOne, with_next, with_step};
 ghost use Rattle.rules.specs.Entries.{ArePairs};
 
 use crate::committed::{is_pair, push_copies, sort};
+use crate::lost_sides::LostSides;
 use crate::places::place_of;
 use mailcore::flags::{Flag, Flags};
 use mailcore::side::Side;
@@ -151,33 +152,50 @@ fn note_log(list: &mut Vec<Entry>, steps: &[Step], log: &[Logged])
     }
 }
 
-/// Whether an entry loses its far side.
-fn loses_far(entry: &Entry, lost: &[u32]) -> bool
-    requires rising { IsNonDecreasing lost.now }
-    ensures { result ≡ loses_far lost.now entry.now }
+/// Whether an entry loses this side.
+fn loses(entry: &Entry, lost: &LostSides, side: Side) -> bool
+    requires rising { AreRising lost.now }
+    ensures { result ≡ loses lost.now side entry.now }
 {
-    entry.is_full() && lost.binary_search(&entry.number(Side::Far)).is_ok()
+    entry.is_full()
+        && lost
+            .on(side)
+            .binary_search(&entry.number(Side::Far))
+            .is_ok()
 }
 
-/// An entry without its far side, if that is lost.
-fn half_of(entry: &Entry, lost: &[u32]) -> Entry
-    requires rising { IsNonDecreasing lost.now }
+/// An entry without this side.
+fn without(entry: &Entry, side: Side) -> Entry
+    ensures { result ≡ without side entry.now }
+{
+    let (far, near) = match side {
+        Side::Far => (None, entry.near),
+        Side::Near => (entry.far, None),
+    };
+    Entry {
+        far,
+        near,
+        flags: entry.flags,
+    }
+}
+
+/// An entry without the side that it loses, if it loses one.
+fn half_of(entry: &Entry, lost: &LostSides) -> Entry
+    requires rising { AreRising lost.now }
     ensures { result ≡ half_of lost.now entry.now }
 {
-    if loses_far(entry, lost) {
-        Entry {
-            far: None,
-            near: entry.near,
-            flags: entry.flags,
-        }
+    if loses(entry, lost, Side::Far) {
+        without(entry, Side::Far)
+    } else if loses(entry, lost, Side::Near) {
+        without(entry, Side::Near)
     } else {
         *entry
     }
 }
 
-/// Takes their far sides from the entries whose far messages are lost.
-fn halve(list: &mut Vec<Entry>, lost: &[u32])
-    requires rising { IsNonDecreasing lost.now }
+/// Takes from the entries the sides that they lose.
+fn halve(list: &mut Vec<Entry>, lost: &LostSides)
+    requires rising { AreRising lost.now }
     ensures { list.new.items ≡ map (half_of lost.now) list.old.items }
 {
     for entry in list.iter_mut() {
@@ -193,14 +211,14 @@ fn push_all(list: &mut Vec<Entry>, entries: &[Entry]) -> Result<(), AllocError>
 }
 
 /// The state that is left of the journal's plan where it is given up: the one before, with the flags that logged steps gave recorded, and
-/// an entry for each copy that is logged. An entry of the one before whose far message is lost keeps its near side alone.
+/// an entry for each copy that is logged. An entry of the one before that loses a side keeps the other one alone.
 pub fn given_up(
     alloc: Global,
     old: &SyncState,
     journal: &Journal,
-    lost: &[u32],
+    lost: &LostSides,
 ) -> Result<SyncState, AllocError>
-    requires rising { IsNonDecreasing lost.now }
+    requires rising { AreRising lost.now }
     requires fits { HasJournal journal.now }
     requires entries { All (IsEntry Two) old.now.entries }
     requires highest { IsHighest old.now.max_pulled × IsHighest old.now.max_pushed }

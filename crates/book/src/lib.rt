@@ -12,6 +12,7 @@ pub mod disk_shelf;
 pub mod give_up;
 pub mod given_up;
 pub mod laws;
+pub mod lost_sides;
 pub mod mem_shelf;
 mod places;
 pub mod shelf;

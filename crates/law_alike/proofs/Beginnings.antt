@@ -15,5 +15,5 @@ world_is_unplanned ours alone w options d held sound = record {
   chosen = refl;
   below = opening_names w sound;
   grows = subst (λ (now : World). Grows alone w now) (sym held.world) (grows_none alone w sound.world.in_order);
-  spares = held.spares;
+  named = held.unnamed;
 }

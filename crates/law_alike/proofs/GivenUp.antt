@@ -16,6 +16,7 @@ use Rattle.sync_state.specs.Words.{IsUidOrNone}
 use Rattle.sync_state.specs.declared.journal.Journal.{Journal}
 use Rattle.book.specs.Committed.{entries_of_copies}
 use Rattle.book.specs.GivingUp.{left_entry}
+use Rattle.book.specs.LostSides.{Lost}
 use Rattle.book.proofs.GivenUpPairs.{kept_uid, left_kept}
 use Rattle.law_outcome.proofs.Admission.{opening_names}
 use Rattle.outside.specs.Devices.{Device, box}
@@ -35,7 +36,7 @@ uid_below : (a b next : ℕ) → (b ≡ a) ⊎ (b ≡ 0) → a < next → b < ne
 uid_below a b next (inl same) h = omega (arith, same, h)
 uid_below a b next (inr none) h = omega (arith, none, h)
 
-left_below : (j : Journal) (lost : List ℕ) (side : Side) (es : List Entry) (next : ℕ) → All (λ e. uid_of side e < next) es → All (λ e. uid_of side e < next) (map (left_entry j lost) es)
+left_below : (j : Journal) (lost : Lost) (side : Side) (es : List Entry) (next : ℕ) → All (λ e. uid_of side e < next) es → All (λ e. uid_of side e < next) (map (left_entry j lost) es)
 left_below j lost side es next h =
     All-map (λ (e : Entry). uid_of side e < next) (left_entry j lost) es
     (All-weaker (λ (e : Entry). uid_of side e < next) (λ e. uid_of side (left_entry j lost e) < next)

@@ -1,6 +1,6 @@
 -- Messages that others added are left to the next run.
 use Rattle.std.proofs.Common.{◌≡◌, ◌≢◌, ◌<◌, ◌≤◌, inl, inr, ℕ, zero, suc, true, false, lt-ltb, List, [], ◌∷◌, ◌++◌, length, map, refl, sym, ap, ◌∙◌, subst, arith}
-use Rattle.std.specs.Prelude.{All, AllPairs, Contains, nat_lt}
+use Rattle.std.specs.Prelude.{All, AllPairs, Contains, flat_map, nat_lt}
 use Rattle.std.specs.List.{list_any}
 use Rattle.std.proofs.lemmas.Bool.{both_ways, cases_lt, or_left}
 use Rattle.std.proofs.lemmas.List.Elements.{All-append, All-cons, All-contains, All-head, All-map, All-nil, All-tail, All-weaker, Contains-append_left, Contains-append_right}
@@ -24,6 +24,7 @@ use Rattle.rules.specs.World.{World, IsInOrder, NamesBelow, store, scene_of}
 use Rattle.rules.specs.WorldAfter.{marks_to, new_messages, staying}
 use Rattle.rules.proofs.Walks.{All-from_contains, AllPairs-head, AllPairs-tail, filter_contains}
 use Rattle.rules.proofs.WorldLemmas.{marks_to_counted, store_is}
+use Rattle.planner.specs.Written.{all_steps}
 use Rattle.law_outcome.specs.AlikeLaws.{own_world}
 use Rattle.law_outcome.proofs.Admission.{admitted_sound, turn_admits}
 use Rattle.law_outcome.proofs.Named.{highest_below}
@@ -34,6 +35,9 @@ use Rattle.outside.specs.Sparing.{AreOthers}
 use Rattle.outside.proofs.Sparing.{others_last}
 use Rattle.run_states.specs.Endings.{DoneAt}
 use Rattle.run_states.specs.Openings.{world_at}
+use Rattle.run_states.specs.Plans.{names_of}
+use Rattle.run_states.proofs.Naming.{all_before}
+use Rattle.run_states.proofs.Spared.{since_is}
 use Rattle.law_alike.proofs.CalledNext.{called_new}
 use Rattle.law_alike.specs.Others.{IsLeft, IsOthers, OthersAreLeft, OthersAreSpared, OthersStay, OthersAreCopiedNext}
 
@@ -172,20 +176,27 @@ own_there w marks now Near m k =
 pub others_spared : OthersAreSpared
 others_spared ours alone opening d over side m other =
     let w = over.world in
-    let later = came_later w over.holds.marks side m other in
-    All-weaker (λ n. n.uid < (store w n.side).next) (λ n. n.side ≡ side → n.uid ≢ m.uid)
-    (λ n before is same. let bound : n.uid < (store w side).next = subst (λ (s : Side). n.uid < (store w s).next) is before in omega (arith, bound, later, same)) d.named over.holds.alike.spares
+    let x = over.holds in
+    let by = x.alike.named in
+    let names = flat_map names_of (all_steps (scene_of w opening.options) x.marks) in
+    let later = came_later w x.marks side m other in
+    let before = all_before w opening.options over.grows.in_order over.below x.marks in
+    All-weaker (λ n. Contains names n) (λ n. n.side ≡ side → n.uid ≢ m.uid)
+    (λ n c is same. let low : n.uid < (store w n.side).next = All-contains (λ (k : Named). k.uid < (store w k.side).next) names n before c in
+    let bound : n.uid < (store w side).next = subst (λ (s : Side). n.uid < (store w s).next) is low in omega (arith, bound, later, same)) by.since by.each
 
 pub others_stay : OthersStay
-others_stay ours alone opening d d' on over side m there other =
+others_stay ours alone opening d d' named here on over side m there other =
     let s = on.spares in
-    let spared : AreOthers (s.since ++ d.named) side m.uid = subst (λ (names : List Named). AreOthers names side m.uid) s.named (others_spared ours alone opening d' over side m other) in
-    s.messages side m there (others_last s.since d.named side m.uid spared)
+    let x = over.holds in
+    let same = since_is opening.named named (all_steps (scene_of over.world opening.options) x.marks) d d' here x.alike.named s in
+    let spared : AreOthers (s.since ++ named) side m.uid = subst (λ (names : List Named). AreOthers names side m.uid) (sym same) (others_spared ours alone opening d' over side m other) in
+    s.messages side m there (others_last s.since named side m.uid spared)
 
 pub others_left : OthersAreLeft
 others_left ours alone opening d over order side m others = by_side side others
   where
-    done : DoneAt ours alone over.world opening.options d
+    done : DoneAt ours alone opening.named over.world opening.options d
     done = over.holds
 
     now : World

@@ -1,10 +1,7 @@
 -- One device and two runs, and the run behind one that is done.
-use Rattle.std.proofs.Common.{◌≡◌, ◌≤◌, ℕ, Bool, List, [], Option, Some, None, inl, inr, refl, sym, ap, subst, ◌∙◌, arith, append-nil}
+use Rattle.std.proofs.Common.{◌≡◌, ℕ, Bool, List, [], Option, Some, None, inl, inr, refl, sym, ap, subst, ◌∙◌, arith, append-nil}
 use Rattle.std.proofs.Math.Logic.{∥∥₁_elim}
 use Rattle.std.proofs.Props.{props}
-use Rattle.mailcore.specs.declared.side.Side.{Side}
-use Rattle.mailcore.specs.declared.side.Side.TheVariants.{Far, Near}
-use Rattle.mailcore.proofs.RiseLemmas.{rise-ends}
 use Rattle.rules.specs.declared.entry.Entry.{Entry}
 use Rattle.rules.specs.declared.options.Options.{Options}
 use Rattle.rules.specs.declared.plan.Plan.{Plan}
@@ -12,7 +9,7 @@ use Rattle.rules.specs.declared.state.SyncState.{SyncState}
 use Rattle.rules.specs.Admission.{admitted_under}
 use Rattle.rules.specs.AlikeBy.{AlikeBy}
 use Rattle.rules.specs.Entries.{ArePairs}
-use Rattle.rules.specs.World.{IsInOrder, World, store}
+use Rattle.rules.specs.World.{IsInOrder, World}
 use Rattle.sync_state.specs.declared.version.Version.{Version}
 use Rattle.sync_state.specs.declared.journal.Logged.{Logged}
 use Rattle.sync_state.specs.declared.journal.WrittenJournal.{WrittenJournal}
@@ -24,21 +21,19 @@ use Rattle.law_outcome.specs.AlikeLaws.{own_world}
 use Rattle.law_outcome.proofs.FoundAgain.{admitted_is_opening, found_is_opening}
 use Rattle.law_outcome.proofs.Named.{names_below}
 use Rattle.mailbox.proofs.Quiet.{none_come}
-use Rattle.outside.specs.Devices.{Device}
+use Rattle.outside.specs.Devices.{Device, Named}
 use Rattle.run_states.specs.Moments.{PlannedAt, Stands, with_log}
 use Rattle.run_states.specs.Openings.{Grows, IsIdle, world_at}
 use Rattle.run_states.proofs.Ends.{admitted_is}
-use Rattle.run_states.proofs.Foreign.{two}
-use Rattle.run_states.proofs.Moves.{spares_more}
 use Rattle.law_alike.specs.Runs.{DoneIsOpening, DoneIsUnplanned, OnePlan, OneState, PlannedOrNot}
 
 -- ---- what the files hold
 
-stands_files : (ours : List ℕ → Bool) (alone : Bool) (w : World) (options : Options) (version : Version) (plan : Plan) (log : List Logged) (torn : Bool) (d : Device) → Stands ours alone w options version plan log torn d → Holds d.files w.state (with_log version plan log torn)
+stands_files : (ours : List ℕ → Bool) (alone : Bool) {earlier : List Named} (w : World) (options : Options) (version : Version) (plan : Plan) (log : List Logged) (torn : Bool) (d : Device) → Stands ours alone earlier w options version plan log torn d → Holds d.files w.state (with_log version plan log torn)
 stands_files ours alone w options version plan log torn d (inl k) = let at = k.1 in at.files
 stands_files ours alone w options version plan log torn d (inr k) = let at = k.1 in at.files
 
-plan_files : (ours : List ℕ → Bool) (alone : Bool) (w : World) (options : Options) (d : Device) (p : PlannedAt ours alone w options d) → Holds d.files w.state (with_log p.version p.plan p.log p.is_torn)
+plan_files : (ours : List ℕ → Bool) (alone : Bool) {earlier : List Named} (w : World) (options : Options) (d : Device) (p : PlannedAt ours alone earlier w options d) → Holds d.files w.state (with_log p.version p.plan p.log p.is_torn)
 plan_files ours alone w options d p = stands_files ours alone w options p.version p.plan p.log p.is_torn d p.stands
 
 pub one_plan : OnePlan
@@ -86,10 +81,6 @@ grows_none alone w order = record {
   nobody = λ e. (refl, refl);
 }
 
--- a run gives no UID again
-no_less : (w : World) (options : Options) (d : Device) (marks : List (List ℕ)) (s : SyncState) (side : Side) → (k : AlikeBy w options (own_world w marks (world_at d s))) → (store w side).next ≤ (store (own_world w marks (world_at d s)) side).next
-no_less w options d marks s side k = rise-ends (store w side).next (k.uids side) (store (own_world w marks (world_at d s)) side).next (k.rise side)
-
 pub done_is_unplanned : DoneIsUnplanned
 done_is_unplanned ours alone opening d options over order =
     let x = over.holds in
@@ -102,7 +93,7 @@ done_is_unplanned ours alone opening d options over order =
       chosen = refl;
       below = record { pulled = b.pulled; pushed = b.pushed; far = b.far; near = b.near };
       grows = grows_none alone (world_at d x.state) order;
-      spares = spares_more over.world (world_at d x.state) d (two (λ side. (store over.world side).next ≤ (store (world_at d x.state) side).next) (no_less over.world opening.options d x.marks x.state Far k.alike) (no_less over.world opening.options d x.marks x.state Near k.alike)) k.spares;
+      named = refl;
     }
 
 -- the entries of a state that the files hold are pairs

@@ -1,18 +1,18 @@
 -- A run that begins with the world that a device holds, in a law that a function of `src/lib.rt` shows.
-use Rattle.std.specs.Prelude.{◌≡◌, ◌<◌, ◌+◌, ◌^◌, ℕ, Bool, List}
+use Rattle.std.specs.Prelude.{◌≡◌, ◌<◌, ◌+◌, ◌^◌, ℕ, Bool, List, []}
 use Rattle.rules.specs.declared.options.Options.{Options}
 use Rattle.rules.specs.Opening.{IsOpening}
 use Rattle.rules.specs.World.{World}
 use Rattle.book.specs.declared.book.Pending.TheVariants.{Missing}
 use Rattle.book.specs.Books.{Holds}
 use Rattle.outside.specs.Devices.{Device}
-use Rattle.run_states.specs.Openings.{Opening, SparesLater, Unplanned, world_at}
+use Rattle.run_states.specs.Openings.{Opening, Unplanned, world_at}
 
--- both mailboxes and the state are the world's, there is no journal, and no call has named a message of at least the next UID of its side
+-- both mailboxes and the state are the world's, there is no journal, and no call has named a message yet
 pub record HoldsWorld (w : World) (d : Device) : Type 0 where
   pub world : world_at d w.state ≡ w
   pub files : Holds d.files w.state Missing
-  pub spares : SparesLater w d
+  pub unnamed : d.named ≡ []
 
 -- the device holds a world that a run may begin with, and a number comes behind that of its state
 pub record Begins (w : World) (d : Device) : Type 0 where
@@ -22,7 +22,7 @@ pub record Begins (w : World) (d : Device) : Type 0 where
 
 -- the opening of a run that begins with this world: the options of the call are those of its plan
 abbrev pub opening_of : (ours : List ℕ → Bool) (alone : Bool) → World → Options → Opening ours alone
-opening_of ours alone w options = record { world = w; options = options; called = options }
+opening_of ours alone w options = record { world = w; options = options; called = options; named = [] }
 
 -- such a run has no plan yet
 abbrev pub WorldIsUnplanned : Type 0

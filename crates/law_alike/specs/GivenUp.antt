@@ -1,5 +1,5 @@
 -- A run that begins behind a plan which was given up, in a law that a function of `src/lib.rt` shows.
-use Rattle.std.specs.Prelude.{ℕ, ◌≡◌, ◌<◌, ◌+◌, List, All}
+use Rattle.std.specs.Prelude.{◌≡◌, ◌<◌, ◌+◌, All}
 use Rattle.mailcore.specs.declared.side.Side.{Side}
 use Rattle.rules.specs.declared.state.SyncState.{SyncState}
 use Rattle.rules.specs.Entries.{uid_of}
@@ -9,6 +9,7 @@ use Rattle.sync_state.specs.declared.version.Version.TheVariants.{Two}
 use Rattle.sync_state.specs.StateText.{HasText}
 use Rattle.book.specs.Committed.{entries_of_copies}
 use Rattle.book.specs.GivingUp.{GivesUp}
+use Rattle.book.specs.LostSides.{Lost}
 use Rattle.outside.specs.Devices.{Device, box}
 use Rattle.run_states.specs.Openings.{world_at}
 
@@ -24,4 +25,4 @@ pub record IsPlanOver (j : Journal) (s : SyncState) (d : Device) : Type 0 where
 -- where such a plan is given up, a run may begin with the mailboxes as they are and the state that is left
 abbrev pub GivenUpIsOpening : Type 0
 GivenUpIsOpening =
-    (j : Journal) (lost : List ℕ) (s t : SyncState) (d : Device) → IsPlanOver j s d → GivesUp j lost s t → HasText Two t → IsOpening (world_at d t)
+    (j : Journal) (lost : Lost) (s t : SyncState) (d : Device) → IsPlanOver j s d → GivesUp j lost s t → HasText Two t → IsOpening (world_at d t)

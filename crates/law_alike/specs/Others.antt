@@ -1,5 +1,5 @@
 -- What becomes of messages that others added while a run was at work, in a law that a function of `src/lib.rt` shows.
-use Rattle.std.specs.Prelude.{◌≡◌, ◌≢◌, ◌<◌, ℕ, Bool, true, false, ◌&&◌, List, All, Contains}
+use Rattle.std.specs.Prelude.{◌≡◌, ◌≢◌, ◌<◌, ℕ, Bool, true, false, ◌&&◌, List, ◌++◌, All, Contains}
 use Rattle.mailcore.specs.declared.mailbox.Message.{Message}
 use Rattle.mailcore.specs.declared.side.Direction.{Direction}
 use Rattle.mailcore.specs.declared.side.Side.{Side}
@@ -16,7 +16,7 @@ use Rattle.rules.specs.Options.{covers, goes}
 use Rattle.rules.specs.Propagation.{New}
 use Rattle.rules.specs.World.{World, IsInOrder, store, scene_of}
 use Rattle.law_steps.specs.OwnLaws.{is_own}
-use Rattle.outside.specs.Devices.{Device, box}
+use Rattle.outside.specs.Devices.{Device, Named, box}
 use Rattle.outside.specs.GoingOn.{GoesOn}
 use Rattle.outside.specs.Sparing.{AreOthers}
 use Rattle.run_states.specs.Conditions.{IsOver}
@@ -43,17 +43,18 @@ OthersAreLeft =
     IsInOrder (world_at d over.holds.state) → (side : Side) (m : Message) →
     IsOthers over.world over.holds.marks side (next_world d over.holds.state) m → IsLeft side m.uid over.holds.state
 
--- no call of the run was to change or to remove a message that others added behind its listings
+-- what calls have named since the opening stands in the steps that the rules call for, and those name no message that others added after the
+-- listings
 abbrev pub OthersAreSpared : Type 0
 OthersAreSpared =
     (ours : List ℕ → Bool) (alone : Bool) (opening : Opening ours alone) (d : Device) (over : IsOver opening d) (side : Side) (m : Message) →
-    is_own over.world over.holds.marks side m.uid m.bytes ≡ false → AreOthers d.named side m.uid
+    is_own over.world over.holds.marks side m.uid m.bytes ≡ false → AreOthers over.holds.alike.named.since side m.uid
 
--- So each that stood on a device while the run was at work stands there once it is over, with its flags and bytes under its UID. How a device
--- goes on each call says, each attempt, and all of them.
+-- So each that stood on a device while the run was at work, by when calls had named some messages since the opening, stands there once it is
+-- over, with its flags and bytes under its UID. How a device goes on each call says, each attempt, and all of them.
 abbrev pub OthersStay : Type 0
 OthersStay =
-    (ours : List ℕ → Bool) (alone : Bool) (opening : Opening ours alone) (d d' : Device) → GoesOn d d' → (over : IsOver opening d') (side : Side) (m : Message) →
+    (ours : List ℕ → Bool) (alone : Bool) (opening : Opening ours alone) (d d' : Device) (named : List Named) → d.named ≡ named ++ opening.named → GoesOn d d' → (over : IsOver opening d') (side : Side) (m : Message) →
     Contains (box d side).messages m → is_own over.world over.holds.marks side m.uid m.bytes ≡ false → Contains (box d' side).messages m
 
 -- so the next plan copies each that is fit, where its direction copies new messages, unless it is marked as deleted and Expunge covers its side

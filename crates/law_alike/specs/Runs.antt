@@ -30,9 +30,9 @@ PlannedOrNot =
 
 -- ---- the next run
 
--- the world that a device holds with this state, as the opening of a run under these options
+-- the world that a device holds with this state, and what calls have named on it, as the opening of a run under these options
 abbrev pub next_opening : (ours : List ℕ → Bool) (alone : Bool) → Device → SyncState → Options → Opening ours alone
-next_opening ours alone d state options = record { world = world_at d state; options = options; called = options }
+next_opening ours alone d state options = record { world = world_at d state; options = options; called = options; named = d.named }
 
 -- Where a run is done, the next one has no plan yet: it begins with the world that the device holds. The messages that others may have
 -- added stand in order, as those of each mailbox.

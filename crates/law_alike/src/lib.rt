@@ -36,9 +36,9 @@ pub fn done_begins_the_next_run()
     ensures opening { run.DoneIsOpening }
 {}
 
-/// A message that others added while a run was at work, behind its listings, is left to the next one. No call was to change or to remove it,
-/// so it stands as it came. It is in no entry, and above the highest UID taken over, so the next plan copies it, where it is fit, its direction
-/// copies new messages, and it is not to be expunged.
+/// A message that others added while a run was at work, after its listings, is left to the next one. Calls name only what a step of the
+/// plan is to change or to remove, and that was there before, so it stands as it came. It is in no entry, and above the highest UID taken
+/// over, so the next plan copies it, if it is fit, its direction copies new messages, and it is not to be expunged.
 pub fn others_are_left_to_the_next_run()
     ensures spared { other.OthersAreSpared }
     ensures stay { other.OthersStay }

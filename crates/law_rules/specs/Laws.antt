@@ -15,7 +15,7 @@ use Rattle.rules.specs.declared.entry.Entry.{Entry}
 use Rattle.rules.specs.declared.options.Options.{Options}
 use Rattle.rules.specs.Propagation.{Propagation, New, Gone, Flags, Expunge, Record, Drop}
 use Rattle.rules.specs.Options.{covers, goes}
-use Rattle.rules.specs.Entries.{ArePairs, uid_of}
+use Rattle.rules.specs.Entries.{ArePairs, uid_of, uid_on}
 use Rattle.rules.specs.Scene.{Scene, flags_at, full_entry, highest, is_paired, items}
 use Rattle.rules.specs.Called.{is_new, called}
 use Rattle.rules.specs.Order.{place, Before}
@@ -126,29 +126,32 @@ RecordedMarkIsNoDelete =
     (has flags DELETED ≡ false) ⊎ ((has theirs DELETED ≡ false) × (goes s.options.cells.flags (towards side) ≡ true)) →
     called s (Expunge side u) ≡ false
 
--- ---- an entry that has lost its far side
+-- ---- an entry that has lost a side
 
--- the entry has its near side alone, and that message is listed, and lacks \Deleted
-pub record IsHalf (s : Scene) (e : Entry) (near : ℕ) : Type 0 where
+-- the entry has this side alone, and its message there is listed, and lacks \Deleted
+pub record IsHalf (s : Scene) (e : Entry) (side : Side) (uid : ℕ) : Type 0 where
   pub stands : Contains s.entries e
-  pub far : e.far ≡ None
-  pub near_is : e.near ≡ Some near
-  pub positive : 0 < near
+  pub lost : uid_on (other side) e ≡ None
+  pub uid_is : uid_on side e ≡ Some uid
+  pub positive : 0 < uid
   pub flags : ℕ
-  pub listed : flags_at s.near near ≡ Some flags
+  pub listed : flags_at (items s side) uid ≡ Some flags
   pub unmarked : has flags DELETED ≡ false
 
--- the propagation is of this near message
-abbrev pub IsOfNear : (near : ℕ) → Propagation → Type 0
-IsOfNear near (New Pull u) = ⊥
-IsOfNear near (New Push u) = u ≡ near
-IsOfNear near (Gone d f n) = n ≡ near
-IsOfNear near (Flags d f n set cleared) = n ≡ near
-IsOfNear near (Expunge Far u) = ⊥
-IsOfNear near (Expunge Near u) = u ≡ near
-IsOfNear near (Record f n w) = n ≡ near
-IsOfNear near (Drop f n) = n ≡ near
+-- of a far and a near UID the one of this side
+abbrev pub on_side : Side → (far near : ℕ) → ℕ
+on_side Far f n = f
+on_side Near f n = n
+
+-- the propagation is of the message of this UID on this side
+abbrev pub IsOfMessage : Side → (uid : ℕ) → Propagation → Type 0
+IsOfMessage side uid (New d u) = (source d ≡ side) × (u ≡ uid)
+IsOfMessage side uid (Gone d f n) = on_side side f n ≡ uid
+IsOfMessage side uid (Flags d f n set cleared) = on_side side f n ≡ uid
+IsOfMessage side uid (Expunge at u) = (at ≡ side) × (u ≡ uid)
+IsOfMessage side uid (Record f n w) = on_side side f n ≡ uid
+IsOfMessage side uid (Drop f n) = on_side side f n ≡ uid
 
 -- nothing is called for that message, under whatever options: it is not new, not marked, not removed, and its entry stays
 abbrev pub HalfEntryIsLeft : Type 0
-HalfEntryIsLeft = (s : Scene) (e : Entry) (near : ℕ) (q : Propagation) → ArePairs s.entries → IsHalf s e near → IsOfNear near q → called s q ≡ false
+HalfEntryIsLeft = (s : Scene) (side : Side) (e : Entry) (uid : ℕ) (q : Propagation) → ArePairs s.entries → IsHalf s e side uid → IsOfMessage side uid q → called s q ≡ false

@@ -51,8 +51,8 @@ pub fn recorded_mark_is_no_delete()
     ensures { law.RecordedMarkIsNoDelete }
 {}
 
-/// Where an entry has lost its far side, as one has after a plan that removed its far message and was given up, nothing is called for its
-/// near message while that lacks `\Deleted`: it is not new, not marked, not removed, and the entry stays.
+/// Where an entry has lost a side, as one has after a plan that removed its message there and was given up, nothing is called for its other
+/// message while that lacks `\Deleted`: it is not new, not marked, not removed, and the entry stays.
 pub fn half_entry_is_left()
     ensures { law.HalfEntryIsLeft }
 {}

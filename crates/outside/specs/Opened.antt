@@ -1,5 +1,5 @@
 -- What of an outside has been opened, and what its calls ask of that.
-use Rattle.std.specs.Prelude.{◌≡◌, ℕ, Bool, true, List, Option, None, Some}
+use Rattle.std.specs.Prelude.{◌≡◌, ℕ, Bool, true, Option, None, Some}
 use Rattle.mailcore.specs.declared.side.Side.{Side}
 use Rattle.mailcore.specs.declared.side.Side.TheVariants.{Far, Near}
 use Rattle.rules.specs.declared.plan.Plan.{Plan}
@@ -12,6 +12,7 @@ use Rattle.book.specs.Books.{Fits, Holds, IsPlanned, IsSound}
 use Rattle.book.specs.BookLogs.{MayBegin, MayLog}
 use Rattle.book.specs.Commits.{IsFinished, Makes}
 use Rattle.book.specs.GivingUp.{LeftOf}
+use Rattle.book.specs.LostSides.{Lost}
 use Rattle.outside.specs.Devices.{Device}
 
 -- what was read of the shelf, and which boxes are open
@@ -73,13 +74,13 @@ AreCommitted (Some old) None = ⊥
 AreCommitted (Some old) (Some new) = IsCommitted old new
 
 -- the state that is left of the plan, and no journal
-pub record IsGivenUp (lost : List ℕ) (old new : Opened) : Type 0 where
+pub record IsGivenUp (lost : Lost) (old new : Opened) : Type 0 where
   pub left : LeftOf lost old.pending old.state new.state
   pub pending : new.pending ≡ Missing
   pub far : new.far ≡ old.far
   pub near : new.near ≡ old.near
 
-abbrev pub AreGivenUp : (lost : List ℕ) → (old new : Option Opened) → Type 0
+abbrev pub AreGivenUp : (lost : Lost) → (old new : Option Opened) → Type 0
 AreGivenUp lost None new = ⊥
 AreGivenUp lost (Some old) None = ⊥
 AreGivenUp lost (Some old) (Some new) = IsGivenUp lost old new

@@ -4,6 +4,7 @@ ghost use Rattle.std.specs.Prelude.{◌≡◌, ℕ, List, ◌∷◌, [], Bool, O
 ghost use Rattle.std.specs.Option.{option_map};
 
 use crate::fault::OutsideFault;
+use book::lost_sides::LostSides;
 use mailcore::flags::Flags;
 use mailcore::listing::Listing;
 use mailcore::side::{Direction, Side};
@@ -40,7 +41,7 @@ pub trait Outside {
     ghost use Rattle.book.specs.BookLogs.{begun, as_done, logged_more};
     ghost use Rattle.book.specs.Commits.{CommitsHalf, CommitsTo};
     ghost use Rattle.book.specs.GivingUp.{GivesUpHalf, GivesUpTo};
-    ghost use Rattle.std.specs.List.Sorted.{IsNonDecreasing};
+    ghost use Rattle.book.specs.LostSides.{AreRising};
     ghost use Rattle.outside.specs.Arrivals.{Arrives};
     ghost use Rattle.outside.specs.Devices.{box};
     ghost use Rattle.outside.specs.Calls.{Call, Changes, FromBook, FromBox, FromShelf, LeavesBy, Reads, Seen, Writes, opened_again, stopped};
@@ -148,10 +149,10 @@ pub trait Outside {
             (OfBook CommitsHalf (opened self.old)) (seen self.old) (seen self.new) result };
 
     /// Puts the state that is left of the pending plan in place of the old one, with an entry for each copy that is logged, and then
-    /// removes the journal. An entry whose far message is lost, of which these are the UIDs, keeps its near side alone.
-    fn give_up(&mut self, lost: &[u32]) -> Result<(), OutsideFault>
+    /// removes the journal. An entry that loses a side keeps the other one alone.
+    fn give_up(&mut self, lost: &LostSides) -> Result<(), OutsideFault>
         requires takes { TakesGivingUp (opened self.old) }
-        requires rising { IsNonDecreasing lost.now }
+        requires rising { AreRising lost.now }
         ensures was_honest { honest self.new → honest self.old }
         ensures keywords { keywords self.new ≡ keywords self.old }
         ensures opened { OnOk result (AreGivenUp lost.now (opened self.old) (opened self.new)) }

@@ -11,6 +11,7 @@ use Rattle.rules.specs.declared.plan.Plan.{Plan}
 use Rattle.rules.specs.declared.state.SyncState.{SyncState}
 use Rattle.sync_state.specs.declared.journal.Logged.{Logged}
 use Rattle.book.specs.declared.book.Pending.{Pending}
+use Rattle.book.specs.LostSides.{Lost}
 use Rattle.book.specs.Shelves.{Files}
 use Rattle.mailbox.specs.Arrivals as box
 use Rattle.outside.specs.declared.fault.OutsideFault.{OutsideFault}
@@ -89,7 +90,7 @@ are_committed f n None k' h = absurd h
 are_committed f n (Some k) None h = absurd h
 are_committed f n (Some k) (Some k') h = record { made = h.made; pending = h.pending; far = refl; near = refl }
 
-pub are_given_up : (lost : List ℕ) (f n : Bool) (k k' : Option Kept) → AreGivenUp lost k k' → opened.AreGivenUp lost (opened_with f n k) (opened_with f n k')
+pub are_given_up : (lost : Lost) (f n : Bool) (k k' : Option Kept) → AreGivenUp lost k k' → opened.AreGivenUp lost (opened_with f n k) (opened_with f n k')
 are_given_up lost f n None k' h = absurd h
 are_given_up lost f n (Some k) None h = absurd h
 are_given_up lost f n (Some k) (Some k') h = record { left = h.left; pending = h.pending; far = refl; near = refl }

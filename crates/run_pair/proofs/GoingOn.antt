@@ -11,6 +11,7 @@ use Rattle.book.specs.Books.{Fits, Holds, IsPlanned, Turns, TurnsHalf, mended, t
 use Rattle.book.specs.BookLogs.{begun, logged_more}
 use Rattle.book.specs.Commits.{CommitsHalf, CommitsTo, HoldsCommitted, Makes}
 use Rattle.book.specs.GivingUp.{GivesUpHalf, GivesUpTo, HoldsLeft, LeftOf}
+use Rattle.book.specs.LostSides.{Lost}
 use Rattle.book.specs.Shelves.{Files}
 use Rattle.book.proofs.KnownBooks.{book_known}
 use Rattle.outside.specs.declared.fault.OutsideFault.{OutsideFault}
@@ -72,12 +73,12 @@ committed s t p q new fits made held = record { state = t; pending = q; held = h
 
 -- ---- a plan that is given up
 
-later_left : (lost : List ℕ) (s t : SyncState) (p : Pending) → Fits s p → LeftOf lost p s t → s.run < t.run
+later_left : (lost : Lost) (s t : SyncState) (p : Pending) → Fits s p → LeftOf lost p s t → s.run < t.run
 later_left lost s t Missing fits left = absurd left
 later_left lost s t Useless fits left = absurd left
 later_left lost s t (Planned w) fits left = let run = left.run in let next = fits.next in omega (arith, run, next)
 
-given_up : (lost : List ℕ) (s t : SyncState) (p q : Pending) (new : Files) → Fits s p → LeftOf lost p s t → Holds new t q → HoldsNext s p new
+given_up : (lost : Lost) (s t : SyncState) (p q : Pending) (new : Files) → Fits s p → LeftOf lost p s t → Holds new t q → HoldsNext s p new
 given_up lost s t p q new fits left held = record { state = t; pending = q; held = held; goes_on = inr (later_left lost s t p fits left) }
 
 -- ---- a call of a book that was read
@@ -182,7 +183,7 @@ commits (Some k) = (
     either new fits (inl h) = with_journal k.state k.pending k.pending new (keeps_same k.pending) h
     either new fits (inr c) = made new fits c c.held
 
-pub gives_up : (lost : List ℕ) (k : Option Kept) → LeadsOn (GivesUpTo lost) k × LeadsOn (GivesUpHalf lost) k
+pub gives_up : (lost : Lost) (k : Option Kept) → LeadsOn (GivesUpTo lost) k × LeadsOn (GivesUpHalf lost) k
 gives_up lost None = (tt, tt)
 gives_up lost (Some k) = (
   λ old new held fits h. let m = h k.state held in given_up lost k.state m.state k.pending Missing new fits m.left m.held,

@@ -1,5 +1,5 @@
 -- What was read of the shelf, and what calls of the book ask of it and do to the files.
-use Rattle.std.specs.Prelude.{◌≡◌, ℕ, true, List, Option, None, Some}
+use Rattle.std.specs.Prelude.{◌≡◌, ℕ, true, Option, None, Some}
 use Rattle.device.specs.Calls.{Effect}
 use Rattle.rules.specs.declared.plan.Plan.{Plan}
 use Rattle.rules.specs.declared.state.SyncState.{SyncState}
@@ -11,6 +11,7 @@ use Rattle.book.specs.Books.{Fits, Holds, IsPlanned, IsSound}
 use Rattle.book.specs.BookLogs.{MayBegin, MayLog, is_refused}
 use Rattle.book.specs.Commits.{IsFinished, Makes}
 use Rattle.book.specs.GivingUp.{LeftOf}
+use Rattle.book.specs.LostSides.{Lost}
 use Rattle.book.specs.Shelves.{Files}
 use Rattle.outside.specs.declared.fault.OutsideFault.{OutsideFault}
 use Rattle.outside.specs.declared.fault.OutsideFault.TheVariants.{Stopped, Refused, Box, BadState, BadJournal, NoMemory}
@@ -59,11 +60,11 @@ AreCommitted (Some old) None = ⊥
 AreCommitted (Some old) (Some new) = IsCommitted old new
 
 -- the state that is left of the plan, and no journal
-pub record IsGivenUp (lost : List ℕ) (old new : Kept) : Type 0 where
+pub record IsGivenUp (lost : Lost) (old new : Kept) : Type 0 where
   pub left : LeftOf lost old.pending old.state new.state
   pub pending : new.pending ≡ Missing
 
-abbrev pub AreGivenUp : (lost : List ℕ) → (old new : Option Kept) → Type 0
+abbrev pub AreGivenUp : (lost : Lost) → (old new : Option Kept) → Type 0
 AreGivenUp lost None new = ⊥
 AreGivenUp lost (Some old) None = ⊥
 AreGivenUp lost (Some old) (Some new) = IsGivenUp lost old new

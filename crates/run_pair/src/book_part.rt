@@ -5,6 +5,7 @@ ghost use Rattle.std.specs.Option.{option_map};
 
 use crate::book_told::told_by;
 use book::book::Book;
+use book::lost_sides::LostSides;
 use book::shelf::Shelf;
 use mailcore::uid::Uid;
 use outside::fault::OutsideFault;
@@ -27,7 +28,7 @@ impl<S: Shelf + Drop> BookPart<S> {
     ghost use Rattle.book.specs.BookLogs.{begun, as_done, logged_more};
     ghost use Rattle.book.specs.Commits.{CommitsHalf, CommitsTo};
     ghost use Rattle.book.specs.GivingUp.{GivesUpHalf, GivesUpTo};
-    ghost use Rattle.std.specs.List.Sorted.{IsNonDecreasing};
+    ghost use Rattle.book.specs.LostSides.{AreRising};
     ghost use Rattle.outside.specs.Calls.{FromBook, FromShelf};
     ghost use Rattle.run_pair.specs.PartCalls.{Part, PartChanges};
     ghost use Rattle.run_pair.specs.Kept.{AreCommitted, AreGivenUp, FromLog, IsBook, IsHeld, IsRead, LeavesUnread, OfKept, ReadsFiles, TakesCommit, TakesGivingUp, TakesLog, TakesPlan, journal_of, state_of, turned};
@@ -158,10 +159,10 @@ impl<S: Shelf + Drop> BookPart<S> {
         told_by(self.book.commit())
     }
 
-    /// Puts the state that is left of the pending plan, with these far messages lost, in place of the old one, and then removes the journal.
-    pub fn give_up(&mut self, lost: &[u32]) -> Result<(), OutsideFault>
+    /// Puts the state that is left of the pending plan, where these entries lose a side, in place of the old one, and then removes the journal.
+    pub fn give_up(&mut self, lost: &LostSides) -> Result<(), OutsideFault>
         requires takes { TakesGivingUp (kept_of self.old) }
-        requires rising { IsNonDecreasing lost.now }
+        requires rising { AreRising lost.now }
         ensures kept { OnOk result (AreGivenUp lost.now (kept_of self.old) (kept_of self.new)) }
         ensures held { OnOk result (S.is_honest ≡ true → IsHeld (kept_of self.new) (files_of self.new)) }
         ensures told { IfErr result FromBook }

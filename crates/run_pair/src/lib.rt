@@ -13,3 +13,4 @@ pub mod reopened;
 mod run_ended;
 mod run_given_up;
 pub mod tally;
+mod together;

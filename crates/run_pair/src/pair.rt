@@ -1,8 +1,8 @@
 //! The outside of a run over any two mailboxes and any shelf.
 
-ghost use Rattle.std.specs.Prelude.{◌≡◌, true, false, None, Ok, IfErr, IfOk, OnOk, IsErrOf, length};
+ghost use Rattle.std.specs.Prelude.{◌≡◌, true, false, Ok, IfErr, IfOk, OnOk, IsErrOf, length};
 ghost use Rattle.mailcore.specs.declared.side.Side.TheVariants as sides;
-ghost use Rattle.run_pair.specs.BookParts.{files_of, standing_of};
+ghost use Rattle.run_pair.specs.BookParts.{standing_of};
 
 use crate::book_part::BookPart;
 use crate::copying::copy;
@@ -10,6 +10,7 @@ use crate::plan_written::begin_synced;
 use crate::run_ended::commit_synced;
 use crate::run_given_up::give_up_synced;
 use crate::tally::Tally;
+use book::lost_sides::LostSides;
 use book::shelf::Shelf;
 use mailbox::mailbox::Mailbox;
 use mailcore::flags::Flags;
@@ -31,58 +32,17 @@ use sync_state::journal::Journal;
 /// A plan is written, and a run is ended, behind a sync of the near mailbox (`synced`).
 #[derive(Drop)]
 pub struct Pair<F: Mailbox, N: Mailbox, S: Shelf> {
-    alloc: Global,
+    pub(crate) alloc: Global,
     pub(crate) far: F,
     pub(crate) near: N,
     pub(crate) book: BookPart<S>,
-    tally: Tally,
+    pub(crate) tally: Tally,
     pub ghost far_is: { F.side ≡ sides.Far },
     pub ghost near_is: { N.side ≡ sides.Near },
     pub ghost one_map: { F.keywords far ≡ N.keywords near },
     pub ghost far_whole: { tally.is_broken ≡ false → (F.seen far).is_broken ≡ false },
     pub ghost near_whole: { tally.is_broken ≡ false → (N.seen near).is_broken ≡ false },
     pub ghost book_whole: { tally.is_broken ≡ false → (standing_of book).is_ready ≡ true },
-}
-
-impl<F: Mailbox + Drop, N: Mailbox + Drop, S: Shelf + Drop> Pair<F, N, S> {
-    ghost use Rattle.run_pair.specs.Tallies.{seen_with, untouched};
-    ghost use Rattle.run_pair.specs.Pairs.{IsWhole, device_of, honest_of, opened_of, seen_of};
-
-    /// The outside of these parts, which are opened again. Both mailboxes go by one map of keywords. Nothing is open, and no call was made.
-    pub fn new(alloc: Global, far: F, near: N, book: BookPart<S>) -> Self
-        requires far { F.side ≡ sides.Far }
-        requires near { N.side ≡ sides.Near }
-        requires map { F.keywords far ≡ N.keywords near }
-        ensures was_honest { honest_of result → (F.honest far) × (N.honest near) }
-        ensures keywords { F.keywords result.far ≡ F.keywords far }
-        ensures far { F.seen result.far ≡ record (F.seen far) { is_broken = false } }
-        ensures near { N.seen result.near ≡ record (N.seen near) { is_broken = false } }
-        ensures book { standing_of result.book ≡ record (standing_of book) { is_ready = true } }
-        ensures files { files_of result.book ≡ files_of book }
-        ensures seen { seen_of result ≡ seen_with (device_of result) untouched }
-        ensures opened { opened_of result ≡ None }
-        ensures tally { result.tally ≡ untouched }
-        ensures whole { IsWhole result }
-    {
-        let (mut far, mut near, mut book) = (far, near, book);
-        far.reopen();
-        near.reopen();
-        book.reopen();
-        Pair {
-            alloc,
-            far,
-            near,
-            book,
-            tally: Tally::new(),
-        }
-    }
-
-    /// The far mailbox.
-    pub fn far(&self) -> &F
-        ensures { result.now ≡ self.now.far }
-    {
-        &self.far
-    }
 }
 
 impl<F: Mailbox + Drop, N: Mailbox + Drop, S: Shelf + Drop> Outside for Pair<F, N, S> {
@@ -97,7 +57,7 @@ impl<F: Mailbox + Drop, N: Mailbox + Drop, S: Shelf + Drop> Outside for Pair<F, 
     ghost use Rattle.book.specs.BookLogs.{begun, as_done, logged_more};
     ghost use Rattle.book.specs.Commits.{CommitsHalf, CommitsTo};
     ghost use Rattle.book.specs.GivingUp.{GivesUpHalf, GivesUpTo};
-    ghost use Rattle.std.specs.List.Sorted.{IsNonDecreasing};
+    ghost use Rattle.book.specs.LostSides.{AreRising};
     ghost use Rattle.outside.specs.Devices.{box};
     ghost use Rattle.outside.specs.Calls.{FromBook, FromBox, FromShelf, LeavesBy, opened_again, stopped};
     ghost use Rattle.outside.specs.Opened.{AreCommitted, AreGivenUp, IsBook, IsHeld, IsOpen, IsRead, turned, with_box};
@@ -248,9 +208,9 @@ impl<F: Mailbox + Drop, N: Mailbox + Drop, S: Shelf + Drop> Outside for Pair<F, 
         self.tally.end(answer)
     }
 
-    fn give_up(&mut self, lost: &[u32]) -> Result<(), OutsideFault>
+    fn give_up(&mut self, lost: &LostSides) -> Result<(), OutsideFault>
         requires takes { TakesGivingUp (opened_of self.old) }
-        requires rising { IsNonDecreasing lost.now }
+        requires rising { AreRising lost.now }
         ensures was_honest { honest_of self.new → honest_of self.old }
         ensures keywords { F.keywords self.new.far ≡ F.keywords self.old.far }
         ensures opened { OnOk result (AreGivenUp lost.now (opened_of self.old) (opened_of self.new)) }

@@ -1,9 +1,9 @@
 //! A run is given up after a sync of the near mailbox.
 
 ghost use Rattle.std.specs.Prelude.{◌≡◌, ◌⊎◌, ◌<◌, true, false, OnOk, IfErr, IsErrOf};
-ghost use Rattle.std.specs.List.Sorted.{IsNonDecreasing};
 ghost use Rattle.mailcore.specs.declared.side.Side.TheVariants as sides;
 ghost use Rattle.book.specs.GivingUp.{GivesUpHalf, GivesUpTo};
+ghost use Rattle.book.specs.LostSides.{AreRising};
 ghost use Rattle.mailbox.specs.Arrivals.{Arrives};
 ghost use Rattle.mailbox.specs.Calls.{HasCause};
 ghost use Rattle.outside.specs.Calls.{FromBook};
@@ -13,6 +13,7 @@ ghost use Rattle.run_pair.specs.Kept.{AreGivenUp, IsHeld, OfKept, TakesGivingUp}
 
 use crate::book_part::BookPart;
 use crate::tally::told;
+use book::lost_sides::LostSides;
 use book::shelf::Shelf;
 use mailbox::mailbox::Mailbox;
 use mailcore::side::Side;
@@ -22,12 +23,12 @@ use outside::fault::OutsideFault;
 pub(crate) fn give_up_synced<N: Mailbox, S: Shelf + Drop>(
     near: &mut N,
     book: &mut BookPart<S>,
-    lost: &[u32],
+    lost: &LostSides,
 ) -> Result<(), OutsideFault>
     requires side { N.side ≡ sides.Near }
     requires whole { (N.seen near.old).is_broken ≡ false }
     requires ready { (standing_of book.old).is_ready ≡ true }
-    requires rising { IsNonDecreasing lost.now }
+    requires rising { AreRising lost.now }
     requires takes { TakesGivingUp (kept_of book.old) }
     ensures was_honest { N.honest near.new → N.honest near.old }
     ensures keywords { N.keywords near.new ≡ N.keywords near.old }

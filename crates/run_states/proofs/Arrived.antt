@@ -18,7 +18,7 @@ use Rattle.law_steps.proofs.Among.{unseen}
 use Rattle.law_steps.proofs.Fold.{rise-raised}
 use Rattle.law_outcome.specs.AlikeLaws.{own_world}
 use Rattle.outside.specs.Arrivals.{Arrives}
-use Rattle.outside.specs.Devices.{Device}
+use Rattle.outside.specs.Devices.{Device, Named}
 use Rattle.run_states.specs.Conditions.{IsOver, IsPending, Underway}
 use Rattle.run_states.specs.Endings.{AlikeAt, DoneAt}
 use Rattle.run_states.specs.Moments.{PlannedAt, Stands}
@@ -27,23 +27,23 @@ use Rattle.run_states.proofs.Foreign.{two, foreign_unseen}
 use Rattle.run_states.proofs.Growth.{files_same, since_map, unplanned_arrives}
 use Rattle.run_states.proofs.Moves.{midway_arrives}
 
-pub stands_arrives : (ours : List ℕ → Bool) (alone : Bool) (w : World) (options : Options) (version : Version) (plan : Plan) (log : List Logged) (torn : Bool) (d m : Device) → Arrives ours alone d m → Stands ours alone w options version plan log torn d → Stands ours alone w options version plan log torn m
+pub stands_arrives : (ours : List ℕ → Bool) (alone : Bool) {earlier : List Named} (w : World) (options : Options) (version : Version) (plan : Plan) (log : List Logged) (torn : Bool) (d m : Device) → Arrives ours alone d m → Stands ours alone earlier w options version plan log torn d → Stands ours alone earlier w options version plan log torn m
 stands_arrives ours alone w options version plan log torn d m a (inl k) = inl (k.0, midway_arrives ours alone w options version plan log torn log k.0 d m a k.1)
 stands_arrives ours alone w options version plan log torn d m a (inr k) = inr (k.0, midway_arrives ours alone w options version plan log torn (log ++ k.0 ∷ []) false d m a k.1)
 
-pub planned_arrives : (ours : List ℕ → Bool) (alone : Bool) (w : World) (options : Options) (d m : Device) → Arrives ours alone d m → PlannedAt ours alone w options d → PlannedAt ours alone w options m
+pub planned_arrives : (ours : List ℕ → Bool) (alone : Bool) {earlier : List Named} (w : World) (options : Options) (d m : Device) → Arrives ours alone d m → PlannedAt ours alone earlier w options d → PlannedAt ours alone earlier w options m
 planned_arrives ours alone w options d m a p = record { version = p.version; plan = p.plan; log = p.log; is_torn = p.is_torn; stands = stands_arrives ours alone w options p.version p.plan p.log p.is_torn d m a p.stands }
 
 -- ---- a run that is done
 
-pub alike_arrives : (ours : List ℕ → Bool) (alone : Bool) (w : World) (options : Options) (marks : List (List ℕ)) (d m : Device) (s : SyncState) → Arrives ours alone d m → AlikeAt ours alone w options marks d s → AlikeAt ours alone w options marks m s
-alike_arrives ours true w options marks d m s a k = subst (λ (x : Device). AlikeAt ours true w options marks x s) (sym (a.nobody refl)) k
-alike_arrives ours false w options marks d m s a k =
+pub alike_arrives : (ours : List ℕ → Bool) (alone : Bool) {earlier : List Named} (w : World) (options : Options) (marks : List (List ℕ)) (d m : Device) (s : SyncState) → Arrives ours alone d m → AlikeAt ours alone earlier w options marks d s → AlikeAt ours alone earlier w options marks m s
+alike_arrives ours true {earlier} w options marks d m s a k = subst (λ (x : Device). AlikeAt ours true earlier w options marks x s) (sym (a.nobody refl)) k
+alike_arrives ours false {earlier} w options marks d m s a k =
     let b = k.alike in
     let now : Device = record d { far = record d.far { next = a.next; messages = d.far.messages ++ a.messages }; near = record d.near { waiting = a.waiting } } in
     let low = rise-ends d.far.next (map (λ (x : Message). x.uid) a.messages) a.next a.rise in
     let least = rise-ends w.far.next (b.uids Far) d.far.next (b.rise Far) in
-    subst (λ (x : Device). AlikeAt ours false w options marks x s) (sym a.now) (record {
+    subst (λ (x : Device). AlikeAt ours false earlier w options marks x s) (sym a.now) (record {
       are_ours = k.are_ours;
       alike = record {
         uids = b.uids;
@@ -59,11 +59,11 @@ alike_arrives ours false w options marks d m s a k =
         state = b.state;
       };
       borne = k.borne;
-      spares = k.spares;
+      named = k.named;
       nobody = λ e. absurd (both_ways false refl e);
     })
 
-pub done_arrives : (ours : List ℕ → Bool) (alone : Bool) (w : World) (options : Options) (d m : Device) → Arrives ours alone d m → DoneAt ours alone w options d → DoneAt ours alone w options m
+pub done_arrives : (ours : List ℕ → Bool) (alone : Bool) {earlier : List Named} (w : World) (options : Options) (d m : Device) → Arrives ours alone d m → DoneAt ours alone earlier w options d → DoneAt ours alone earlier w options m
 done_arrives ours alone w options d m a h = record {
   state = h.state;
   pending = h.pending;
@@ -74,7 +74,7 @@ done_arrives ours alone w options d m a h = record {
 }
 
 -- both mailboxes as they were
-pub alike_filed : (ours : List ℕ → Bool) (alone : Bool) (w : World) (options : Options) (marks : List (List ℕ)) (d d' : Device) (s : SyncState) → d'.far ≡ d.far → d'.near ≡ d.near → d'.named ≡ d.named → AlikeAt ours alone w options marks d s → AlikeAt ours alone w options marks d' s
+pub alike_filed : (ours : List ℕ → Bool) (alone : Bool) {earlier : List Named} (w : World) (options : Options) (marks : List (List ℕ)) (d d' : Device) (s : SyncState) → d'.far ≡ d.far → d'.near ≡ d.near → d'.named ≡ d.named → AlikeAt ours alone earlier w options marks d s → AlikeAt ours alone earlier w options marks d' s
 alike_filed ours alone w options marks d d' s far near named k =
     let same : world_at d s ≡ world_at d' s = rw (far, near) refl in
     let by : (a : AlikeBy w options (own_world w marks (world_at d' s))) × (a.marks ≡ marks) = subst (λ (x : World). (a : AlikeBy w options (own_world w marks x)) × (a.marks ≡ marks)) same (k.alike, k.borne) in
@@ -82,7 +82,7 @@ alike_filed ours alone w options marks d d' s far near named k =
       are_ours = k.are_ours;
       alike = by.0;
       borne = by.1;
-      spares = rw named k.spares;
+      named = rw named k.named;
       nobody = λ e. subst (λ (x : World). own_world w marks x ≡ x) same (k.nobody e);
     }
 

@@ -33,7 +33,7 @@ use Rattle.law_steps.proofs.OwnPlan.{plan_step_own, not_found, found_after}
 use Rattle.law_outcome.specs.CommitLaws.{results_of}
 use Rattle.mailbox.specs.Operations.{Tells}
 use Rattle.outside.specs.BoxCalls.{Carries, IsUnfit, with_copy}
-use Rattle.outside.specs.Devices.{Device, box, on_box}
+use Rattle.outside.specs.Devices.{Device, Named, box, on_box}
 use Rattle.run_states.specs.Plans.{IsPlanned, begun, first_uid, next_of}
 use Rattle.run_states.specs.Moments.{IsSought, Midway, Stands, boxes_at}
 use Rattle.run_states.proofs.Foreign.{below_own}
@@ -98,7 +98,7 @@ copied_between Pull uid flags mark copy next m d least below Near = (omega arith
 copied_between Push uid flags mark copy next m d least below Far = (omega arith, All-cons (λ u. (d.far.next ≤ u) × (u < next)) copy [] (least, below) (All-nil (λ u. (d.far.next ≤ u) × (u < next))))
 copied_between Push uid flags mark copy next m d least below Near = (omega arith, All-nil (λ u. (d.near.store.next ≤ u) × (u < d.near.store.next)))
 
-module _ (ours : List ℕ → Bool) (alone : Bool) (w : World) (options : Options) (version : Version) (plan : Plan) (log : List Logged) (sound : IsInOrder w) (dir : Direction) (uid flags : ℕ) (mark : List ℕ) (is : next_of plan.steps log ≡ Some (step.New dir uid flags mark)) where
+module _ (ours : List ℕ → Bool) (alone : Bool) (earlier : List Named) (w : World) (options : Options) (version : Version) (plan : Plan) (log : List Logged) (sound : IsInOrder w) (dir : Direction) (uid flags : ℕ) (mark : List ℕ) (is : next_of plan.steps log ≡ Some (step.New dir uid flags mark)) where
   abbrev s : Step
   s = step.New dir uid flags mark
 
@@ -123,13 +123,13 @@ module _ (ours : List ℕ → Bool) (alone : Bool) (w : World) (options : Option
   first : (p : IsPlanned ours w options plan) (d : Device) → marked_from mark (first_uid plan (target dir)) (box d (target dir)) ≡ marked_uid mark (store w (target dir)).next (messages_in (boxes_at d) (target dir))
   first p d = ap (λ (x : ℕ). marked_from mark x (box d (target dir))) (p.next (target dir)) ∙ marked_same mark (store w (target dir)).next (box d (target dir)).messages ∙ ap (λ (ms : List Message). marked_uid mark (store w (target dir)).next ms) (sym (messages_at d (target dir)))
 
-  none_found : (torn : Bool) (d : Device) → Midway ours alone w options version plan log torn log false d → marked_from mark (first_uid plan (target dir)) (box d (target dir)) ≡ None
+  none_found : (torn : Bool) (d : Device) → Midway ours alone earlier w options version plan log torn log false d → marked_from mark (first_uid plan (target dir)) (box d (target dir)) ≡ None
   none_found torn d at =
       let p = at.planned in
       first p d
       ∙ not_found w options p.marks (results_of log) (boxes_at d) dir uid flags mark sound p.are_marks (result_less (all p) log s (all_is p)) (result_is (all p) log s (all_is p)) (at.boxes ∙ sym (all_before p))
 
-  pub copy_found : (torn : Bool) (copy : ℕ) (d : Device) → Midway ours alone w options version plan log torn (log ++ Copied copy ∷ []) false d → marked_from mark (first_uid plan (target dir)) (box d (target dir)) ≡ Some copy
+  pub copy_found : (torn : Bool) (copy : ℕ) (d : Device) → Midway ours alone earlier w options version plan log torn (log ++ Copied copy ∷ []) false d → marked_from mark (first_uid plan (target dir)) (box d (target dir)) ≡ Some copy
   copy_found torn copy d at =
       let p = at.planned in
       let more = results_more log (Copied copy) in
@@ -143,7 +143,7 @@ module _ (ours : List ℕ → Bool) (alone : Bool) (w : World) (options : Option
       (at.boxes ∙ ap (λ (rs : List (Option ℕ)). after plan.steps rs (boxes_of w)) more ∙ ap (λ (steps : List Step). after steps (results_of log ++ Some copy ∷ []) (boxes_of w)) p.is_plan.steps)
 
   -- a step that copies is not half done
-  not_half : (torn is_half : Bool) (d : Device) → Midway ours alone w options version plan log torn log is_half d → Midway ours alone w options version plan log torn log false d
+  not_half : (torn is_half : Bool) (d : Device) → Midway ours alone earlier w options version plan log torn log is_half d → Midway ours alone earlier w options version plan log torn log false d
   not_half torn false d at = at
   not_half torn true d at = record {
     planned = at.planned;
@@ -152,17 +152,17 @@ module _ (ours : List ℕ → Bool) (alone : Bool) (w : World) (options : Option
     validity = at.validity;
     rises = at.rises;
     boxes = at.boxes ∙ ap (λ (o : Option Step). begun true before o) is;
-    spares = at.spares;
+    named = at.named;
     nobody = at.nobody;
   }
 
-  by_logged : (r : Logged) (d : Device) (found : Option ℕ) → found ≡ marked_from mark (first_uid plan (target dir)) (box d (target dir)) → Midway ours alone w options version plan log false (log ++ r ∷ []) false d → IsSought ours alone w options version plan log found d
-  by_logged (Copied copy) d found told at = subst (λ (o : Option ℕ). IsSought ours alone w options version plan log o d) (sym (told ∙ copy_found false copy d at)) at
+  by_logged : (r : Logged) (d : Device) (found : Option ℕ) → found ≡ marked_from mark (first_uid plan (target dir)) (box d (target dir)) → Midway ours alone earlier w options version plan log false (log ++ r ∷ []) false d → IsSought ours alone earlier w options version plan log found d
+  by_logged (Copied copy) d found told at = subst (λ (o : Option ℕ). IsSought ours alone earlier w options version plan log o d) (sym (told ∙ copy_found false copy d at)) at
   by_logged Done d found told at = absurd (both_ways false refl (fit_last plan.steps log s Done at.fit is))
   by_logged Void d found told at = absurd (both_ways false refl (fit_last plan.steps log s Void at.fit is))
 
-  pub sought : (d : Device) → Stands ours alone w options version plan log false d → (found : Option ℕ) → found ≡ marked_from mark (first_uid plan (target dir)) (box d (target dir)) → IsSought ours alone w options version plan log found d
-  sought d (inl k) found told = let at = not_half false k.0 d k.1 in subst (λ (o : Option ℕ). IsSought ours alone w options version plan log o d) (sym (told ∙ none_found false d at)) at
+  pub sought : (d : Device) → Stands ours alone earlier w options version plan log false d → (found : Option ℕ) → found ≡ marked_from mark (first_uid plan (target dir)) (box d (target dir)) → IsSought ours alone earlier w options version plan log found d
+  sought d (inl k) found told = let at = not_half false k.0 d k.1 in subst (λ (o : Option ℕ). IsSought ours alone earlier w options version plan log o d) (sym (told ∙ none_found false d at)) at
   sought d (inr k) found told = by_logged k.0 d found told k.1
 
   -- ---- its source
@@ -173,7 +173,7 @@ module _ (ours : List ℕ → Bool) (alone : Bool) (w : World) (options : Option
   source_below : (p : IsPlanned ours w options plan) → uid < (store w (source dir)).next
   source_below p = let k = source_at p in let less = All-contains (λ (m : Message). m.uid < (store w (source dir)).next) (store w (source dir)).messages k.message (store_is w sound (source dir)).below k.is_there in let same = k.same in omega arith
 
-  source_there : (torn : Bool) (d : Device) (at : Midway ours alone w options version plan log torn log false d) → bytes_at uid (messages_in (boxes_at d) (source dir)) ≡ Some (source_at at.planned).message.bytes
+  source_there : (torn : Bool) (d : Device) (at : Midway ours alone earlier w options version plan log torn log false d) → bytes_at uid (messages_in (boxes_at d) (source dir)) ≡ Some (source_at at.planned).message.bytes
   source_there torn d at =
       let p = at.planned in
       let test = is_own w p.marks in
@@ -182,13 +182,13 @@ module _ (ours : List ℕ → Bool) (alone : Bool) (w : World) (options : Option
       ∙ ap (λ (b : Boxes). bytes_at uid (messages_in b (source dir))) (at.boxes ∙ sym (all_before p))
       ∙ source_bytes w options p.marks log dir uid flags mark sound (source_at p) (all_is p)
 
-  source_here : (torn : Bool) (d : Device) (at : Midway ours alone w options version plan log torn log false d) → bytes_of uid (box d (source dir)) ≡ Some (source_at at.planned).message.bytes
+  source_here : (torn : Bool) (d : Device) (at : Midway ours alone earlier w options version plan log torn log false d) → bytes_of uid (box d (source dir)) ≡ Some (source_at at.planned).message.bytes
   source_here torn d at = ap (λ (ms : List Message). bytes_at uid ms) (sym (messages_at d (source dir))) ∙ source_there torn d at
 
-  pub not_absent : (torn : Bool) (d : Device) → Midway ours alone w options version plan log torn log false d → bytes_of uid (box d (source dir)) ≡ None → ⊥
+  pub not_absent : (torn : Bool) (d : Device) → Midway ours alone earlier w options version plan log torn log false d → bytes_of uid (box d (source dir)) ≡ None → ⊥
   not_absent torn d at none = let there = source_here torn d at in cc
 
-  pub not_unfit : (torn : Bool) (d : Device) → Midway ours alone w options version plan log torn log false d → IsUnfit dir uid d → ⊥
+  pub not_unfit : (torn : Bool) (d : Device) → Midway ours alone earlier w options version plan log torn log false d → IsUnfit dir uid d → ⊥
   not_unfit torn d at u =
       let k = source_at at.planned in
       let there = source_here torn d at in
@@ -197,7 +197,7 @@ module _ (ours : List ℕ → Bool) (alone : Bool) (w : World) (options : Option
 
   -- ---- the copy
 
-  module _ (torn : Bool) (d : Device) (copy next : ℕ) (bytes : List ℕ) (at : Midway ours alone w options version plan log torn log false d) (there : bytes_of uid (box d (source dir)) ≡ Some bytes) (least : (box d (target dir)).next ≤ copy) (below : copy < next) where
+  module _ (torn : Bool) (d : Device) (copy next : ℕ) (bytes : List ℕ) (at : Midway ours alone earlier w options version plan log torn log false d) (there : bytes_of uid (box d (source dir)) ≡ Some bytes) (least : (box d (target dir)).next ≤ copy) (below : copy < next) where
     abbrev message : Message
     message = copy_of (target dir) copy flags mark bytes
 
@@ -210,7 +210,7 @@ module _ (ours : List ℕ → Bool) (alone : Bool) (w : World) (options : Option
     is_step : boxes_at now ≡ step_after (boxes_at d) s (Some copy)
     is_step = copied_boxes dir message next d ∙ ap (λ (b : List ℕ). with_messages_in (boxes_at d) (target dir) (messages_in (boxes_at d) (target dir) ++ copy_of (target dir) copy flags mark b ∷ [])) (sym found_bytes)
 
-    copied_now : Midway ours alone w options version plan log torn (log ++ Copied copy ∷ []) false now
+    copied_now : Midway ours alone earlier w options version plan log torn (log ++ Copied copy ∷ []) false now
     copied_now =
         let p = at.planned in
         let test = is_own w p.marks in
@@ -226,11 +226,11 @@ module _ (ours : List ℕ → Bool) (alone : Bool) (w : World) (options : Option
           rises = λ k. let b = copied_between dir uid flags mark copy next message d least below k in
               rw more (rises-more k (store w k).next plan.steps (results_of log) s (Some copy) (box d k).next (box now k).next less is_next (at.rises k) b.0 b.1);
           boxes = ap (λ (x : Boxes). own test x) is_step ∙ more_among test plan.steps (results_of log) s (Some copy) (boxes_of w) (boxes_at d) (boxes_at d) less is_next at.boxes refl own_step ∙ ap (λ (rs : List (Option ℕ)). after plan.steps rs (boxes_of w)) (sym more);
-          spares = rw (copied_named dir message next d) at.spares;
+          named = rw (copied_named dir message next d) at.named;
           nobody = λ a. (ap (λ (x : Boxes). own test x) is_step ∙ among test (boxes_at d) s (Some copy) own_step ∙ ap (λ (x : Boxes). step_after x s (Some copy)) (at.nobody a).0 ∙ sym is_step, copied_waiting dir message next d ∙ (at.nobody a).1);
         }
 
-  pub brought : (torn : Bool) (told : Option ℕ) (d d' : Device) → Midway ours alone w options version plan log torn log false d → Carries dir uid flags mark told d d' → (copy : ℕ) × Midway ours alone w options version plan log torn (log ++ Copied copy ∷ []) false d' × Tells told copy
+  pub brought : (torn : Bool) (told : Option ℕ) (d d' : Device) → Midway ours alone earlier w options version plan log torn log false d → Carries dir uid flags mark told d d' → (copy : ℕ) × Midway ours alone earlier w options version plan log torn (log ++ Copied copy ∷ []) false d' × Tells told copy
   brought torn told d d' at c =
       let m = c.makes in
-      (m.copy, subst (λ (x : Device). Midway ours alone w options version plan log torn (log ++ Copied m.copy ∷ []) false x) (sym m.now) (copied_now torn d m.copy m.next m.bytes at m.is_there m.least m.below), c.tells)
+      (m.copy, subst (λ (x : Device). Midway ours alone earlier w options version plan log torn (log ++ Copied m.copy ∷ []) false x) (sym m.now) (copied_now torn d m.copy m.next m.bytes at m.is_there m.least m.below), c.tells)

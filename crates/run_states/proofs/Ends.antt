@@ -30,8 +30,8 @@ use Rattle.law_outcome.specs.CommitLaws.{results_of}
 use Rattle.law_outcome.proofs.Committed.{commit_reaches}
 use Rattle.law_outcome.proofs.Whole.{alike_under_admission}
 use Rattle.outside.specs.BookCalls.{OnFiles}
-use Rattle.outside.specs.Devices.{Device}
-use Rattle.run_states.specs.Plans.{IsPlanned, begun, next_of}
+use Rattle.outside.specs.Devices.{Device, Named}
+use Rattle.run_states.specs.Plans.{IsPlanned, NamedBy, begun, next_of}
 use Rattle.run_states.specs.Openings.{Grows, IsIdle, Opening, Since, world_at}
 use Rattle.run_states.specs.Moments.{Midway, PlannedAt, Stands, boxes_at, with_log}
 use Rattle.run_states.specs.Endings.{AlikeAt, DoneAt, EndedAt, EndedUnder, IsDone}
@@ -53,9 +53,9 @@ with_boxes d s b waiting = record {
 pub marks_are : (ours : List ℕ → Bool) (w : World) (options : Options) (plan : Plan) (p : IsPlanned ours w options plan) → marks_of plan.steps ≡ p.marks
 marks_are ours w options plan p = in_turn (scene_of w options) (scene_of w options) refl p.marks plan.steps (p.are_marks).count (p.is_plan).steps
 
-module _ (ours : List ℕ → Bool) (alone : Bool) (w : World) (options : Options) (version : Version) (plan : Plan) (log : List Logged) (none : next_of plan.steps log ≡ None) where
+module _ (ours : List ℕ → Bool) (alone : Bool) {earlier : List Named} (w : World) (options : Options) (version : Version) (plan : Plan) (log : List Logged) (none : next_of plan.steps log ≡ None) where
   -- behind the last step nothing is half done
-  pub whole_at : (torn : Bool) (d : Device) → Stands ours alone w options version plan log torn d → Midway ours alone w options version plan log torn log false d
+  pub whole_at : (torn : Bool) (d : Device) → Stands ours alone earlier w options version plan log torn d → Midway ours alone earlier w options version plan log torn log false d
   whole_at torn d (inl k) =
       let at = k.1 in
       record {
@@ -65,7 +65,7 @@ module _ (ours : List ℕ → Bool) (alone : Bool) (w : World) (options : Option
         validity = at.validity;
         rises = at.rises;
         boxes = at.boxes ∙ ap (λ (o : Option Step). begun k.0 (after plan.steps (results_of log) (boxes_of w)) o) none ∙ nothing k.0;
-        spares = at.spares;
+        named = at.named;
         nobody = at.nobody;
       }
     where
@@ -74,7 +74,7 @@ module _ (ours : List ℕ → Bool) (alone : Bool) (w : World) (options : Option
       nothing false = refl
   whole_at torn d (inr k) = let at = k.1 in absurd (fit_past plan.steps log k.0 none at.fit)
 
-  pub alike_now : (torn : Bool) (d : Device) (s : SyncState) → IsInOrder w → Midway ours alone w options version plan log torn log false d → Commits (record { plan = plan; log = log }) w.state s → AlikeAt ours alone w options (marks_of plan.steps) d s
+  pub alike_now : (torn : Bool) (d : Device) (s : SyncState) → IsInOrder w → Midway ours alone earlier w options version plan log torn log false d → Commits (record { plan = plan; log = log }) w.state s → AlikeAt ours alone earlier w options (marks_of plan.steps) d s
   alike_now torn d s sound at c =
       let p = at.planned in
       let marks : List (List ℕ) = p.marks in
@@ -101,41 +101,41 @@ module _ (ours : List ℕ → Bool) (alone : Bool) (w : World) (options : Option
         waiting = refl;
         state = commit_reaches w options marks (record { plan = plan; log = log }) s sound p.is_plan many at.fit c;
       } in
-      subst (λ (ms : List (List ℕ)). AlikeAt ours alone w options ms d s) (sym (marks_are ours w options plan p)) (record {
+      subst (λ (ms : List (List ℕ)). AlikeAt ours alone earlier w options ms d s) (sym (marks_are ours w options plan p)) (record {
         are_ours = p.are_ours;
         alike = by;
         borne = refl;
-        spares = at.spares;
+        named = subst (λ (xs : List Step). NamedBy earlier xs d.named) steps_are at.named;
         nobody = λ e. ap (λ (b : Boxes). with_boxes d s b []) (at.nobody e).0 ∙ ap (λ (fs : List Waiting). with_boxes d s (boxes_at d) fs) (sym (at.nobody e).1);
       })
 
-  pub ended : (m d' : Device) → IsInOrder w → Stands ours alone w options version plan log false m → OnFiles (CommitsTo (with_log version plan log false)) m d' → EndedUnder ours alone w options (marks_of plan.steps) d'
+  pub ended : (m d' : Device) → IsInOrder w → Stands ours alone earlier w options version plan log false m → OnFiles (CommitsTo (with_log version plan log false)) m d' → EndedUnder ours alone earlier w options (marks_of plan.steps) d'
   ended m d' sound stands t =
       let at = whole_at false m stands in
       let made = t.files w.state at.files in
       record { state = made.state; files = made.held; alike = alike_filed ours alone w options (marks_of plan.steps) m d' made.state t.far t.near t.named (alike_now false m made.state sound at made.made) }
 
-  pub half_ended : (m d' : Device) → IsInOrder w → Stands ours alone w options version plan log false m → OnFiles (CommitsHalf (with_log version plan log false)) m d' → PlannedAt ours alone w options d' ⊎ DoneAt ours alone w options d'
+  pub half_ended : (m d' : Device) → IsInOrder w → Stands ours alone earlier w options version plan log false m → OnFiles (CommitsHalf (with_log version plan log false)) m d' → PlannedAt ours alone earlier w options d' ⊎ DoneAt ours alone earlier w options d'
   half_ended m d' sound stands t = by_files (t.files w.state at.files)
     where
-      at : Midway ours alone w options version plan log false log false m
+      at : Midway ours alone earlier w options version plan log false log false m
       at = whole_at false m stands
 
-      done : (pending : Pending) → IsIdle pending → (s : SyncState) → Commits (record { plan = plan; log = log }) w.state s → Holds d'.files s pending → DoneAt ours alone w options d'
+      done : (pending : Pending) → IsIdle pending → (s : SyncState) → Commits (record { plan = plan; log = log }) w.state s → Holds d'.files s pending → DoneAt ours alone earlier w options d'
       done pending idle s made held = record { state = s; pending = pending; idle = idle; files = held; marks = marks_of plan.steps; alike = alike_filed ours alone w options (marks_of plan.steps) m d' s t.far t.near t.named (alike_now false m s sound at made) }
 
-      committed : (k : HoldsCommitted (with_log version plan log false) w.state d'.files) → DoneAt ours alone w options d'
+      committed : (k : HoldsCommitted (with_log version plan log false) w.state d'.files) → DoneAt ours alone earlier w options d'
       committed k = by_held k.held
         where
-          by_held : Holds d'.files k.state Useless ⊎ Holds d'.files k.state Missing → DoneAt ours alone w options d'
+          by_held : Holds d'.files k.state Useless ⊎ Holds d'.files k.state Missing → DoneAt ours alone earlier w options d'
           by_held (inl held) = done Useless tt k.state k.made held
           by_held (inr held) = done Missing tt k.state k.made held
 
-      by_files : Holds d'.files w.state (with_log version plan log false) ⊎ HoldsCommitted (with_log version plan log false) w.state d'.files → PlannedAt ours alone w options d' ⊎ DoneAt ours alone w options d'
+      by_files : Holds d'.files w.state (with_log version plan log false) ⊎ HoldsCommitted (with_log version plan log false) w.state d'.files → PlannedAt ours alone earlier w options d' ⊎ DoneAt ours alone earlier w options d'
       by_files (inl held) = inl (record { version = version; plan = plan; log = log; is_torn = false; stands = inl (false, midway_filed ours alone w options version plan log log false false log false m d' t.far t.near t.named held at) })
       by_files (inr k) = inr (committed k)
 
-pub ended_done : (ours : List ℕ → Bool) (alone : Bool) (w : World) (options : Options) (d : Device) → EndedAt ours alone w options d → DoneAt ours alone w options d
+pub ended_done : (ours : List ℕ → Bool) (alone : Bool) {earlier : List Named} (w : World) (options : Options) (d : Device) → EndedAt ours alone earlier w options d → DoneAt ours alone earlier w options d
 ended_done ours alone w options d e = let x = e.1 in record { state = x.state; pending = Missing; idle = tt; files = x.files; marks = e.0; alike = x.alike }
 
 -- ---- in the words of the rules
@@ -157,7 +157,7 @@ admitted_is w now g none =
           ∙ ap (λ (s : SyncState). record { far = w.far; near = record { validity = w.near.validity; next = now.near.next; messages = w.near.messages ++ numbered_under g.uids w.waiting }; waiting = []; state = s }) g.state,
     )
 
-pub done_is_done : {ours : List ℕ → Bool} (opening : Opening ours true) (d : Device) → IsOpening opening.world → Since opening (λ w. DoneAt ours true w opening.options d) → IsDone opening.world opening.options d
+pub done_is_done : {ours : List ℕ → Bool} (opening : Opening ours true) (d : Device) → IsOpening opening.world → Since opening (λ w. DoneAt ours true opening.named w opening.options d) → IsDone opening.world opening.options d
 done_is_done opening d sound s =
     let done = s.holds in
     let k = done.alike in

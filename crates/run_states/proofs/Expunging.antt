@@ -17,13 +17,13 @@ use Rattle.law_steps.specs.Steps.{Boxes, Rises, after, boxes_of, own, box as mes
 use Rattle.law_steps.specs.OwnLaws.{is_own}
 use Rattle.law_steps.proofs.Expunging.{deleted_before, next_expunged, none_then}
 use Rattle.law_outcome.specs.CommitLaws.{results_of}
-use Rattle.outside.specs.Devices.{Device, box}
+use Rattle.outside.specs.Devices.{Device, Named, box}
 use Rattle.run_states.specs.Plans.{begun, next_of}
 use Rattle.run_states.specs.Moments.{Midway, Stands, boxes_at}
 use Rattle.run_states.proofs.NextSteps.{result_is, result_less}
 use Rattle.run_states.proofs.Plain.{as_done, done_is}
 
-module _ (ours : List ℕ → Bool) (alone : Bool) (w : World) (options : Options) (version : Version) (plan : Plan) (log : List Logged) (h : IsInOrder w) (side : Side) (u : ℕ) (is : next_of plan.steps log ≡ Some (step.Expunge side u)) where
+module _ (ours : List ℕ → Bool) (alone : Bool) (earlier : List Named) (w : World) (options : Options) (version : Version) (plan : Plan) (log : List Logged) (h : IsInOrder w) (side : Side) (u : ℕ) (is : next_of plan.steps log ≡ Some (step.Expunge side u)) where
   abbrev IsDeleted : Message → Type 0
   IsDeleted m = m.uid ≡ u → has m.flags DELETED ≡ true
 
@@ -35,7 +35,7 @@ module _ (ours : List ℕ → Bool) (alone : Bool) (w : World) (options : Option
       either true = refl
       either false = refl
 
-  before_deleted : (torn is_half : Bool) (d : Device) → Midway ours alone w options version plan log torn log is_half d → All IsDeleted (messages_in (boxes_at d) side)
+  before_deleted : (torn is_half : Bool) (d : Device) → Midway ours alone earlier w options version plan log torn log is_half d → All IsDeleted (messages_in (boxes_at d) side)
   before_deleted torn is_half d at =
       let p = at.planned in
       let k = p.is_plan in
@@ -45,17 +45,17 @@ module _ (ours : List ℕ → Bool) (alone : Bool) (w : World) (options : Option
       (result_less plan.steps log (step.Expunge side u) is) (result_is plan.steps log (step.Expunge side u) is) (at.rises side) (at.boxes ∙ not_half is_half (after plan.steps (results_of log) (boxes_of w)))
 
   -- or it is done, and no such message is there
-  then_none : (torn : Bool) (logged : Logged) (d : Device) → Midway ours alone w options version plan log torn (log ++ logged ∷ []) false d → All IsDeleted (messages_in (boxes_at d) side)
+  then_none : (torn : Bool) (logged : Logged) (d : Device) → Midway ours alone earlier w options version plan log torn (log ++ logged ∷ []) false d → All IsDeleted (messages_in (boxes_at d) side)
   then_none torn logged d at =
-      let done = as_done ours alone w options version plan log (step.Expunge side u) is refl torn logged d at in
+      let done = as_done ours alone earlier w options version plan log (step.Expunge side u) is refl torn logged d at in
       let p = done.planned in
       let k = p.is_plan in
       let expunged = subst (λ (steps : List Step). length (results_of log) < length steps → step.Expunge side u ≡ get_or steps (length (results_of log)) (step.Expunge side u) → is_expunged (scene_of w options) side u ≡ true) (sym k.steps)
       (λ below at. next_expunged w options p.marks (results_of log) side u below at)
       (result_less plan.steps log (step.Expunge side u) is) (result_is plan.steps log (step.Expunge side u) is) in
       All-weaker (λ (m : Message). m.uid ≡ u → ⊥) IsDeleted (λ m none e. absurd (none e)) _
-      (none_then w options p.marks (boxes_at d) (after plan.steps (results_of log) (boxes_of w)) side u None h expunged (done.boxes ∙ done_is ours alone w options version plan log (step.Expunge side u) is refl))
+      (none_then w options p.marks (boxes_at d) (after plan.steps (results_of log) (boxes_of w)) side u None h expunged (done.boxes ∙ done_is ours alone earlier w options version plan log (step.Expunge side u) is refl))
 
-  pub stands_deleted : (torn : Bool) (d : Device) → Stands ours alone w options version plan log torn d → All IsDeleted (messages_in (boxes_at d) side)
+  pub stands_deleted : (torn : Bool) (d : Device) → Stands ours alone earlier w options version plan log torn d → All IsDeleted (messages_in (boxes_at d) side)
   stands_deleted torn d (inl k) = before_deleted torn k.0 d k.1
   stands_deleted torn d (inr k) = then_none torn k.0 d k.1

@@ -74,7 +74,7 @@ unplanned_arrives {ours} {alone} opening d m a u = record {
   chosen = u.chosen;
   below = u.below;
   grows = grows_arrives ours alone opening.world opening.world.state d m u.grows a;
-  spares = rw (named_same ours alone d m a) u.spares;
+  named = named_same ours alone d m a ∙ u.named;
 }
 
 -- another journal, and both mailboxes as they were
@@ -86,7 +86,7 @@ unplanned_filed opening pending d d' idle far near named holds u = record {
   chosen = u.chosen;
   below = u.below;
   grows = rw (far, near) u.grows;
-  spares = rw named u.spares;
+  named = named ∙ u.named;
 }
 
 -- what is so of some world since the opening is so with all that is known of the world

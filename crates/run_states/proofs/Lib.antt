@@ -17,3 +17,4 @@ pub mod Ends
 pub mod Expunging
 pub mod GivenMarks
 pub mod Stale
+pub mod Spared

@@ -24,12 +24,13 @@ use Rattle.law_steps.proofs.OwnPlan.{opening_own}
 use Rattle.mailbox.specs.Operations.{TellsNext}
 use Rattle.mailbox.proofs.Listed.{told_alone, told_least, told_store}
 use Rattle.outside.specs.Arrivals.{Arrives}
-use Rattle.outside.specs.Devices.{Device, box}
-use Rattle.run_states.specs.Openings.{Grows, SparesLater, world_at}
+use Rattle.outside.specs.Devices.{Device, Named, box}
+use Rattle.run_states.specs.Openings.{Grows, world_at}
 use Rattle.run_states.specs.Moments.{Listed, Midway, boxes_at, with_log}
 use Rattle.run_states.specs.Plans.{IsPlanned}
 use Rattle.run_states.proofs.Foreign.{two, own_arrived}
 use Rattle.run_states.proofs.Moves.{same_boxes}
+use Rattle.run_states.proofs.Naming.{named_none}
 
 -- the world of a far listing on one device, under the next UID that it told, and of a near one later
 abbrev pub listed_world : (s : SyncState) (next : ℕ) (d m : Device) → World
@@ -73,26 +74,30 @@ names_below alone w now g b =
       near = All-weaker (λ (e : Entry). uid_of Near e < w.near.next) (λ (e : Entry). uid_of Near e < now.near.next) (λ e k. omega arith) w.state.entries b.near;
     })
 
-module _ (ours : List ℕ → Bool) (alone : Bool) where
-  pub listed_arrives : (w : World) (d m : Device) → Arrives ours alone d m → Listed ours alone w d → Listed ours alone w m
+fit_none : (steps : List Step) → Fit steps []
+fit_none [] = tt
+fit_none (s ∷ steps) = tt
+
+module _ (ours : List ℕ → Bool) (alone : Bool) {earlier : List Named} where
+  pub listed_arrives : (w : World) (d m : Device) → Arrives ours alone d m → Listed ours alone earlier w d → Listed ours alone earlier w m
   listed_arrives w d m a l =
       let now : Device = record d { far = record d.far { next = a.next; messages = d.far.messages ++ a.messages }; near = record d.near { waiting = a.waiting } } in
       let low = rise-ends d.far.next (map (λ (x : Message). x.uid) a.messages) a.next a.rise in
       let next = l.next in
       let far_next = next Far in
       let v = l.validity in
-      subst (λ (x : Device). Listed ours alone w x) (sym a.now) (record {
+      subst (λ (x : Device). Listed ours alone earlier w x) (sym a.now) (record {
         files = l.files;
         validity = two (λ side. (box now side).validity ≡ (store w side).validity) (v Far) (v Near);
         next = two (λ side. (store w side).next ≤ (box now side).next) (omega arith) (next Near);
         boxes = λ marks mine. own_arrived ours w marks d.far.messages d.near.store.messages a.messages d.far.next a.next mine far_next a.rise a.far_foreign ∙ l.boxes marks mine;
-        spares = l.spares;
+        named = l.named;
         nobody = λ e. subst (λ (x : Device). (boxes_at x ≡ boxes_of w) × (x.near.waiting ≡ [])) (sym (a.nobody e) ∙ a.now) (l.nobody e);
       })
 
   -- it is shown by the far listing on d, and the near one on m, before which others added
-  pub listed_here : (w : World) (s : SyncState) (next : ℕ) (d m : Device) → Grows alone w (listed_world s next d m) → next ≤ d.far.next → (alone ≡ true → m.near.waiting ≡ []) → Arrives ours alone d m → Holds m.files s Missing → SparesLater (listed_world s next d m) m → Listed ours alone (listed_world s next d m) m
-  listed_here w s next d m g most admitted a files spares =
+  pub listed_here : (w : World) (s : SyncState) (next : ℕ) (d m : Device) → Grows alone w (listed_world s next d m) → next ≤ d.far.next → (alone ≡ true → m.near.waiting ≡ []) → Arrives ours alone d m → Holds m.files s Missing → m.named ≡ earlier → Listed ours alone earlier (listed_world s next d m) m
+  listed_here w s next d m g most admitted a files named =
       let here : World = listed_world s next d m in
       let low = rise-ends d.far.next (map (λ (x : Message). x.uid) a.messages) a.next a.rise in
       let far_is : m.far ≡ record d.far { next = a.next; messages = d.far.messages ++ a.messages } = ap (λ (x : Device). x.far) a.now in
@@ -101,17 +106,13 @@ module _ (ours : List ℕ → Bool) (alone : Bool) where
         validity = two (λ side. (box m side).validity ≡ (store here side).validity) (rw far_is refl) refl;
         next = two (λ side. (store here side).next ≤ (box m side).next) (rw far_is (omega (arith, low, most))) (omega arith);
         boxes = λ marks mine. rw far_is (own_arrived ours here marks d.far.messages m.near.store.messages a.messages d.far.next a.next mine most a.rise a.far_foreign ∙ opening_own here marks g.in_order);
-        spares = spares;
+        named = named;
         nobody = λ e. (let same : m.far ≡ d.far = ap (λ (x : Device). x.far) (a.nobody e) in rw same refl, admitted e);
       }
 
   -- ---- the plan is written
 
-  fit_none : (steps : List Step) → Fit steps []
-  fit_none [] = tt
-  fit_none (s ∷ steps) = tt
-
-  pub plan_written : (w : World) (options : Options) (version : Version) (plan : Plan) (m d' : Device) → IsPlanned ours w options plan → Listed ours alone w m → d'.far ≡ m.far → d'.near ≡ m.near → d'.named ≡ m.named → Holds d'.files w.state (with_log version plan [] false) → Midway ours alone w options version plan [] false [] false d'
+  pub plan_written : (w : World) (options : Options) (version : Version) (plan : Plan) (m d' : Device) → IsPlanned ours w options plan → Listed ours alone earlier w m → d'.far ≡ m.far → d'.near ≡ m.near → d'.named ≡ m.named → Holds d'.files w.state (with_log version plan [] false) → Midway ours alone earlier w options version plan [] false [] false d'
   plan_written w options version plan m d' p l far near named holds =
       let same = same_boxes m d' far near in
       let boxes : boxes_at d' ≡ boxes_at m = rw (far, near) refl in
@@ -123,6 +124,6 @@ module _ (ours : List ℕ → Bool) (alone : Bool) where
         validity = λ side. rw (same side) (l.validity side);
         rises = λ side. rw (same side, given-none side plan.steps) (l.next side);
         boxes = ap (λ (b : Boxes). own (is_own w p.marks) b) boxes ∙ own_is ∙ sym (after-none plan.steps (boxes_of w));
-        spares = rw named l.spares;
+        named = named_none earlier plan.steps d'.named (named ∙ l.named);
         nobody = λ e. (ap (λ (b : Boxes). own (is_own w p.marks) b) boxes ∙ own_is ∙ sym (boxes ∙ (l.nobody e).0), ap (λ (n : Mailbox). n.waiting) near ∙ (l.nobody e).1);
       }

@@ -1,7 +1,7 @@
 -- The message that a step of a plan is to change or to remove was there when the plan was made.
-use Rattle.std.proofs.Common.{◌≡◌, ◌<◌, ℕ, Bool, List, [], ◌∷◌, Option, Some, refl, sym, ◌∙◌, ap, subst, arith}
-use Rattle.std.specs.Prelude.{All, Contains}
-use Rattle.std.proofs.lemmas.List.Elements.{All-append, All-contains, All-cons, All-nil}
+use Rattle.std.proofs.Common.{inl, inr, ◌≡◌, ◌<◌, ℕ, List, [], ◌∷◌, Some, sym, subst}
+use Rattle.std.specs.Prelude.{All, Contains, flat_map}
+use Rattle.std.proofs.lemmas.List.Elements.{All-append, All-contains, All-cons, All-head, All-nil, All-tail, Contains-append_left, Contains-append_right}
 use Rattle.mailcore.specs.declared.listing.Item.{Item}
 use Rattle.mailcore.specs.declared.mailbox.Message.{Message}
 use Rattle.mailcore.specs.declared.side.Side.{Side}
@@ -12,7 +12,6 @@ use Rattle.mailcore.specs.Sides.{target}
 use Rattle.rules.specs.declared.entry.Entry.{Entry}
 use Rattle.rules.specs.declared.entry.ListedPair.{ListedPair}
 use Rattle.rules.specs.declared.options.Options.{Options}
-use Rattle.rules.specs.declared.plan.Plan.{Plan}
 use Rattle.rules.specs.declared.plan.Step.{Step}
 use Rattle.rules.specs.declared.plan.Step.TheVariants as step
 use Rattle.rules.specs.Called.{pair_of}
@@ -21,14 +20,13 @@ use Rattle.rules.specs.Outcome.{news}
 use Rattle.rules.specs.Scene.{Scene, items}
 use Rattle.rules.specs.World.{World, IsInOrder, NamesBelow, scene_of, store}
 use Rattle.rules.proofs.LookUps.{full_found}
-use Rattle.rules.proofs.Walks.{All-filter_map}
+use Rattle.rules.proofs.Walks.{All-filter_map, All-from_contains, Contains-cases, Contains-none}
 use Rattle.rules.proofs.WorldLemmas.{store_is}
 use Rattle.planner.specs.Written.{all_steps, expunge_step, expunge_steps, flags_step, flags_steps, gone_step, gone_steps}
 use Rattle.planner.proofs.Behind.{expunge_given, flags_given, flags_step_of, gone_given, new_steps_all, pair_far, pair_near}
 use Rattle.sync_state.specs.declared.journal.Logged.{Logged}
-use Rattle.law_steps.specs.Steps.{changed_uid}
 use Rattle.outside.specs.Devices.{Named}
-use Rattle.run_states.specs.Plans.{IsPlanned, names_of, next_of}
+use Rattle.run_states.specs.Plans.{NamedBy, names_of, next_of}
 use Rattle.run_states.proofs.NextSteps.{next_contained}
 use Rattle.run_states.proofs.Sources.{of_item}
 
@@ -86,8 +84,31 @@ module _ (w : World) (options : Options) (order : IsInOrder w) (below : NamesBel
       (All-append AreBefore _ _ (new_steps_all AreBefore Pull (news scene Pull) _ (λ i c m. All-nil IsBefore)) (new_steps_all AreBefore Push (news scene Push) _ (λ i c m. All-nil IsBefore)))
       (gones Pull)) (gones Push)) (flags Pull)) (flags Push)) (expunges Far)) (expunges Near)
 
--- so is that of the step that is next in the plan of a world
-pub named_before : {ours : List ℕ → Bool} (w : World) (options : Options) (plan : Plan) (log : List Logged) (s : Step) → IsInOrder w → NamesBelow w → (p : IsPlanned ours w options plan) → next_of plan.steps log ≡ Some s → All (λ n. n.uid < (store w n.side).next) (names_of s)
-named_before w options plan log s order below p is =
-    All-contains (λ (x : Step). All (λ n. n.uid < (store w n.side).next) (names_of x)) (all_steps (scene_of w options) p.marks) s (steps_before w options order below p.marks)
-    (subst (λ (steps : List Step). Contains steps s) p.is_plan.steps (next_contained plan.steps log s is))
+  -- so is each that is named by some step
+  pub all_before : (marks : List (List ℕ)) → All IsBefore (flat_map names_of (all_steps scene marks))
+  all_before marks = each_step (all_steps scene marks) (steps_before marks)
+    where
+      each_step : (steps : List Step) → All AreBefore steps → All IsBefore (flat_map names_of steps)
+      each_step [] h = All-nil IsBefore
+      each_step (s ∷ steps) h = All-append IsBefore (names_of s) (flat_map names_of steps) (All-head AreBefore s steps h) (each_step steps (All-tail AreBefore s steps h))
+
+-- ---- what calls have named
+
+-- the names of a step are among those of all
+named_in : (steps : List Step) (s : Step) → Contains steps s → All (λ n. Contains (flat_map names_of steps) n) (names_of s)
+named_in steps s c = All-from_contains (λ n. Contains (flat_map names_of steps) n) (names_of s) (λ n k. at steps c n k)
+  where
+    at : (steps : List Step) → Contains steps s → (n : Named) → Contains (names_of s) n → Contains (flat_map names_of steps) n
+    at [] c n k = absurd (Contains-none s c)
+    at (t ∷ steps) c n k = elim (Contains-cases t s steps c) [
+      | inl same ↦ Contains-append_left (names_of t) (flat_map names_of steps) n (subst (λ (x : Step). Contains (names_of x) n) (sym same) k)
+      | inr rest ↦ Contains-append_right (names_of t) (flat_map names_of steps) n (at steps rest n k)
+    ]
+
+-- so are those of the step that is next
+pub named_next : (steps : List Step) (log : List Logged) (s : Step) → next_of steps log ≡ Some s → All (λ n. Contains (flat_map names_of steps) n) (names_of s)
+named_next steps log s is = named_in steps s (next_contained steps log s is)
+
+-- nothing is named yet
+pub named_none : (earlier : List Named) (steps : List Step) (named : List Named) → named ≡ earlier → NamedBy earlier steps named
+named_none earlier steps named same = record { since = []; now = same; each = All-nil (λ n. Contains (flat_map names_of steps) n) }

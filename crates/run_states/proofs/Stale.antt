@@ -42,7 +42,7 @@ use Rattle.law_steps.proofs.Copying.{box-with}
 use Rattle.law_steps.proofs.Expunging.{all_back, all_flags, is_below, is_deleted, right_part, seen, stored_in}
 use Rattle.law_steps.proofs.PlanParts.{fate_of_flags}
 use Rattle.law_outcome.specs.CommitLaws.{results_of}
-use Rattle.outside.specs.Devices.{Device, box}
+use Rattle.outside.specs.Devices.{Device, Named, box}
 use Rattle.run_states.specs.Laws.{NothingIsStale}
 use Rattle.run_states.specs.Moments.{Midway, Stands, boxes_at}
 use Rattle.run_states.specs.Plans.{begun, next_of}
@@ -309,14 +309,14 @@ module _ (w : World) (options : Options) (marked : List (List ℕ)) (steps : Lis
 
 -- ---- wherever the run stands
 
-module _ (ours : List ℕ → Bool) (alone : Bool) (w : World) (options : Options) (version : Version) (plan : Plan) (log : List Logged) (torn : Bool) (h : IsInOrder w) (names : NamesBelow w) (d : Device) where
-  midway_whole : (results : List Logged) (is_half : Bool) → length log ≤ length results → Midway ours alone w options version plan log torn results is_half d → NoneIsStale plan.steps (length log) (boxes_at d)
+module _ (ours : List ℕ → Bool) (alone : Bool) {earlier : List Named} (w : World) (options : Options) (version : Version) (plan : Plan) (log : List Logged) (torn : Bool) (h : IsInOrder w) (names : NamesBelow w) (d : Device) where
+  midway_whole : (results : List Logged) (is_half : Bool) → length log ≤ length results → Midway ours alone earlier w options version plan log torn results is_half d → NoneIsStale plan.steps (length log) (boxes_at d)
   midway_whole results is_half le at =
       let p = at.planned in
       let size = results_length results in
       none_stale w options p.marks plan.steps p.is_plan.steps h names (results_of results) is_half (next_of plan.steps results) (boxes_at d) (λ side. (box d side).next) at.rises at.boxes (length log) (omega (arith, size, le))
 
-  stands_whole : Stands ours alone w options version plan log torn d → NoneIsStale plan.steps (length log) (boxes_at d)
+  stands_whole : Stands ours alone earlier w options version plan log torn d → NoneIsStale plan.steps (length log) (boxes_at d)
   stands_whole (inl k) = midway_whole log k.0 (omega arith) k.1
   stands_whole (inr k) = let size = length-append log (k.0 ∷ []) in midway_whole (log ++ k.0 ∷ []) false (omega (arith, size)) k.1
 

@@ -1,5 +1,5 @@
 -- What a run begins with, and what becomes of it before there is a plan.
-use Rattle.std.specs.Prelude.{◌≡◌, ◌≤◌, ◌<◌, ℕ, Bool, true, List, [], ◌++◌, All, IsPermutation, length}
+use Rattle.std.specs.Prelude.{◌≡◌, ◌≤◌, ℕ, Bool, true, List, [], ◌++◌, IsPermutation, length}
 use Rattle.mailcore.specs.declared.side.Side.{Side}
 use Rattle.mailcore.specs.declared.mailbox.Message.{Message}
 use Rattle.mailcore.specs.Rise.{Rise}
@@ -12,14 +12,15 @@ use Rattle.book.specs.declared.book.Pending.{Pending}
 use Rattle.book.specs.declared.book.Pending.TheVariants.{Missing, Useless, Planned}
 use Rattle.book.specs.Books.{Holds}
 use Rattle.law_steps.specs.Keywords.{IsWithinWorld}
-use Rattle.outside.specs.Devices.{Device}
+use Rattle.outside.specs.Devices.{Device, Named}
 
 -- The setting of a run: which marks nobody else writes (`ours`), whether nobody else adds messages (`alone`), the world that the run is made on,
--- the options of its plan, and those of the call.
+-- the options of its plan, those of the call, and the messages that calls had named before it.
 pub record Opening (ours : List ℕ → Bool) (alone : Bool) : Type 0 where
   pub world : World
   pub options : Options
   pub called : Options
+  pub named : List Named
 
 -- both mailboxes of a device as a world, with this state
 abbrev pub world_at : Device → SyncState → World
@@ -43,17 +44,13 @@ pub record Grows (alone : Bool) (w now : World) : Type 0 where
   pub near : now.near.messages ≡ w.near.messages ++ numbered_under uids named
   pub nobody : alone ≡ true → (now.far ≡ w.far) × (named ++ now.waiting ≡ w.waiting)
 
--- each message that came behind this world is spared: no call was to change or to remove one of at least the next UID of its side
-abbrev pub SparesLater : World → Device → Type 0
-SparesLater w d = All (λ n. n.uid < (store w n.side).next) d.named
-
 -- there is no plan of the run behind this state: no journal, or one without a plan or of a run that was made
 abbrev pub IsIdle : Pending → Type 0
 IsIdle Missing = Unit {0}
 IsIdle Useless = Unit {0}
 IsIdle (Planned written) = ⊥
 
--- The state is the opening's, and there is no plan. The options of the plan will be those of the call.
+-- The state is the opening's, and there is no plan. The options of the plan will be those of the call. No call has named a message since.
 pub record Unplanned {ours : List ℕ → Bool} {alone : Bool} (opening : Opening ours alone) (d : Device) : Type 0 where
   pub pending : Pending
   pub idle : IsIdle pending
@@ -61,7 +58,7 @@ pub record Unplanned {ours : List ℕ → Bool} {alone : Bool} (opening : Openin
   pub chosen : opening.called ≡ opening.options
   pub below : NamesBelow opening.world
   pub grows : Grows alone opening.world (world_at d opening.world.state)
-  pub spares : SparesLater opening.world d
+  pub named : d.named ≡ opening.named
 
 -- So much is so of some world since the opening, that of both listings on which the plan was made: each flag that is listed has a name.
 -- Where nobody adds any files, all have their UIDs by then.

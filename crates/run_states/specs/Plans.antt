@@ -1,8 +1,10 @@
 -- The plan of a run, and the step that is next.
-use Rattle.std.specs.Prelude.{◌≡◌, ℕ, Bool, true, List, [], ◌∷◌, All, Option, None, Some, if◌then◌else◌}
+use Rattle.std.specs.Prelude.{◌≡◌, ◌⊎◌, ℕ, Bool, true, List, [], ◌∷◌, ◌++◌, All, Contains, Option, None, Some, flat_map, if◌then◌else◌}
+use Rattle.mailcore.specs.declared.mailbox.Message.{Message}
 use Rattle.mailcore.specs.declared.side.Side.{Side}
 use Rattle.mailcore.specs.declared.side.Side.TheVariants.{Far, Near}
 use Rattle.mailcore.specs.Sides.{target}
+use Rattle.mailcore.specs.Stores.{Waiting}
 use Rattle.rules.specs.declared.options.Options.{Options}
 use Rattle.rules.specs.declared.plan.Plan.{Plan}
 use Rattle.rules.specs.declared.plan.Step.{Step}
@@ -13,7 +15,8 @@ use Rattle.sync_state.specs.declared.journal.Logged.{Logged}
 use Rattle.law_outcome.specs.CommitLaws.{IsPlanOf}
 use Rattle.law_steps.specs.Laws.{half_flagged}
 use Rattle.law_steps.specs.Steps.{Boxes, changed_uid}
-use Rattle.outside.specs.Devices.{Named}
+use Rattle.outside.specs.Devices.{Device, Named, box}
+use Rattle.outside.specs.Sparing.{IsAdmitted, StaysBut}
 
 -- the next UID of a side when the plan was made
 abbrev pub first_uid : Plan → Side → ℕ
@@ -51,3 +54,15 @@ names_of (step.New d u flags mark) = []
 names_of (step.Gone d far near) = record { side = target d; uid = changed_uid d far near } ∷ []
 names_of (step.Flags d far near set cleared) = record { side = target d; uid = changed_uid d far near } ∷ []
 names_of (step.Expunge side u) = record { side = side; uid = u } ∷ []
+
+-- each message that calls have named since is one that a step of these is to change or to remove
+pub record NamedBy (earlier : List Named) (steps : List Step) (named : List Named) : Type 0 where
+  pub since : List Named
+  pub now : named ≡ since ++ earlier
+  pub each : All (λ n. Contains (flat_map names_of steps) n) since
+
+-- Each message that none of these steps is to change or to remove stands as it did, under its UID with its flags and bytes, and each file that
+-- waited waits still or is such a message.
+pub record LeavesOthers (steps : List Step) (d d' : Device) : Type 0 where
+  pub messages : (side : Side) (m : Message) → Contains (box d side).messages m → StaysBut (flat_map names_of steps) side m d'
+  pub waiting : (f : Waiting) → Contains d.near.waiting f → Contains d'.near.waiting f ⊎ IsAdmitted (flat_map names_of steps) f d'

@@ -3,7 +3,7 @@ use Rattle.std.proofs.Common.{◌≡◌, ℕ, ◌+◌, ◌-◌, ◌<◌, ◌≤�
 use Rattle.std.specs.Prelude.{Result, Ok, Err, OnOk, IfOk, IsErrAnd, codes, Vec}
 use Rattle.std.specs.Global.{Global}
 use Rattle.std.proofs.lemmas.Bool.{cases_lt}
-use Rattle.std.proofs.lemmas.List.Elements.{All-nil, All-head, All-tail}
+use Rattle.std.proofs.lemmas.List.Elements.{All-head, All-tail}
 use Rattle.mailcore.specs.declared.keywords.Keyword.{Keyword}
 use Rattle.mailcore.specs.declared.mailbox.Message.{Message}
 use Rattle.mailcore.specs.KeywordNames.{IsWithin}
@@ -73,7 +73,7 @@ stands trial s w same holds none =
     subst (λ (x : World). IsOpening x → FitsWords x → IsNamed trial.world.options.keywords x → device_in s ≡ device_of x) (sym same) (stands_so trial s holds none)
 
 pub holds_world : (w : World) (d : Device) → IsOpening w → FitsWords w → d ≡ device_of w → HoldsWorld w d
-holds_world w d opening fits same = subst (HoldsWorld w) (sym same) (record { world = refl; files = shelf_holds w opening fits; spares = All-nil _ })
+holds_world w d opening fits same = subst (HoldsWorld w) (sym same) (record { world = refl; files = shelf_holds w opening fits; unnamed = refl })
 
 -- the outside of a run, by what was said of its parts
 pub parts_seen : (keywords : List Keyword) (server there : Server) (folder : Stored) (shelf : Files) (seen : Seen) → server ≡ there

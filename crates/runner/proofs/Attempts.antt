@@ -135,7 +135,7 @@ attempt_answers {ours} {alone} opening h1 h2 options stream fixed number a b bef
     }
 
 pub kept_none : (alone : Bool) (d : Device) → IsKept alone d d
-kept_none alone d = record { files = refl; validities = record { far = refl; near = refl }; same = λ e. refl }
+kept_none alone d = record { files = refl; named = refl; validities = record { far = refl; near = refl }; same = λ e. refl }
 
 -- ---- the greatest number
 

@@ -24,15 +24,14 @@ use Rattle.run_states.specs.Moments.{Listed}
 use Rattle.run_states.specs.Openings.{Opening, Since, Unplanned}
 use Rattle.run_states.proofs.Admitting.{drop_whole, grows_numbered}
 use Rattle.run_states.proofs.Growth.{files_same, since_map, unplanned_arrives, unplanned_filed}
-use Rattle.run_states.proofs.Listings.{grows_next, listed_arrives, listed_grows, listed_here, listed_world, names_below, plan_written as written_midway}
-use Rattle.run_states.proofs.Moves.{spares_more}
+use Rattle.run_states.proofs.Listings.{listed_arrives, listed_grows, listed_here, listed_world, names_below, plan_written as written_midway}
 use Rattle.runner.specs.Before.{AreOld, AreShown, BothListed, FarListed, IsClear, IsMade}
 use Rattle.runner.specs.Going.{BeforeStep}
 use Rattle.runner.proofs.Within.{shown_within}
 
 module _ {ours : List ℕ → Bool} {alone : Bool} (opening : Opening ours alone) where
   pub clear_unplanned : (opened : Option Opened) (is_admitted : Bool) (d : Device) → IsClear opening opened is_admitted d → Unplanned opening d
-  clear_unplanned opened is_admitted d c = record { pending = Missing; idle = tt; files = c.files; chosen = c.chosen; below = c.below; grows = c.grows; spares = c.spares }
+  clear_unplanned opened is_admitted d c = record { pending = Missing; idle = tt; files = c.files; chosen = c.chosen; below = c.below; grows = c.grows; named = c.named }
 
   pub clear_underway : (opened : Option Opened) (is_admitted : Bool) (d : Device) → IsClear opening opened is_admitted d → Underway opening d
   clear_underway opened is_admitted d c = inl (clear_unplanned opened is_admitted d c)
@@ -46,7 +45,7 @@ module _ {ours : List ℕ → Bool} {alone : Bool} (opening : Opening ours alone
         chosen = c.chosen;
         below = c.below;
         grows = n.grows;
-        spares = n.spares;
+        named = n.named;
         admitted = λ is e. rw (a.nobody e) (c.admitted is e);
       }
 
@@ -62,7 +61,7 @@ module _ {ours : List ℕ → Bool} {alone : Bool} (opening : Opening ours alone
         chosen = k.chosen;
         below = k.below;
         grows = grows_numbered alone opening.world opening.world.state (length n.read) n.read n.left m d' n.reading t.far n.now k.grows;
-        spares = rw t.named k.spares;
+        named = t.named ∙ k.named;
         admitted = λ is e. ap (λ (b : Mailbox). b.waiting) n.now ∙ ap (λ (fs : List Waiting). fs ++ n.left) (drop_whole n.read) ∙ (n.reading.all e).1;
       }
 
@@ -76,7 +75,7 @@ module _ {ours : List ℕ → Bool} {alone : Bool} (opening : Opening ours alone
         chosen = k.chosen;
         below = k.below;
         grows = grows_numbered alone opening.world opening.world.state n.count n.read n.left m d' n.reading t.far n.now k.grows;
-        spares = rw t.named k.spares;
+        named = t.named ∙ k.named;
         admitted = λ e. absurd (both_ways false refl e);
       }
 
@@ -94,13 +93,13 @@ module _ {ours : List ℕ → Bool} {alone : Bool} (opening : Opening ours alone
       let told = f.lists.next in
       let grows = listed_grows alone opening.world s far d m f.clear.grows c.grows told in
       let most = told_most alone opening.world.far.next far d.far told in
-      let since : Since opening (λ w. AreShown w far near × Listed ours alone w m) = record {
+      let since : Since opening (λ w. AreShown w far near × Listed ours alone opening.named w m) = record {
         world = listed_world s far.next d m;
         grows = grows;
         admitted = λ e. c.admitted refl e;
         below = names_below alone opening.world (listed_world s far.next d m) grows c.below;
         within = record { far = shown_within opening.options.keywords (item_of Far) (λ _. refl) far.items d.far.messages f.lists.shows.items f.within; near = shown_within opening.options.keywords (item_sparing NearSide spared) (λ _. refl) near.items m.near.store.messages l.items within };
-        holds = (record { far_is = f.lists.shows; spared = spared; old = old; near_is = l }, listed_here ours alone opening.world s far.next d m grows most (λ e. c.admitted refl e) a c.files (spares_more opening.world (listed_world s far.next d m) m (grows_next alone opening.world (listed_world s far.next d m) grows) c.spares));
+        holds = (record { far_is = f.lists.shows; spared = spared; old = old; near_is = l }, listed_here ours alone opening.world s far.next d m grows most (λ e. c.admitted refl e) a c.files c.named);
       } in
       rw is (record { clear = c; since = since })
 

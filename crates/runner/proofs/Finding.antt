@@ -37,7 +37,7 @@ use Rattle.visitors.specs.Visitors.{IsForeign}
 use Rattle.outside.specs.Arrivals.{Arrives}
 use Rattle.outside.specs.BookCalls.{OfBook}
 use Rattle.outside.specs.Calls.{Seen}
-use Rattle.outside.specs.Devices.{Device, box}
+use Rattle.outside.specs.Devices.{Device, Named, box}
 use Rattle.outside.specs.Opened.{IsHeld, Opened, turned, with_box}
 use Rattle.run_states.specs.Moments.{IsSought, Midway, Stands, boxes_at}
 use Rattle.run_states.specs.Openings.{Opening}
@@ -130,8 +130,8 @@ grown : (b : Boxes) (side : Side) (m : Message) → b ≡ with_messages_in b sid
 grown b Far m e = not_longer b.far m (ap (λ (x : Boxes). x.far) e)
 grown b Near m e = not_longer b.near m (ap (λ (x : Boxes). x.near) e)
 
-module _ (ours : List ℕ → Bool) (alone : Bool) (w : World) (options : Options) (version : Version) (plan : Plan) (log : List Logged) (dir : Direction) (uid flags : ℕ) (mark : List ℕ) (is : next_of plan.steps log ≡ Some (step.New dir uid flags mark)) where
-  never_both : (copy : ℕ) (d : Device) → Midway ours alone w options version plan log false log false d → Midway ours alone w options version plan log false (log ++ Copied copy ∷ []) false d → ⊥
+module _ (ours : List ℕ → Bool) (alone : Bool) {earlier : List Named} (w : World) (options : Options) (version : Version) (plan : Plan) (log : List Logged) (dir : Direction) (uid flags : ℕ) (mark : List ℕ) (is : next_of plan.steps log ≡ Some (step.New dir uid flags mark)) where
+  never_both : (copy : ℕ) (d : Device) → Midway ours alone earlier w options version plan log false log false d → Midway ours alone earlier w options version plan log false (log ++ Copied copy ∷ []) false d → ⊥
   never_both copy d a b =
       let s = step.New dir uid flags mark in
       let before = after plan.steps (results_of log) (boxes_of w) in
@@ -151,7 +151,7 @@ module _ {ours : List ℕ → Bool} {alone : Bool} (opening : Opening ours alone
   abbrev log : List Logged
   log = log_at opened
 
-  planned_at : (w : World) (d : Device) → Stands ours alone w opening.options version plan log false d → IsPlanned ours w opening.options plan
+  planned_at : (w : World) (d : Device) → Stands ours alone opening.named w opening.options version plan log false d → IsPlanned ours w opening.options plan
   planned_at w d (inl k) = let at = k.1 in at.planned
   planned_at w d (inr k) = let at = k.1 in at.planned
 
@@ -173,9 +173,9 @@ module _ {ours : List ℕ → Bool} {alone : Bool} (opening : Opening ours alone
   none_there dir uid flags mark is d k =
       let s = k.since in
       by_found s.world s.holds (marked_from mark (first_uid plan (target dir)) (box d (target dir))) refl
-      (sought ours alone s.world opening.options version plan log (s.grows).in_order dir uid flags mark is d (inl (false, s.holds)) _ refl)
+      (sought ours alone opening.named s.world opening.options version plan log (s.grows).in_order dir uid flags mark is d (inl (false, s.holds)) _ refl)
     where
-      by_found : (w : World) → Midway ours alone w opening.options version plan log false log false d → (x : Option ℕ) → marked_from mark (first_uid plan (target dir)) (box d (target dir)) ≡ x → IsSought ours alone w opening.options version plan log x d → marked_from mark (first_uid plan (target dir)) (box d (target dir)) ≡ None
+      by_found : (w : World) → Midway ours alone opening.named w opening.options version plan log false log false d → (x : Option ℕ) → marked_from mark (first_uid plan (target dir)) (box d (target dir)) ≡ x → IsSought ours alone opening.named w opening.options version plan log x d → marked_from mark (first_uid plan (target dir)) (box d (target dir)) ≡ None
       by_found w at None e t = e
       by_found w at (Some copy) e t = absurd (never_both ours alone w opening.options version plan log dir uid flags mark is copy d at t)
 

@@ -30,7 +30,7 @@ use Rattle.law_steps.specs.Steps.{given, is_side as is_that}
 use Rattle.law_outcome.specs.CommitLaws.{results_of}
 use Rattle.run_states.specs.Moments.{Midway}
 use Rattle.run_states.specs.Plans.{next_of}
-use Rattle.outside.specs.Devices.{Device, box}
+use Rattle.outside.specs.Devices.{Device, Named, box}
 use Rattle.law_steps.proofs.Copying.{uid_given-new}
 use Rattle.law_steps.proofs.Fold.{given-more}
 use Rattle.run_states.proofs.NextSteps.{result_is, result_less, results_more}
@@ -130,8 +130,8 @@ at_next passes [] log f = refl
 at_next passes (s ∷ steps) [] f = f s refl
 at_next passes (s ∷ steps) (r ∷ log) f = at_next passes steps log f
 
-module _ (ours : List ℕ → Bool) (alone : Bool) (w : World) (options : Options) (version : Version) (plan : Plan) (log : List Logged) (sound : IsInOrder w) (below : NamesBelow w) where
-  free_next : (logged : Logged) (d : Device) → Midway ours alone w options version plan log false (log ++ logged ∷ []) false d → (s : Step) → next_of plan.steps log ≡ Some s → is_free_for w.state.entries (record { plan = plan; log = log }) s logged ≡ true
+module _ (ours : List ℕ → Bool) (alone : Bool) {earlier : List Named} (w : World) (options : Options) (version : Version) (plan : Plan) (log : List Logged) (sound : IsInOrder w) (below : NamesBelow w) where
+  free_next : (logged : Logged) (d : Device) → Midway ours alone earlier w options version plan log false (log ++ logged ∷ []) false d → (s : Step) → next_of plan.steps log ≡ Some s → is_free_for w.state.entries (record { plan = plan; log = log }) s logged ≡ true
   free_next (Copied copy) d at (step.New dir uid flags mark) is =
       let p = at.planned in
       let side : Side = target dir in
@@ -156,5 +156,5 @@ module _ (ours : List ℕ → Bool) (alone : Bool) (w : World) (options : Option
   free_next Void d at (step.Flags dir a n set cleared) is = refl
   free_next Void d at (step.Expunge side u) is = refl
 
-  pub copy_is_free : (logged : Logged) (d : Device) → Midway ours alone w options version plan log false (log ++ logged ∷ []) false d → is_free w.state.entries (record { plan = plan; log = log }) logged ≡ true
+  pub copy_is_free : (logged : Logged) (d : Device) → Midway ours alone earlier w options version plan log false (log ++ logged ∷ []) false d → is_free w.state.entries (record { plan = plan; log = log }) logged ≡ true
   copy_is_free logged d at = at_next (λ s. is_free_for w.state.entries (record { plan = plan; log = log }) s logged) plan.steps log (free_next logged d at)

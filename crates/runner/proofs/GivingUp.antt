@@ -1,13 +1,7 @@
--- What the calls that give a plan up leave of both mailboxes and of the files.
-use Rattle.std.proofs.Common.{◌≡◌, ◌≤◌, ◌⊎◌, ◌∙◌, ◌++◌, inl, inr, refl, sym, ap, subst, ℕ, Bool, true, List, [], ◌∷◌, Option, Some, None, Result, Ok, Err, IfOk, OnErr, OnOk, is_some, length, ◌+◌, append-nil, append_assoc, arith}
-use Rattle.device.specs.Calls.{Effect}
+-- What the calls that give a plan up leave of the files.
+use Rattle.std.proofs.Common.{◌≡◌, ◌⊎◌, ◌∙◌, ◌++◌, inl, inr, refl, sym, ap, subst, ℕ, Bool, List, [], ◌∷◌, Option, Some, None, Result, Ok, Err, OnErr, OnOk, append-nil, append_assoc}
 use Rattle.mailcore.specs.declared.side.Side.{Side}
 use Rattle.mailcore.specs.declared.side.Side.TheVariants.{Far, Near}
-use Rattle.mailcore.specs.declared.mailbox.Message.{Message}
-use Rattle.mailcore.specs.Mailboxes.{Mailbox}
-use Rattle.mailcore.specs.Operations.{marked_from}
-use Rattle.mailcore.specs.Stores.{Store}
-use Rattle.mailcore.proofs.RiseLemmas.{rise-ends}
 use Rattle.rules.specs.declared.plan.Step.{Step}
 use Rattle.rules.specs.declared.state.SyncState.{SyncState}
 use Rattle.sync_state.specs.declared.journal.Journal.{Journal}
@@ -19,32 +13,21 @@ use Rattle.book.specs.declared.book.Pending.TheVariants.{Missing, Useless, Plann
 use Rattle.book.specs.Books.{Holds, Turns, TurnsHalf, mended, torn}
 use Rattle.book.specs.BookLogs.{logged_more}
 use Rattle.book.specs.GivingUp.{GivesUp, GivesUpHalf, GivesUpTo, HoldsLeft as HoldsLeftIn}
-use Rattle.book.specs.Shelves.{Files}
-use Rattle.outside.specs.declared.fault.OutsideFault.{OutsideFault}
-use Rattle.outside.specs.declared.fault.OutsideFault.TheVariants as out
-use Rattle.outside.specs.Arrivals.{Arrives}
-use Rattle.outside.specs.BookCalls.{OfBook, OnFiles}
-use Rattle.outside.specs.Calls.{LeavesBy}
-use Rattle.outside.specs.Devices.{Device, box}
+use Rattle.book.specs.LostSides.{Lost}
+use Rattle.outside.specs.BookCalls.{OfBook}
+use Rattle.outside.specs.Devices.{Device}
 use Rattle.outside.specs.GoingOn.{Continues, ContinuesIn}
 use Rattle.outside.specs.Opened.{IsHeld, Opened, TakesGivingUp, journal_in, journal_of, state_of, turned, with_box}
 use Rattle.run_states.specs.Openings.{IsIdle}
 use Rattle.run_states.specs.Plans.{next_of}
 use Rattle.runner.specs.Before.{HasPlan}
 use Rattle.runner.specs.Finding.{FindsSame}
-use Rattle.runner.specs.Going.{HasUntorn, IsGoing, IsUntorn, next_at, no_journal, number_at, plan_at}
+use Rattle.runner.specs.Going.{HasUntorn, IsGoing, IsUntorn, next_at, plan_at}
 use Rattle.runner.specs.declared.fault.RunFault.{RunFault}
-use Rattle.runner.specs.Validities.{BothSame, HasSame, IsSame, plan_validity, recorded}
-use Rattle.runner.specs.Faults.{RefusedAt}
-use Rattle.runner.specs.Parts.{InStep}
-use Rattle.runner.proofs.PartCalls.{AreReasons}
-use Rattle.runner.proofs.StepParts.{steps_told}
-use Rattle.runner.specs.GivingUp.{GivesUpRead, GivesUpSo, HoldsLeft, HoldsLeftOf, InLook, IsGivenUp, IsGivenUpRead, KeepsAll, KeepsBoxes, LeavesRead, LosesBy, NotesCopy, StillPending, copy_of_next, next_copy, with_found}
+use Rattle.runner.specs.GivingUp.{HoldsLeft, HoldsLeftOf, IsGivenUpRead, KeepsBoxes, LeavesRead, LosesBy, NotesCopy, StillPending, copy_of_next, next_copy, with_found}
 use Rattle.runner.specs.HalfEntries.{lost_at}
-use Rattle.runner.proofs.Finding.{same_arrives, same_then}
 use Rattle.runner.proofs.Readings.{both_open, plan_read, turned_open, turned_state}
-use Rattle.book.proofs.KnownBooks.{book_known}
-use Rattle.std.specs.Option.{option_map, unwrap_or}
+use Rattle.runner.proofs.KeptBoxes.{boxes_next, held_same, Did, Nothing, All, Part}
 
 pub ok_then : {T E : Type 0} (r : Result T E) (P Q : Type 0) → (P → Q) → OnOk r P → OnOk r Q
 ok_then (Ok x) P Q f p = f p
@@ -57,121 +40,6 @@ err_then (Err e) P Q f p = f p
 pub err_holds : {T E : Type 0} (r : Result T E) (P : Type 0) → P → OnErr r P
 err_holds (Ok x) P p = tt
 err_holds (Err e) P p = p
-
--- ---- both mailboxes
-
-module _ (ours : List ℕ → Bool) (alone : Bool) where
-  boxes_arrive : (d m : Device) → Arrives ours alone d m → KeepsBoxes ours alone d m
-  boxes_arrive d m a = record {
-    far_validity = ap (λ (x : Device). x.far.validity) a.now;
-    far_next = subst (λ (n : ℕ). d.far.next ≤ n) (sym (ap (λ (x : Device). x.far.next) a.now)) (rise-ends d.far.next _ a.next a.rise);
-    far_added = a.messages;
-    far = ap (λ (x : Device). x.far.messages) a.now;
-    near = ap (λ (x : Device). x.near.store) a.now;
-    named = ap (λ (x : Device). x.named) a.now;
-    copies = same_arrives ours alone d m a;
-    nobody = λ e. (ap (λ (x : Device). x.far) (a.nobody e), ap (λ (x : Device). x.near) (a.nobody e));
-  }
-
-  pub boxes_none : (d : Device) → KeepsBoxes ours alone d d
-  boxes_none d = record {
-    far_validity = refl;
-    far_next = omega arith;
-    far_added = [];
-    far = sym (append-nil d.far.messages);
-    near = refl;
-    named = refl;
-    copies = λ mark from side is. refl;
-    nobody = λ e. (refl, refl);
-  }
-
-  pub boxes_next : (a b c : Device) → KeepsBoxes ours alone a b → KeepsBoxes ours alone b c → KeepsBoxes ours alone a c
-  boxes_next a b c p q = record {
-    far_validity = q.far_validity ∙ p.far_validity;
-    far_next = omega (arith, p.far_next, q.far_next);
-    far_added = p.far_added ++ q.far_added;
-    far = q.far ∙ ap (λ (l : List Message). l ++ q.far_added) p.far ∙ append_assoc a.far.messages p.far_added q.far_added;
-    near = q.near ∙ p.near;
-    named = q.named ∙ p.named;
-    copies = same_then ours a b c p.copies q.copies;
-    nobody = λ e. ((q.nobody e).0 ∙ (p.nobody e).0, (q.nobody e).1 ∙ (p.nobody e).1);
-  }
-
-  -- a call that changes nothing
-  pub boxes_read : (d m d' : Device) → Arrives ours alone d m → d' ≡ m → KeepsBoxes ours alone d d'
-  boxes_read d m d' a e = subst (λ (x : Device). KeepsBoxes ours alone d x) (sym e) (boxes_arrive d m a)
-
-  filed : (does : Effect Files) (m d' : Device) → OnFiles does m d' → KeepsBoxes ours alone m d'
-  filed does m d' t = record {
-    far_validity = ap (λ (s : Store). s.validity) t.far;
-    far_next = subst (λ (s : Store). m.far.next ≤ s.next) (sym t.far) (omega arith);
-    far_added = [];
-    far = ap (λ (s : Store). s.messages) t.far ∙ sym (append-nil m.far.messages);
-    near = ap (λ (b : Mailbox). b.store) t.near;
-    named = t.named;
-    copies = λ mark from side is. by_side mark from side;
-    nobody = λ e. (t.far, t.near);
-  }
-    where
-      by_side : (mark : List ℕ) (from : ℕ) (side : Side) → marked_from mark from (box d' side) ≡ marked_from mark from (box m side)
-      by_side mark from Far = rw t.far refl
-      by_side mark from Near = rw t.near refl
-
-  -- a call of the book
-  pub boxes_booked : (does : Pending → Effect Files) (opened : Option Opened) (d m d' : Device) → Arrives ours alone d m → OfBook does opened m d' → KeepsBoxes ours alone d d'
-  boxes_booked does None d m d' a t = absurd t
-  boxes_booked does (Some o) d m d' a t = boxes_next d m d' (boxes_arrive d m a) (filed (does o.pending) m d' t)
-
-  pub boxes_left : (does part : Pending → Effect Files) (opened : Option Opened) (e : OutsideFault) (d m d' : Device) → Arrives ours alone d m
-      → LeavesBy {T = Unit {0}} (λ _. OfBook does opened) (OfBook part opened) e m d' → KeepsBoxes ours alone d d'
-  boxes_left does part opened out.Stopped d m d' a (inl same) = boxes_read d m d' a same
-  boxes_left does part opened out.Stopped d m d' a (inr (inl k)) = boxes_booked does opened d m d' a k.done
-  boxes_left does part opened out.Stopped d m d' a (inr (inr k)) = boxes_booked part opened d m d' a k
-  boxes_left does part opened out.Refused d m d' a same = boxes_read d m d' a same
-  boxes_left does part opened (out.Box side number) d m d' a same = boxes_read d m d' a same
-  boxes_left does part opened (out.BadState line) d m d' a same = boxes_read d m d' a same
-  boxes_left does part opened (out.BadJournal line) d m d' a same = boxes_read d m d' a same
-  boxes_left does part opened out.NoMemory d m d' a (inl same) = boxes_read d m d' a same
-  boxes_left does part opened out.NoMemory d m d' a (inr (inl k)) = boxes_booked does opened d m d' a k.done
-  boxes_left does part opened out.NoMemory d m d' a (inr (inr k)) = boxes_booked part opened d m d' a k
-
-  -- ---- the files
-
-  pub files_read : (d m d' : Device) → Arrives ours alone d m → d' ≡ m → d'.files ≡ d.files
-  files_read d m d' a e = ap (λ (x : Device). x.files) e ∙ ap (λ (x : Device). x.files) a.now
-
-  pub held_arrives : (opened : Option Opened) (d m : Device) → Arrives ours alone d m → IsHeld opened d → IsHeld opened m
-  held_arrives None d m a h = h
-  held_arrives (Some o) d m a h = subst (λ (f : Files). Holds f o.state o.pending) (sym (ap (λ (x : Device). x.files) a.now)) h
-
-  pub all_read : (d m d' : Device) → Arrives ours alone d m → d' ≡ m → KeepsAll ours alone d d'
-  all_read d m d' a e = (boxes_read d m d' a e, files_read d m d' a e)
-
-  pub all_next : (a b c : Device) → KeepsAll ours alone a b → KeepsAll ours alone b c → KeepsAll ours alone a c
-  all_next a b c p q = (boxes_next a b c p.0 q.0, q.1 ∙ p.1)
-
-pub held_same : (opened : Option Opened) (d d' : Device) → d'.files ≡ d.files → IsHeld opened d → IsHeld opened d'
-held_same None d d' same h = h
-held_same (Some o) d d' same h = subst (λ (f : Files). Holds f o.state o.pending) (sym same) h
-
--- what a call of the book did, whatever its fault
-pub data Did (does part : Pending → Effect Files) (opened : Option Opened) (m d' : Device) : Type 0 where
-  Nothing : d' ≡ m → Did does part opened m d'
-  All : OfBook does opened m d' → Did does part opened m d'
-  Part : OfBook part opened m d' → Did does part opened m d'
-
-pub did : (does part : Pending → Effect Files) (opened : Option Opened) (e : OutsideFault) (m d' : Device)
-    → LeavesBy {T = Unit {0}} (λ _. OfBook does opened) (OfBook part opened) e m d' → Did does part opened m d'
-did does part opened out.Stopped m d' (inl same) = Nothing same
-did does part opened out.Stopped m d' (inr (inl k)) = All k.done
-did does part opened out.Stopped m d' (inr (inr k)) = Part k
-did does part opened out.Refused m d' same = Nothing same
-did does part opened (out.Box side number) m d' same = Nothing same
-did does part opened (out.BadState line) m d' same = Nothing same
-did does part opened (out.BadJournal line) m d' same = Nothing same
-did does part opened out.NoMemory m d' (inl same) = Nothing same
-did does part opened out.NoMemory m d' (inr (inl k)) = All k.done
-did does part opened out.NoMemory m d' (inr (inr k)) = Part k
 
 -- ---- a plan that is pending still
 
@@ -288,10 +156,10 @@ still_same opened now d s j k = record {
 
 -- ---- a plan that is given up
 
-left_from : (lost : List ℕ) (o : Opened) (w : WrittenJournal) (q : Pending) (d : Device) (h : HoldsLeftIn lost (Planned w) o.state d.files) → Holds d.files h.state q → HoldsLeftOf lost (Some (record o { pending = Planned w })) q d
+left_from : (lost : Lost) (o : Opened) (w : WrittenJournal) (q : Pending) (d : Device) (h : HoldsLeftIn lost (Planned w) o.state d.files) → Holds d.files h.state q → HoldsLeftOf lost (Some (record o { pending = Planned w })) q d
 left_from lost o w q d h held = record { before = o.state; journal = w.journal; state = h.state; before_is = refl; journal_is = refl; left = h.left; held = held }
 
-pub given_up_at : (lost : List ℕ) (opened : Option Opened) (m d' : Device) → OfBook (GivesUpTo lost) opened m d' → IsHeld opened m → HoldsLeftOf lost opened Missing d'
+pub given_up_at : (lost : Lost) (opened : Option Opened) (m d' : Device) → OfBook (GivesUpTo lost) opened m d' → IsHeld opened m → HoldsLeftOf lost opened Missing d'
 given_up_at lost None m d' t h = absurd t
 given_up_at lost (Some o) m d' t h = by_pending o.pending (λ s. t.files s) h
   where
@@ -303,10 +171,10 @@ given_up_at lost (Some o) m d' t h = by_pending o.pending (λ s. t.files s) h
         record { before = o.state; journal = w.journal; state = k.state; before_is = refl; journal_is = refl; left = k.left; held = k.held }
 
 -- still pending, or given up, with a journal that is useless, or none
-abbrev pub StillOrLeft : (lost : List ℕ) → Option Opened → Device → Type 0
+abbrev pub StillOrLeft : (lost : Lost) → Option Opened → Device → Type 0
 StillOrLeft lost opened d = StillPending opened d ⊎ ((pending : Pending) × IsIdle pending × HoldsLeftOf lost opened pending d)
 
-pub given_up_or_not : (lost : List ℕ) (opened : Option Opened) (m d' : Device) → HasPlan opened → IsHeld opened m → Did (GivesUpTo lost) (GivesUpHalf lost) opened m d' → StillOrLeft lost opened d'
+pub given_up_or_not : (lost : Lost) (opened : Option Opened) (m d' : Device) → HasPlan opened → IsHeld opened m → Did (GivesUpTo lost) (GivesUpHalf lost) opened m d' → StillOrLeft lost opened d'
 given_up_or_not lost opened m d' plan h (Nothing same) = inl (still_here opened d' plan (held_same opened m d' (ap (λ (x : Device). x.files) same) h))
 given_up_or_not lost opened m d' plan h (All t) = inr (Missing, tt, given_up_at lost opened m d' t h)
 given_up_or_not lost None m d' plan h (Part t) = absurd t
@@ -428,9 +296,9 @@ left_noted ours alone (Some o) now d m d' pending plan n boxes k = by_pending o.
           };
         }
 
--- ---- which far messages are lost
+-- ---- which entries lose a side
 
-pub left_looked : (ours : List ℕ → Bool) (alone : Bool) (lost : List ℕ) (opened : Option Opened) (pending : Pending) (d d' : Device) → LosesBy ours alone opened d lost → HoldsLeftOf lost opened pending d' → HoldsLeft ours alone opened pending d d'
+pub left_looked : (ours : List ℕ → Bool) (alone : Bool) (lost : Lost) (opened : Option Opened) (pending : Pending) (d d' : Device) → LosesBy ours alone opened d lost → HoldsLeftOf lost opened pending d' → HoldsLeft ours alone opened pending d d'
 left_looked ours alone lost opened pending d d' l k = record {
   before = k.before;
   journal = k.journal;
@@ -439,7 +307,7 @@ left_looked ours alone lost opened pending d d' l k = record {
   state = k.state;
   before_is = k.before_is;
   journal_is = k.journal_is;
-  left = subst (λ (u : List ℕ). GivesUp k.journal u k.before k.state) (l.lost_is k.before k.journal k.before_is k.journal_is) k.left;
+  left = subst (λ (u : Lost). GivesUp k.journal u k.before k.state) (l.lost_is k.before k.journal k.before_is k.journal_is) k.left;
   held = k.held;
 }
 
@@ -447,7 +315,7 @@ left_looked ours alone lost opened pending d d' l k = record {
 abbrev pub StillOrLooked : (ours : List ℕ → Bool) → (alone : Bool) → Option Opened → (d d' : Device) → Type 0
 StillOrLooked ours alone opened d d' = StillPending opened d' ⊎ ((pending : Pending) × IsIdle pending × HoldsLeft ours alone opened pending d d')
 
-pub still_looked : (ours : List ℕ → Bool) (alone : Bool) (lost : List ℕ) (opened : Option Opened) (d d' : Device) → LosesBy ours alone opened d lost → StillOrLeft lost opened d' → StillOrLooked ours alone opened d d'
+pub still_looked : (ours : List ℕ → Bool) (alone : Bool) (lost : Lost) (opened : Option Opened) (d d' : Device) → LosesBy ours alone opened d lost → StillOrLeft lost opened d' → StillOrLooked ours alone opened d d'
 still_looked ours alone lost opened d d' l (inl k) = inl k
 still_looked ours alone lost opened d d' l (inr k) = inr (k.0, k.1, left_looked ours alone lost opened k.0 d d' l k.2)
 
@@ -484,146 +352,3 @@ still_boxed opened d k = still_same opened (with_box Near (with_box Far opened))
 
 pub still_ready : (opened : Option Opened) (d : Device) → StillPending (ready opened) d → StillPending opened d
 still_ready opened d k = still_same opened (ready opened) d (ready_state opened) (ready_journal opened) k
-
--- ---- what is answered, by what was read
-
-given_from : (ours : List ℕ → Bool) (alone : Bool) (before : SyncState) (j : Journal) (d m d' : Device) (pending : Pending) → KeepsBoxes ours alone d m → IsGivenUp ours alone before j m d' pending → IsGivenUp ours alone before j d d' pending
-given_from ours alone before j d m d' pending boxes l = record {
-  sought = l.sought;
-  same = same_then ours d m l.sought boxes.copies l.same;
-  looked = l.looked;
-  boxes = boxes_next ours alone d m l.looked boxes l.boxes;
-  state = l.state;
-  left = l.left;
-  held = l.held;
-}
-
-read_ready : (ours : List ℕ → Bool) (alone : Bool) (opened : Option Opened) (d m d' : Device) (pending : Pending) → KeepsBoxes ours alone d m → IsGivenUpRead ours alone (ready opened) m d' pending → IsGivenUpRead ours alone opened d d' pending
-read_ready ours alone opened d m d' pending boxes k = record {
-  before = k.before;
-  journal = k.journal;
-  before_is = sym (ready_state opened) ∙ k.before_is;
-  journal_is = sym (ready_journal opened) ∙ k.journal_is;
-  given_up = given_from ours alone k.before k.journal d m d' pending boxes k.given_up;
-}
-
-pub read_pending : (ours : List ℕ → Bool) (alone : Bool) (opened : Option Opened) (d d' : Device) (e : RunFault) → StillPending opened d' → GivesUpRead {T = Bool} ours alone opened d d' (Err e)
-read_pending ours alone opened d d' e k = record {
-  before = k.state;
-  journal = k.journal;
-  before_is = k.state_is;
-  journal_is = k.journal_is;
-  gives_up = inl (record { written = k.written; goes_on = k.goes_on; held = k.held });
-}
-
-pub read_left : (ours : List ℕ → Bool) (alone : Bool) (opened : Option Opened) (d m d' : Device) (e : RunFault) → KeepsBoxes ours alone d m → LeavesRead {T = Unit {0}} ours alone (ready opened) m d' (Err e) → GivesUpRead {T = Bool} ours alone opened d d' (Err e)
-read_left ours alone opened d m d' e boxes (inl k) = read_pending ours alone opened d d' e (still_ready opened d' k)
-read_left ours alone opened d m d' e boxes (inr k) =
-    let l = read_ready ours alone opened d m d' k.0 boxes k.2 in
-    record { before = l.before; journal = l.journal; before_is = l.before_is; journal_is = l.journal_is; gives_up = inr (k.0, k.1, l.given_up) }
-
-validity_of : (opened : Option Opened) (j : Journal) (side : Side) (d : Device) → journal_of opened ≡ Some j → HasSame opened side d → plan_validity j.plan side ≡ (box d side).validity
-validity_of None j side d e h = cc
-validity_of (Some o) j side d e h = by_pending o.pending e h
-  where
-    by_pending : (p : Pending) → journal_in p ≡ Some j → IsSame (recorded o.state p side) (box d side).validity → plan_validity j.plan side ≡ (box d side).validity
-    by_pending Missing e h = cc
-    by_pending Useless e h = cc
-    by_pending (Planned w) e h = let same : w.journal ≡ j = cc in ap (λ (k : Journal). plan_validity k.plan side) (sym same) ∙ h
-
-pub read_done : (ours : List ℕ → Bool) (alone : Bool) (opened : Option Opened) (d m d' : Device) (answer : Bool) → KeepsBoxes ours alone d m → BothSame opened m → KeepsBoxes ours alone m d' → IsGivenUpRead ours alone (ready opened) m d' Missing
-    → GivesUpRead {T = Bool} ours alone opened d d' (Ok answer)
-read_done ours alone opened d m d' answer before same after k =
-    let l = read_ready ours alone opened d m d' Missing before k in
-    record {
-      before = l.before;
-      journal = l.journal;
-      before_is = l.before_is;
-      journal_is = l.journal_is;
-      gives_up = (
-        l.given_up,
-        validity_of opened l.journal Far m l.journal_is same.0 ∙ sym after.far_validity,
-        validity_of opened l.journal Near m l.journal_is same.1 ∙ ap (λ (s : Store). s.validity) (sym after.near),
-      );
-    }
-
-pub none_pending : (opened : Option Opened) (s : SyncState) (w : WrittenJournal) (d m : Device) → IsHeld opened m → m.files ≡ d.files → Holds d.files s (Planned w) → journal_of opened ≡ None → ⊥
-none_pending None s w d m held same h none = held
-none_pending (Some o) s w d m held same h none =
-    let known = book_known m.files o.state s o.pending (Planned w) held (subst (λ (f : Files). Holds f s (Planned w)) (sym same) h) in
-    let some : journal_in o.pending ≡ Some w.journal = ap (λ (p : Pending). journal_in p) known.1 in
-    let never = sym some ∙ none in
-    cc
-
-pub some_pending : (opened : Option Opened) (s : SyncState) (p : Pending) (j : Journal) (d m : Device) → IsHeld opened m → m.files ≡ d.files → IsIdle p → Holds d.files s p → journal_of opened ≡ Some j → ⊥
-some_pending None s p j d m held same idle h some = held
-some_pending (Some o) s p j d m held same idle h some =
-    let known = book_known m.files o.state s o.pending p held (subst (λ (f : Files). Holds f s p) (sym same) h) in
-    idle_none p idle (ap (λ (q : Pending). journal_in q) (sym known.1) ∙ some)
-  where
-    idle_none : (q : Pending) → IsIdle q → journal_in q ≡ Some j → ⊥
-    idle_none Missing idle e = cc
-    idle_none Useless idle e = cc
-    idle_none (Planned w) idle e = idle
-
--- a plan that was read is one that the files hold
-pub answer_known : (opened : Option Opened) (s : SyncState) (p : Pending) (d m : Device) → IsHeld opened m → m.files ≡ d.files → Holds d.files s p → is_some (journal_of opened) ≡ is_some (journal_in p)
-answer_known None s p d m held same h = absurd held
-answer_known (Some o) s p d m held same h =
-    let known = book_known m.files o.state s o.pending p held (subst (λ (f : Files). Holds f s p) (sym same) h) in
-    ap (λ (q : Pending). is_some (journal_in q)) known.1
-
--- what was read is what the files hold
-pub by_files : (ours : List ℕ → Bool) (alone : Bool) (opened : Option Opened) (s : SyncState) (w : WrittenJournal) (d m d' : Device) (r : Result Bool RunFault) → IsHeld opened m → m.files ≡ d.files → Holds d.files s (Planned w)
-    → KeepsBoxes ours alone d m → GivesUpRead ours alone opened m d' r → GivesUpSo ours alone s w.journal d d' r
-by_files ours alone None s w d m d' r held same h boxes k = absurd held
-by_files ours alone (Some o) s w d m d' r held same h boxes k =
-    let known = book_known m.files o.state s o.pending (Planned w) held (subst (λ (f : Files). Holds f s (Planned w)) (sym same) h) in
-    let before : k.before ≡ s = (let e = k.before_is in let f = known.0 in cc) in
-    let journal : k.journal ≡ w.journal = is_journal o.pending known.1 k.journal_is in
-    earlier r (subst (λ (t : SyncState). GivesUpSo ours alone t w.journal m d' r) before (subst (λ (j : Journal). GivesUpSo ours alone k.before j m d' r) journal k.gives_up))
-  where
-    is_journal : (p : Pending) → p ≡ Planned w → journal_in p ≡ Some k.journal → k.journal ≡ w.journal
-    is_journal p e j = let f = ap (λ (q : Pending). journal_in q) (sym e) ∙ j in cc
-
-    earlier : (r : Result Bool RunFault) → GivesUpSo ours alone s w.journal m d' r → GivesUpSo ours alone s w.journal d d' r
-    earlier (Ok x) l = (given_from ours alone s w.journal d m d' Missing boxes l.0, l.1, l.2)
-    earlier (Err e) (inl pending) = inl pending
-    earlier (Err e) (inr l) = inr (l.0, l.1, given_from ours alone s w.journal d m d' l.0 boxes l.2)
-
--- the number of the next step, by the files
-pub number_held : (opened : Option Opened) (s : SyncState) (w : WrittenJournal) (d m : Device) (step : ℕ) → IsHeld opened m → m.files ≡ d.files → Holds d.files s (Planned w) → step ≡ number_at opened → step ≡ length w.journal.log + 1
-number_held None s w d m step held same h is = absurd held
-number_held (Some o) s w d m step held same h is =
-    let known = book_known m.files o.state s o.pending (Planned w) held (subst (λ (f : Files). Holds f s (Planned w)) (sym same) h) in
-    is ∙ ap (λ (p : Pending). number_at (Some (record o { pending = p }))) known.1
-
--- ---- what is told
-
--- a refusal while a copy is sought or logged is of the step of this number
-pub in_look : (number : ℕ) (opened : Option Opened) (honest from : Type 0) (d : Device) → AreReasons (InStep number opened honest from d) (InLook number)
-in_look number opened honest from d = steps_told (λ step. (step ≡ number) × (honest → from → RefusedAt (number_at opened) d)) (InLook number) (λ step k. k.0)
-
--- what is ready has the same number
-pub ready_number : (opened : Option Opened) → number_at (ready opened) ≡ number_at opened
-ready_number opened = ap (λ (j : Option Journal). (let k = unwrap_or j no_journal in length k.log + 1)) (ready_journal opened)
-
--- the answer of a part, by another word for it
-pub answered : (r : Result Bool RunFault) (b b' : Bool) → b ≡ b' → IfOk r (λ x. x ≡ b) → IfOk r (λ x. x ≡ b')
-answered (Ok x) b b' e h = h ∙ e
-answered (Err f) b b' e h = tt
-
--- the calls that look which far messages are lost, and leave the plan
-module _ (ours : List ℕ → Bool) (alone : Bool) (lost items : List ℕ) (opened now : Option Opened) (d m d' : Device) (h0 h1 : Type 0) (same : lost ≡ items) (is : now ≡ opened) (honest : h1 → h0) (files : h0 → m.files ≡ d.files) (loses : h0 → LosesBy ours alone opened d items) where
-  held_then : h1 → IsHeld opened d → IsHeld now m
-  held_then h held = subst (λ (o : Option Opened). IsHeld o m) (sym is) (held_same opened d m (files (honest h)) held)
-
-  pub done_looked : (r : Result (Unit {0}) RunFault) → OnOk r (h1 → IsHeld now m → HoldsLeftOf lost now Missing d') → OnOk r (h1 → IsHeld opened d → HoldsLeft ours alone opened Missing d d')
-  done_looked (Ok x) k = λ h held. left_looked ours alone items opened Missing d d' (loses (honest h))
-      (subst (λ (u : List ℕ). HoldsLeftOf u opened Missing d') same (subst (λ (o : Option Opened). HoldsLeftOf lost o Missing d') is (k h (held_then h held))))
-  done_looked (Err e) k = tt
-
-  pub left_or_looked : (r : Result (Unit {0}) RunFault) → OnErr r (h1 → IsHeld now m → StillOrLeft lost now d') → OnErr r (h1 → IsHeld opened d → StillOrLooked ours alone opened d d')
-  left_or_looked (Ok x) k = tt
-  left_or_looked (Err e) k = λ h held. still_looked ours alone items opened d d' (loses (honest h))
-      (subst (λ (u : List ℕ). StillOrLeft u opened d') same (subst (λ (o : Option Opened). StillOrLeft lost o d') is (k h (held_then h held))))

@@ -1,9 +1,9 @@
--- Which far messages are lost: by both listings, and by both mailboxes.
-use Rattle.std.proofs.Common.{◌≡◌, ◌∙◌, ◌≤◌, ◌<◌, ◌+◌, ◌++◌, inl, inr, ℕ, Bool, true, false, cond, List, [], ◌∷◌, append-nil, get_or, length, map, take, Option, None, Some, Result, Ok, Err, IfErr, IfOk, ap, ap₂, refl, subst, sym, arith}
+-- Which entries lose a side: by both listings, and by both mailboxes.
+use Rattle.std.proofs.Common.{◌≡◌, ◌∙◌, ◌≤◌, ◌<◌, ◌+◌, ◌++◌, inl, inr, ℕ, Bool, false, cond, List, [], ◌∷◌, get_or, length, map, take, Option, None, Some, Result, Ok, Err, IfErr, IfOk, ap, ap₂, refl, subst, sym, arith}
 use Rattle.std.specs.Prelude.{◌&&◌, AllPairs, filter, is_none}
 use Rattle.std.specs.List.{list_any}
 use Rattle.std.specs.List.Sorted.{IsNonDecreasing}
-use Rattle.std.proofs.lemmas.Bool.{and_right, cases_lt, or_from, or_parts, false_from_ne_true, true≢false}
+use Rattle.std.proofs.lemmas.Bool.{and_right, cases_lt, or_from, or_parts, true≢false}
 use Rattle.std.proofs.lemmas.List.{map-append, take_all, take_more}
 use Rattle.std.proofs.lemmas.List.Elements.{filter-append, filter_agree}
 use Rattle.std.proofs.lemmas.List.Kept.{AllPairs-filter}
@@ -21,6 +21,7 @@ use Rattle.rules.specs.Entries.{ArePairs, is_full, uid_of}
 use Rattle.rules.specs.Scene.{flags_at}
 use Rattle.rules.proofs.Walks.{AllPairs-map}
 use Rattle.sync_state.specs.declared.journal.Journal.{Journal}
+use Rattle.book.specs.LostSides.{AreRising, Lost, lost_of, none_lost}
 use Rattle.outside.specs.Devices.{Device}
 use Rattle.outside.specs.Opened.{Opened, journal_of, state_of}
 use Rattle.outside.specs.Calls.{Seen}
@@ -29,8 +30,8 @@ use Rattle.runner.specs.declared.fault.RunFault.TheVariants as run
 use Rattle.runner.specs.Faults.{IsCaused}
 use Rattle.runner.specs.Parts.{Passed, Unstepped}
 use Rattle.runner.specs.GivingUp.{Counted, KeepsAll, KeepsBoxes, LosesBy, LosesListed, Nowhere, RemovesSome}
-use Rattle.runner.specs.HalfEntries.{far_items, has_removed, is_expunge, is_gone, lacks_mark, logged, loses, lost_among, lost_at, near_items, removes, removes_some, tells_gone, tried}
-use Rattle.runner.proofs.GivingUp.{boxes_none}
+use Rattle.runner.specs.HalfEntries.{far_items, has_removed, is_expunge, is_gone, lacks_mark, logged, loses, lost_among, lost_between, near_items, removes, removes_some, tells_gone, tried}
+use Rattle.runner.proofs.KeptBoxes.{boxes_none}
 use Rattle.runner.proofs.PartCalls.{left_here}
 
 -- ---- they rise
@@ -74,13 +75,13 @@ none_removed j side e h =
     or_from (list_any (removes side e) (tried j)) (list_any (tells_gone side e) (logged j))
     (none_of is_expunge (removes side e) (tried j) (no_expunge side e) parts.0) (none_of is_gone (tells_gone side e) (logged j) (no_gone side e) parts.1)
 
-pub none_lost : (j : Journal) (side : Side) (own others : List Item) (es : List Entry) → removes_some j ≡ false → lost_among j side own others es ≡ []
-none_lost j side own others [] h = refl
-none_lost j side own others (e ∷ es) h =
+pub no_lost : (j : Journal) (side : Side) (own others : List Item) (es : List Entry) → removes_some j ≡ false → lost_among j side own others es ≡ []
+no_lost j side own others [] h = refl
+no_lost j side own others (e ∷ es) h =
     let test : Entry → Bool = loses j side own others in
     let stays : test e ≡ false =
     and_right (is_full e && is_none (flags_at own (uid_of side e)) && lacks_mark (flags_at others (uid_of (other side) e))) (has_removed j side e) (none_removed j side e h) in
-    ap (λ (b : Bool). map (uid_of Far) (cond b (e ∷ filter test es) (filter test es))) stays ∙ none_lost j side own others es h
+    ap (λ (b : Bool). map (uid_of Far) (cond b (e ∷ filter test es) (filter test es))) stays ∙ no_lost j side own others es h
 
 -- ---- by listings, and by mailboxes
 
@@ -93,8 +94,12 @@ pub lost_same : (j : Journal) (side : Side) (own own' others others' : List Item
 lost_same j side own own' others others' es same same' = ap (λ (l : List Entry). map (uid_of Far) l) (filter_agree (loses j side own others) (loses j side own' others')
     (λ e. ap₂ (λ (o p : Option ℕ). is_full e && is_none o && lacks_mark p && has_removed j side e) (same (uid_of side e)) (same' (uid_of (other side) e))) es)
 
+between_same : (j : Journal) (far far' near near' : List Item) (es : List Entry) → ListsSame far far' → ListsSame near near' → lost_between j far near es ≡ lost_between j far' near' es
+between_same j far far' near near' es same same' =
+    ap₂ (λ (xs ys : List ℕ). lost_of xs ys) (lost_same j Far far far' near near' es same same') (lost_same j Near near near' far far' es same' same)
+
 -- the far listing came first
-pub loses_listed : (ours : List ℕ → Bool) (alone : Bool) (opened : Option Opened) (far near : List Item) (d m d' : Device) (lost : List ℕ) → KeepsBoxes ours alone d m → KeepsBoxes ours alone m d' → far ≡ far_items m
+pub loses_listed : (ours : List ℕ → Bool) (alone : Bool) (opened : Option Opened) (far near : List Item) (d m d' : Device) (lost : Lost) → KeepsBoxes ours alone d m → KeepsBoxes ours alone m d' → far ≡ far_items m
     → ListsSame near (near_items d') → LosesListed opened far near lost → LosesBy ours alone opened d lost
 loses_listed ours alone opened far near d m d' lost before after far_is near_is l =
     let near_then : ListsSame near (near_items m) = λ u. near_is u ∙ ap (λ (t : Store). flags_at (map (item_of Near) t.messages) u) after.near in
@@ -102,21 +107,23 @@ loses_listed ours alone opened far near d m d' lost before after far_is near_is 
     record {
       looked = m;
       boxes = before;
-      lost_is = λ s j state journal. l s j state journal ∙ lost_same j Far far (far_items m) near (near_items m) s.entries far_then near_then;
+      lost_is = λ s j state journal. l s j state journal ∙ between_same j far (far_items m) near (near_items m) s.entries far_then near_then;
     }
 
-module _ {T : Type 0} (items : T → List ℕ) (ours : List ℕ → Bool) (alone : Bool) (opened now : Option Opened) (far near : List Item) (d m d' : Device) (h0 h1 : Type 0) (is : now ≡ opened) (honest : h1 → h0)
+module _ (ours : List ℕ → Bool) (alone : Bool) (opened now : Option Opened) (far near : List Item) (d m d' : Device) (h0 h1 : Type 0) (is : now ≡ opened) (honest : h1 → h0)
     (before : h0 → KeepsAll ours alone d m) (after : h1 → KeepsAll ours alone m d') (far_is : h0 → far ≡ far_items m) (near_is : h1 → (u : ℕ) → flags_at near u ≡ flags_at (near_items d') u) where
-  pub looked_ok : (r : Result T RunFault) → IfOk r (λ x. LosesListed now far near (items x)) → IfOk r (λ x. h1 → LosesBy ours alone opened d (items x))
-  looked_ok (Ok x) k = λ h. loses_listed ours alone opened far near d m d' (items x) ((before (honest h)).0) ((after h).0) (far_is (honest h)) (near_is h) (subst (λ (o : Option Opened). LosesListed o far near (items x)) is k)
+  pub looked_ok : (r : Result Lost RunFault) → IfOk r (λ x. LosesListed now far near x) → IfOk r (λ x. h1 → LosesBy ours alone opened d x)
+  looked_ok (Ok x) k = λ h. loses_listed ours alone opened far near d m d' x ((before (honest h)).0) ((after h).0) (far_is (honest h)) (near_is h) (subst (λ (o : Option Opened). LosesListed o far near x) is k)
   looked_ok (Err e) k = tt
 
 -- no call, and none is lost
-pub loses_none : (ours : List ℕ → Bool) (alone : Bool) (opened : Option Opened) (d : Device) → RemovesSome opened false → LosesBy ours alone opened d []
+pub loses_none : (ours : List ℕ → Bool) (alone : Bool) (opened : Option Opened) (d : Device) → RemovesSome opened false → LosesBy ours alone opened d none_lost
 loses_none ours alone opened d none = record {
   looked = d;
   boxes = boxes_none ours alone d;
-  lost_is = λ s j state journal. sym (none_lost j Far (far_items d) (near_items d) s.entries (sym (none j journal)));
+  lost_is = λ s j state journal. ap₂ (λ (xs ys : List ℕ). lost_of xs ys)
+      (sym (no_lost j Far (far_items d) (near_items d) s.entries (sym (none j journal))))
+      (sym (no_lost j Near (near_items d) (far_items d) s.entries (sym (none j journal))));
 }
 
 -- no call
@@ -131,10 +138,10 @@ same_journal opened j k here is = let e = here ∙ is in cc
 pub removes_by : (opened : Option Opened) (b : Bool) (k : Journal) → Some k ≡ journal_of opened → b ≡ removes_some k → RemovesSome opened b
 removes_by opened b k here e = λ j is. e ∙ ap (λ (x : Journal). removes_some x) (same_journal opened j k here is)
 
-pub listed_by : (opened : Option Opened) (far near : List Item) (lost : List ℕ) (s : SyncState) (k : Journal) → state_of opened ≡ Some s → Some k ≡ journal_of opened → lost ≡ lost_among k Far far near s.entries → LosesListed opened far near lost
+pub listed_by : (opened : Option Opened) (far near : List Item) (lost : Lost) (s : SyncState) (k : Journal) → state_of opened ≡ Some s → Some k ≡ journal_of opened → lost ≡ lost_between k far near s.entries → LosesListed opened far near lost
 listed_by opened far near lost s k state here e = λ t j is journal.
     let same : s ≡ t = (let f = sym state ∙ is in cc) in
-    e ∙ ap (λ (x : Journal). lost_among x Far far near s.entries) (same_journal opened j k here journal) ∙ ap (λ (x : SyncState). lost_among j Far far near x.entries) same
+    e ∙ ap (λ (x : Journal). lost_between x far near s.entries) (same_journal opened j k here journal) ∙ ap (λ (x : SyncState). lost_between j far near x.entries) same
 
 pub never_none : {P : Type 0} (opened : Option Opened) (j : Journal) → None ≡ journal_of opened → journal_of opened ≡ Some j → P
 never_none opened j none is = absurd (let e = none ∙ is in cc)
@@ -153,3 +160,12 @@ lost_more j side own others es i e b below is tested =
 pub lost_rise_taken : (j : Journal) (side : Side) (own others : List Item) (es : List Entry) (i : ℕ) (lost : List ℕ) → length es ≤ i → ArePairs es → lost ≡ lost_among j side own others (take i es) → IsNonDecreasing lost
 lost_rise_taken j side own others es i lost past pairs is =
     subst (λ (l : List ℕ). IsNonDecreasing l) (sym (is ∙ ap (λ (l : List Entry). lost_among j side own others l) (take_all i es past))) (lost_rise j side own others es pairs)
+
+-- ---- on both sides
+
+pub both_rise : (far near : List ℕ) → IsNonDecreasing far → IsNonDecreasing near → AreRising (lost_of far near)
+both_rise far near f n Far = f
+both_rise far near f n Near = n
+
+pub none_rise : AreRising none_lost
+none_rise = both_rise [] [] (steady [] (λ i j d less within. absurd (omega (arith, within)))) (steady [] (λ i j d less within. absurd (omega (arith, within))))

@@ -18,7 +18,10 @@ pub mod Attempts
 pub mod Reopening
 pub mod Ends
 pub mod Finding
+pub mod KeptBoxes
+pub mod Naming
 pub mod GivingUp
+pub mod GivenUpRead
 pub mod PassTells
 pub mod Sourced
 pub mod HalfEntries

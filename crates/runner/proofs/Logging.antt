@@ -83,7 +83,7 @@ module _ {ours : List ℕ → Bool} {alone : Bool} (opening : Opening ours alone
   pub log_made : (now : Option Opened) (d m d' : Device) → IsGoing opened → HasLogged opened now (logged ∷ []) → Arrives ours alone d m → AfterStep opening opened logged d → OfBook (λ p. Turns p (logged_more p logged)) opened m d' → BeforeStep opening now false d'
   log_made now d m d' g h a at e =
       let t = of_book (λ p. Turns p (logged_more p logged)) opened m d' g.untorn e in
-      let k = moment_map opening opened _ (λ w. Midway ours alone w opening.options (version_at opened) (plan_at opened) (log_at opened ++ logged ∷ []) false (log_at opened ++ logged ∷ []) false d')
+      let k = moment_map opening opened _ (λ w. Midway ours alone opening.named w opening.options (version_at opened) (plan_at opened) (log_at opened ++ logged ∷ []) false (log_at opened ++ logged ∷ []) false d')
       (λ w grows b x. midway_filed ours alone w opening.options (version_at opened) (plan_at opened) (log_at opened) (log_at opened ++ logged ∷ []) false false (log_at opened ++ logged ∷ []) false m d' t.far t.near t.named (t.files w.state x.files) x)
       (done_arrives opening opened logged d m a at) in
       rw (h.version, h.plan, h.log) (record { state = h.state ∙ k.state; since = k.since })
@@ -96,10 +96,10 @@ module _ {ours : List ℕ → Bool} {alone : Bool} (opening : Opening ours alone
   half_underway : (d m d' : Device) → IsGoing opened → Arrives ours alone d m → AfterStep opening opened logged d → OfBook (λ p. TurnsHalf p (torn p)) opened m d' → Underway opening d'
   half_underway d m d' g a at e =
       let t = of_book (λ p. TurnsHalf p (torn p)) opened m d' g.untorn e in
-      planned opening opened (λ w. PlannedAt ours alone w opening.options d') d' (λ w p. p)
+      planned opening opened (λ w. PlannedAt ours alone opening.named w opening.options d') d' (λ w p. p)
       (moment_map opening opened _ _ (λ w grows b x. by_files w t.far t.near t.named x (t.files w.state x.files)) (done_arrives opening opened logged d m a at))
     where
-      by_files : (w : World) → d'.far ≡ m.far → d'.near ≡ m.near → d'.named ≡ m.named → Midway ours alone w opening.options (version_at opened) (plan_at opened) (log_at opened) false (log_at opened ++ logged ∷ []) false m → Holds d'.files w.state (with_log (version_at opened) (plan_at opened) (log_at opened) false) ⊎ Holds d'.files w.state (with_log (version_at opened) (plan_at opened) (log_at opened) true) → PlannedAt ours alone w opening.options d'
+      by_files : (w : World) → d'.far ≡ m.far → d'.near ≡ m.near → d'.named ≡ m.named → Midway ours alone opening.named w opening.options (version_at opened) (plan_at opened) (log_at opened) false (log_at opened ++ logged ∷ []) false m → Holds d'.files w.state (with_log (version_at opened) (plan_at opened) (log_at opened) false) ⊎ Holds d'.files w.state (with_log (version_at opened) (plan_at opened) (log_at opened) true) → PlannedAt ours alone opening.named w opening.options d'
       by_files w far near named x (inl held) = record { version = version_at opened; plan = plan_at opened; log = log_at opened; is_torn = false; stands = inr (logged, midway_filed ours alone w opening.options (version_at opened) (plan_at opened) (log_at opened) (log_at opened) false false (log_at opened ++ logged ∷ []) false m d' far near named held x) }
       by_files w far near named x (inr held) = record { version = version_at opened; plan = plan_at opened; log = log_at opened; is_torn = true; stands = inr (logged, midway_filed ours alone w opening.options (version_at opened) (plan_at opened) (log_at opened) (log_at opened) false true (log_at opened ++ logged ∷ []) false m d' far near named held x) }
 

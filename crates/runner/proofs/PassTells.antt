@@ -17,9 +17,11 @@ use Rattle.runner.specs.declared.pass.Pass.TheVariants.{Already}
 use Rattle.runner.specs.Answers.{Answers, OfFiles, RunsBy, as_read}
 use Rattle.runner.specs.Attempts.{AnswersAt}
 use Rattle.runner.specs.Finding.{FindsAt}
+use Rattle.runner.specs.Naming.{NamesAt}
 use Rattle.runner.specs.Passes.{LeavesMade, TellsRun}
 use Rattle.runner.specs.Results.{Report}
 use Rattle.runner.specs.Validities.{LeavesBoxes}
+use Rattle.runner.proofs.Naming.{HasSpared, others_stand}
 
 pub answers_so : (run : ℕ) (options : Options) (d : Device) (stream : Stream) (h : Type 0) (r : Result Pass RunFault) → IfOk r (λ pass. h → (s : SyncState) → (p : Pending) → Holds d.files s p → Answers run s p pass)
     → IfOk r (λ pass. h → (s : SyncState) → (p : Pending) → Holds d.files s p → RunsBy (as_read s p) options stream pass) → IfOk r (λ pass. h → AnswersAt run options pass d stream)
@@ -27,11 +29,12 @@ answers_so run options d stream h (Ok pass) answers runs = λ honest. record { a
 answers_so run options d stream h (Err e) answers runs = tt
 
 module _ {ours : List ℕ → Bool} {alone : Bool} (opening : Opening ours alone) (run : ℕ) (h from : Type 0) (d d' : Device) where
-  pub tells_so : (r : Result Pass RunFault) → IfOk r (λ pass. h → from → Report opening pass d') → IfOk r (λ pass. h → from → FindsAt ours d pass)
+  pub tells_so : (r : Result Pass RunFault) → IfOk r (λ pass. h → from → Report opening pass d') → IfOk r (λ pass. h → from → FindsAt ours d pass) → IfOk r (λ pass. h → from → NamesAt opening pass d d')
       → OnOk r (h → alone ≡ true → from → opening.world.state.run + 1 ≤ run → IsOpening opening.world → IsDone opening.world opening.options d')
+      → OnOk r (h → from → HasSpared opening d d')
       → IfOk r (λ pass. h → from → TellsRun opening run pass d d')
-  tells_so (Ok pass) told found alike = λ honest at. record { told = told honest at; found = found honest at; alike = λ nobody least sound. alike honest nobody at least sound }
-  tells_so (Err e) told found alike = tt
+  tells_so (Ok pass) told found named alike others = λ honest at. record { told = told honest at; found = found honest at; named = named honest at; others = λ s p held. others_stand opening (as_read s p) pass d d d' (named honest at s p held) (others honest at); alike = λ nobody least sound. alike honest nobody at least sound }
+  tells_so (Err e) told found named alike others = tt
 
   pub told_in : (r : Result Pass RunFault) → IfOk r (λ pass. h → from → TellsRun opening run pass d d') → IfOk r (λ pass. h → from → Report opening pass d')
   told_in (Ok pass) k = λ honest at. (k honest at).told
@@ -40,6 +43,10 @@ module _ {ours : List ℕ → Bool} {alone : Bool} (opening : Opening ours alone
   pub found_in : (r : Result Pass RunFault) → IfOk r (λ pass. h → from → TellsRun opening run pass d d') → IfOk r (λ pass. h → from → FindsAt ours d pass)
   found_in (Ok pass) k = λ honest at. (k honest at).found
   found_in (Err e) k = tt
+
+  pub named_in : (r : Result Pass RunFault) → IfOk r (λ pass. h → from → TellsRun opening run pass d d') → IfOk r (λ pass. h → from → NamesAt opening pass d d')
+  named_in (Ok pass) k = λ honest at. (k honest at).named
+  named_in (Err e) k = tt
 
 pub made_so : (alone : Bool) (h : Type 0) (d d' : Device) (r : Result Pass RunFault) → IfOk r (λ pass. pass ≡ Already → LeavesBoxes h alone d d')
     → IfOk r (λ pass. pass ≡ Already → OfFiles h d (λ s p. IsIdle p → Holds d'.files s Missing)) → IfOk r (λ pass. pass ≡ Already → LeavesMade h alone d d')

@@ -38,6 +38,7 @@ use Rattle.run_states.specs.Openings.{Grows, IsIdle, Opening, Since, Unplanned}
 use Rattle.run_states.specs.Plans.{IsPlanned}
 use Rattle.run_states.proofs.Ends.{done_is_done, ended, ended_done, half_ended}
 use Rattle.run_states.proofs.Growth.{since_map}
+use Rattle.run_states.proofs.Spared.{underway_named}
 use Rattle.runner.specs.declared.fault.RunFault.{RunFault}
 use Rattle.runner.specs.declared.fault.RunFault.TheVariants as run
 use Rattle.runner.specs.declared.pass.Pass.{Pass}
@@ -49,12 +50,13 @@ use Rattle.runner.specs.Maps.{HasMap, HasMapIn, HasOtherMapIn}
 use Rattle.runner.specs.Before.{AreShown, BothListed, HasNoPlan, HasNone, HasPlan, IsEmptied, ReadUnderway, IsMade, Resumed}
 use Rattle.runner.specs.Going.{AreOpen, BeforeStep, HasLogged, HasUntorn, IsGoing, IsUntorn, log_at, logged_of, logs_of, next_at, no_journal, plan_at, steps_of, version_at}
 use Rattle.runner.specs.Parts.{PartOr}
-use Rattle.runner.specs.Validities.{IsKept}
+use Rattle.runner.specs.Validities.{IsKept, LeavesBoxes}
 use Rattle.runner.proofs.Logging.{of_book}
 use Rattle.runner.specs.Results.{PassedOver}
 use Rattle.runner.proofs.PlanFacts.{count_is, no_pairs, unfit_by}
 use Rattle.runner.proofs.Readings.{planned_files, turned_open, turned_state}
 use Rattle.runner.proofs.Stages.{ready_arrives, stands_of}
+use Rattle.runner.proofs.Naming.{HasSpared}
 
 -- ---- what was read
 
@@ -224,8 +226,11 @@ runs_held opened options stream d h0 h1 (Ok pass) a f g = λ h s p k. by_opened 
         let e = book_known d.files o.state s o.pending p held k in
         same_runs (Some o) (as_read s p) options stream pass (ap (λ (x : SyncState). Some x) e.0) (λ m. subst (HasMap options.keywords) e.1 m) a
 
-pub stores_joined : (alone : Bool) (h0 h1 : Type 0) (d0 d1 d2 : Device) (r : Result Pass RunFault) → IfOk r (λ p. p ≡ Already → h1 → alone ≡ true → (d2.far ≡ d1.far) × (d2.near ≡ d1.near)) → (h1 → h0) → (h0 → alone ≡ true → d1 ≡ d0) → IfOk r (λ p. p ≡ Already → h1 → alone ≡ true → (d2.far ≡ d0.far) × (d2.near ≡ d0.near))
-stores_joined alone h0 h1 d0 d1 d2 (Ok p) k f g = λ is h e. let x = k is h e in let same = g (f h) e in (x.0 ∙ ap (λ (d : Device). d.far) same, x.1 ∙ ap (λ (d : Device). d.near) same)
+pub stores_joined : (alone : Bool) (h0 h1 : Type 0) (d0 d1 d2 : Device) (r : Result Pass RunFault) → IfOk r (λ p. p ≡ Already → LeavesBoxes h1 alone d1 d2) → (h1 → h0) → (h0 → IsKept alone d0 d1) → IfOk r (λ p. p ≡ Already → LeavesBoxes h1 alone d0 d2)
+stores_joined alone h0 h1 d0 d1 d2 (Ok p) k f g = λ is h.
+    let x = k is h in
+    let kept = g (f h) in
+    (x.0 ∙ kept.named, λ e. let y = x.1 e in let same = kept.same e in (y.0 ∙ ap (λ (d : Device). d.far) same, y.1 ∙ ap (λ (d : Device). d.near) same))
 stores_joined alone h0 h1 d0 d1 d2 (Err e) k f g = tt
 
 -- the run that was read is that of the files
@@ -311,10 +316,10 @@ module _ {ours : List ℕ → Bool} {alone : Bool} (opening : Opening ours alone
       let does = of_book CommitsTo opened m d' g.untorn t in
       since_map opening _ _ (λ w grows at. (marks_of (plan_at opened).steps, ended ours alone w opening.options (version_at opened) (plan_at opened) (log_at opened) none m d' grows.in_order (stands_of opening opened w is_taken_up m at) does)) r.since
 
-  split_done : (d : Device) → Since opening (λ w. PlannedAt ours alone w opening.options d ⊎ DoneAt ours alone w opening.options d) → Underway opening d
+  split_done : (d : Device) → Since opening (λ w. PlannedAt ours alone opening.named w opening.options d ⊎ DoneAt ours alone opening.named w opening.options d) → Underway opening d
   split_done d s = by_world s.holds
     where
-      by_world : PlannedAt ours alone s.world opening.options d ⊎ DoneAt ours alone s.world opening.options d → Underway opening d
+      by_world : PlannedAt ours alone opening.named s.world opening.options d ⊎ DoneAt ours alone opening.named s.world opening.options d → Underway opening d
       by_world (inl p) = inr (inl (record { world = s.world; grows = s.grows; admitted = s.admitted; below = s.below; within = s.within; holds = p }))
       by_world (inr x) = inr (inr (record { world = s.world; grows = s.grows; admitted = s.admitted; below = s.below; within = s.within; holds = x }))
 
@@ -335,15 +340,15 @@ module _ {ours : List ℕ → Bool} {alone : Bool} (opening : Opening ours alone
 
   -- ---- which condition a run that is underway is in, by what was read
 
-  done_run : (w : World) (d : Device) → Grows alone opening.world w → (x : DoneAt ours alone w opening.options d) → x.state.run ≡ opening.world.state.run + 1
+  done_run : (w : World) (d : Device) → Grows alone opening.world w → (x : DoneAt ours alone opening.named w opening.options d) → x.state.run ≡ opening.world.state.run + 1
   done_run w d g x = let a = x.alike in let k = a.alike in let st = k.state in st.run ∙ ap (λ (s : SyncState). s.run + 1) g.state
 
-  pub planned_state : (o : Opened) (w : World) (d : Device) → Grows alone opening.world w → IsHeld (Some o) d → (p : PlannedAt ours alone w opening.options d) → (o.state ≡ opening.world.state) × HasPlanned o.pending
+  pub planned_state : (o : Opened) (w : World) (d : Device) → Grows alone opening.world w → IsHeld (Some o) d → (p : PlannedAt ours alone opening.named w opening.options d) → (o.state ≡ opening.world.state) × HasPlanned o.pending
   planned_state o w d g held p =
       let e = book_known d.files o.state w.state o.pending _ held (planned_files opening w d p) in
       (e.0 ∙ g.state, subst HasPlanned (sym e.1) tt)
 
-  done_state : (o : Opened) (w : World) (d : Device) → Grows alone opening.world w → IsHeld (Some o) d → DoneAt ours alone w opening.options d → o.state.run ≡ opening.world.state.run + 1
+  done_state : (o : Opened) (w : World) (d : Device) → Grows alone opening.world w → IsHeld (Some o) d → DoneAt ours alone opening.named w opening.options d → o.state.run ≡ opening.world.state.run + 1
   done_state o w d g held x =
       let e = book_known d.files o.state x.state o.pending x.pending held x.files in
       ap (λ (s : SyncState). s.run) e.0 ∙ done_run w d g x
@@ -358,13 +363,13 @@ module _ {ours : List ℕ → Bool} {alone : Bool} (opening : Opening ours alone
   idle_planned Useless i p = p
   idle_planned (Planned written) i p = i
 
-  planned_map : (keywords : List Keyword) (o : Opened) (w : World) (d : Device) → IsHeld (Some o) d → (p : PlannedAt ours alone w opening.options d) → HasMap keywords o.pending → opening.options.keywords ≡ keywords
+  planned_map : (keywords : List Keyword) (o : Opened) (w : World) (d : Device) → IsHeld (Some o) d → (p : PlannedAt ours alone opening.named w opening.options d) → HasMap keywords o.pending → opening.options.keywords ≡ keywords
   planned_map keywords o w d held p m =
       let e = book_known d.files o.state w.state o.pending _ held (planned_files opening w d p) in
       let made : p.plan.keywords ≡ keywords = subst (HasMap keywords) e.1 m in
       by_stands p.stands made
     where
-      by_stands : Stands ours alone w opening.options p.version p.plan p.log p.is_torn d → p.plan.keywords ≡ keywords → opening.options.keywords ≡ keywords
+      by_stands : Stands ours alone opening.named w opening.options p.version p.plan p.log p.is_torn d → p.plan.keywords ≡ keywords → opening.options.keywords ≡ keywords
       by_stands (inl k) made = let at = k.1 in let is = at.planned.is_plan in sym is.keywords ∙ made
       by_stands (inr k) made = let at = k.1 in let is = at.planned.is_plan in sym is.keywords ∙ made
 
@@ -464,3 +469,9 @@ pub pass_alike : (reasons : Reasons) (honest : Type 0) {ours : List ℕ → Bool
     → OnOk r (honest → alone ≡ true → PassStart opening run options stream s0.device → opening.world.state.run + 1 ≤ run → IsOpening opening.world → IsDone opening.world opening.options s1.device)
 pass_alike reasons honest {ours} {alone} opening run options stream s0 s1 (Ok x) p = λ h nobody at least sound. let r = p.reaches h at in over_alike opening s1.device nobody sound (r.done least)
 pass_alike reasons honest opening run options stream s0 s1 (Err e) p = tt
+
+pub pass_others : (reasons : Reasons) (honest : Type 0) {ours : List ℕ → Bool} {alone : Bool} (opening : Opening ours alone) (run : ℕ) (options : Options) (stream : Stream) (s0 s1 : Seen) (r : Result Pass RunFault)
+    → PartOr reasons honest (PassStart opening run options stream) (Underway opening) made_in (λ _. PassEnd opening run) s0 s1 r
+    → OnOk r (honest → PassStart opening run options stream s0.device → HasSpared opening s0.device s1.device)
+pass_others reasons honest opening run options stream s0 s1 (Ok x) p = λ h at. let on = p.goes_on h in (underway_named opening s0.device at.underway, on.spares)
+pass_others reasons honest opening run options stream s0 s1 (Err e) p = tt

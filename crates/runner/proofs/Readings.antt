@@ -142,11 +142,11 @@ pub unread_files : (e : OutsideFault) (m d' : Device) → d' ≡ m → TellsFile
 unread_files e m d' is t = subst (λ (d : Device). TellsFiles e d.files) (sym is) t
 
 module _ {ours : List ℕ → Bool} {alone : Bool} (opening : Opening ours alone) where
-  stands_files : (w : World) (version : Version) (plan : Plan) (log : List Logged) (torn : Bool) (d : Device) → Stands ours alone w opening.options version plan log torn d → Holds d.files w.state (with_log version plan log torn)
+  stands_files : (w : World) (version : Version) (plan : Plan) (log : List Logged) (torn : Bool) (d : Device) → Stands ours alone opening.named w opening.options version plan log torn d → Holds d.files w.state (with_log version plan log torn)
   stands_files w version plan log torn d (inl k) = let at = k.1 in at.files
   stands_files w version plan log torn d (inr k) = let at = k.1 in at.files
 
-  pub planned_files : (w : World) (d : Device) (p : PlannedAt ours alone w opening.options d) → Holds d.files w.state (with_log p.version p.plan p.log p.is_torn)
+  pub planned_files : (w : World) (d : Device) (p : PlannedAt ours alone opening.named w opening.options d) → Holds d.files w.state (with_log p.version p.plan p.log p.is_torn)
   planned_files w d p = stands_files w p.version p.plan p.log p.is_torn d p.stands
 
   -- the files of a run that is underway hold a book
@@ -192,20 +192,20 @@ module _ {ours : List ℕ → Bool} {alone : Bool} (opening : Opening ours alone
       let e = book_known m.files o.state opening.world.state o.pending n.pending held n.files in
       unplanned_filed opening q m d' (idle_kept o.pending q t (subst IsIdle (sym e.1) n.idle)) far near named (subst (λ (s : SyncState). Holds d'.files s q) e.0 now) n
 
-  stands_filed : (w : World) (version : Version) (plan : Plan) (log : List Logged) (torn torn' : Bool) (m d' : Device) → d'.far ≡ m.far → d'.near ≡ m.near → d'.named ≡ m.named → Holds d'.files w.state (with_log version plan log torn') → Stands ours alone w opening.options version plan log torn m → Stands ours alone w opening.options version plan log torn' d'
+  stands_filed : (w : World) (version : Version) (plan : Plan) (log : List Logged) (torn torn' : Bool) (m d' : Device) → d'.far ≡ m.far → d'.near ≡ m.near → d'.named ≡ m.named → Holds d'.files w.state (with_log version plan log torn') → Stands ours alone opening.named w opening.options version plan log torn m → Stands ours alone opening.named w opening.options version plan log torn' d'
   stands_filed w version plan log torn torn' m d' far near named holds (inl k) = inl (k.0, midway_filed ours alone w opening.options version plan log log torn torn' log k.0 m d' far near named holds k.1)
   stands_filed w version plan log torn torn' m d' far near named holds (inr k) = inr (k.0, midway_filed ours alone w opening.options version plan log log torn torn' (log ++ k.0 ∷ []) false m d' far near named holds k.1)
 
-  filed_planned : (o : Opened) (q : Pending) (m d' : Device) → TurnsIdle o.pending q → Holds m.files o.state o.pending → d'.far ≡ m.far → d'.near ≡ m.near → d'.named ≡ m.named → Holds d'.files o.state q → (w : World) → PlannedAt ours alone w opening.options m → PlannedAt ours alone w opening.options d'
+  filed_planned : (o : Opened) (q : Pending) (m d' : Device) → TurnsIdle o.pending q → Holds m.files o.state o.pending → d'.far ≡ m.far → d'.near ≡ m.near → d'.named ≡ m.named → Holds d'.files o.state q → (w : World) → PlannedAt ours alone opening.named w opening.options m → PlannedAt ours alone opening.named w opening.options d'
   filed_planned o q m d' t held far near named now w p =
       let e = book_known m.files o.state w.state o.pending (with_log p.version p.plan p.log p.is_torn) held (planned_files w m p) in
       by_turn e.0 e.1 t
     where
-      by_turn : o.state ≡ w.state → o.pending ≡ with_log p.version p.plan p.log p.is_torn → TurnsIdle o.pending q → PlannedAt ours alone w opening.options d'
+      by_turn : o.state ≡ w.state → o.pending ≡ with_log p.version p.plan p.log p.is_torn → TurnsIdle o.pending q → PlannedAt ours alone opening.named w opening.options d'
       by_turn s is (inl same) = record { version = p.version; plan = p.plan; log = p.log; is_torn = p.is_torn; stands = stands_filed w p.version p.plan p.log p.is_torn p.is_torn m d' far near named (subst (λ (x : SyncState). Holds d'.files x (with_log p.version p.plan p.log p.is_torn)) s (subst (λ (x : Pending). Holds d'.files o.state x) (same ∙ is) now)) p.stands }
       by_turn s is (inr k) = absurd (subst IsIdle is k.0)
 
-  filed_done : (o : Opened) (q : Pending) (m d' : Device) → TurnsIdle o.pending q → Holds m.files o.state o.pending → d'.far ≡ m.far → d'.near ≡ m.near → d'.named ≡ m.named → Holds d'.files o.state q → (w : World) → DoneAt ours alone w opening.options m → DoneAt ours alone w opening.options d'
+  filed_done : (o : Opened) (q : Pending) (m d' : Device) → TurnsIdle o.pending q → Holds m.files o.state o.pending → d'.far ≡ m.far → d'.near ≡ m.near → d'.named ≡ m.named → Holds d'.files o.state q → (w : World) → DoneAt ours alone opening.named w opening.options m → DoneAt ours alone opening.named w opening.options d'
   filed_done o q m d' t held far near named now w x =
       let e = book_known m.files o.state x.state o.pending x.pending held x.files in
       record { state = x.state; pending = q; idle = idle_kept o.pending q t (subst IsIdle (sym e.1) x.idle); files = subst (λ (s : SyncState). Holds d'.files s q) e.0 now; marks = x.marks; alike = alike_filed ours alone w opening.options x.marks m d' x.state far near named x.alike }
@@ -236,9 +236,9 @@ module _ {ours : List ℕ → Bool} {alone : Bool} (opening : Opening ours alone
       by_files held u far near named (inl now) = filed_underway o o.pending m d' (inl refl) held far near named now u
       by_files held u far near named (inr now) = filed_underway o Missing m d' (inr (none, tt)) held far near named now u
 
-  pub stores_kept : (opened : Option Opened) (d m d' : Device) → IsRead opened → Arrives ours alone d m → OfBook (λ p. Turns p Missing) opened m d' → alone ≡ true → (d'.far ≡ d.far) × (d'.near ≡ d.near)
-  stores_kept None d m d' read a t e = absurd read
-  stores_kept (Some o) d m d' read a t e = let same = a.nobody e in (t.far ∙ ap (λ (x : Device). x.far) same, t.near ∙ ap (λ (x : Device). x.near) same)
+  pub stores_kept : (opened : Option Opened) (d m d' : Device) → IsRead opened → Arrives ours alone d m → OfBook (λ p. Turns p Missing) opened m d' → (d'.named ≡ d.named) × (alone ≡ true → (d'.far ≡ d.far) × (d'.near ≡ d.near))
+  stores_kept None d m d' read a t = absurd read
+  stores_kept (Some o) d m d' read a t = (t.named ∙ ap (λ (x : Device). x.named) a.now, λ e. let same = a.nobody e in (t.far ∙ ap (λ (x : Device). x.far) same, t.near ∙ ap (λ (x : Device). x.near) same))
 
   pub none_known : (opened : Option Opened) (d : Device) → HasNone opening opened d → ReadUnderway opening opened d
   none_known opened d k = record { underway = inl k.unplanned; held = k.held }
@@ -255,7 +255,7 @@ module _ {ours : List ℕ → Bool} {alone : Bool} (opening : Opening ours alone
         chosen = n.chosen;
         below = n.below;
         grows = rw (t.far, t.near) n.grows;
-        spares = rw t.named n.spares;
+        named = t.named ∙ n.named;
         admitted = λ e. absurd (both_ways false refl e);
       }
 
@@ -264,12 +264,12 @@ module _ {ours : List ℕ → Bool} {alone : Bool} (opening : Opening ours alone
   pub taken_known : (opened : Option Opened) (d : Device) → Resumed opening opened d → ReadUnderway opening opened d
   taken_known opened d k = record { underway = inr (inl k.pending); held = k.held }
 
-  mended_stands : (written : WrittenJournal) (s : SyncState) (w : World) (m d' : Device) → Holds m.files s (Planned written) → d'.far ≡ m.far → d'.near ≡ m.near → d'.named ≡ m.named → Holds d'.files s (mended (Planned written)) → PlannedAt ours alone w opening.options m → (s ≡ w.state) × Stands ours alone w opening.options written.version written.journal.plan written.journal.log false d'
+  mended_stands : (written : WrittenJournal) (s : SyncState) (w : World) (m d' : Device) → Holds m.files s (Planned written) → d'.far ≡ m.far → d'.near ≡ m.near → d'.named ≡ m.named → Holds d'.files s (mended (Planned written)) → PlannedAt ours alone opening.named w opening.options m → (s ≡ w.state) × Stands ours alone opening.named w opening.options written.version written.journal.plan written.journal.log false d'
   mended_stands written s w m d' held far near named now p =
       let e = book_known m.files s w.state (Planned written) (with_log p.version p.plan p.log p.is_torn) held (planned_files w m p) in
       let is : written ≡ record { version = p.version; journal = record { plan = p.plan; log = p.log }; is_torn = p.is_torn } = let x = e.1 in cc in
       let files : Holds d'.files w.state (with_log p.version p.plan p.log false) = subst (λ (x : WrittenJournal). Holds d'.files w.state (Planned (record x { is_torn = false }))) is (subst (λ (x : SyncState). Holds d'.files x (Planned (record written { is_torn = false }))) e.0 now) in
-      (e.0, subst (λ (x : WrittenJournal). Stands ours alone w opening.options x.version x.journal.plan x.journal.log false d') (sym is) (stands_filed w p.version p.plan p.log p.is_torn false m d' far near named files p.stands))
+      (e.0, subst (λ (x : WrittenJournal). Stands ours alone opening.named w opening.options x.version x.journal.plan x.journal.log false d') (sym is) (stands_filed w p.version p.plan p.log p.is_torn false m d' far near named files p.stands))
 
   pub untorn : (opened : Option Opened) (d m d' : Device) → HasPlan opened → Arrives ours alone d m → Resumed opening opened d → OfBook (λ p. Turns p (mended p)) opened m d' → BeforeStep opening (turned mended opened) true d'
   untorn None d m d' plan a k t = absurd plan

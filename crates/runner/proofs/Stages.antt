@@ -1,6 +1,6 @@
 -- Where the next step stands on some world since the opening, and what calls make of that.
-use Rattle.std.proofs.Common.{◌≡◌, ◌⊎◌, ◌<◌, inl, inr, ℕ, Bool, true, false, List, [], ◌∷◌, ◌++◌, Option, Some, None, refl, sym, ◌∙◌, subst}
-use Rattle.std.specs.Prelude.{All}
+use Rattle.std.proofs.Common.{◌≡◌, ◌⊎◌, inl, inr, ℕ, Bool, true, false, List, [], ◌∷◌, ◌++◌, Option, Some, None, refl, sym, ◌∙◌, subst}
+use Rattle.std.specs.Prelude.{All, Contains, flat_map}
 use Rattle.std.proofs.lemmas.List.Elements.{All-head}
 use Rattle.mailcore.specs.declared.side.Side.{Side}
 use Rattle.mailcore.specs.declared.side.Direction.{Direction}
@@ -10,7 +10,7 @@ use Rattle.mailcore.specs.Sides.{target}
 use Rattle.rules.specs.declared.plan.Plan.{Plan}
 use Rattle.rules.specs.declared.plan.Step.{Step}
 use Rattle.rules.specs.declared.plan.Step.TheVariants as step
-use Rattle.rules.specs.World.{World, IsInOrder, NamesBelow, store}
+use Rattle.rules.specs.World.{World, NamesBelow}
 use Rattle.sync_state.specs.declared.version.Version.{Version}
 use Rattle.sync_state.specs.declared.journal.Logged.{Logged}
 use Rattle.sync_state.specs.declared.journal.Logged.TheVariants.{Copied, Done}
@@ -28,13 +28,13 @@ use Rattle.outside.specs.Opened.{Opened}
 use Rattle.run_states.specs.Conditions.{Underway}
 use Rattle.run_states.specs.Moments.{HasBegun, Midway, PlannedAt, Stands, boxes_at}
 use Rattle.run_states.specs.Openings.{Grows, Opening}
-use Rattle.run_states.specs.Plans.{IsPlanned, first_uid, names_of}
+use Rattle.run_states.specs.Plans.{first_uid, names_of}
 use Rattle.run_states.proofs.Arrived.{stands_arrives}
 use Rattle.run_states.proofs.Copies.{brought, copy_found, not_absent, not_unfit, sought}
 use Rattle.run_states.proofs.Expunging.{stands_deleted}
 use Rattle.run_states.proofs.Flagging.{clear_made, clear_none, none_made, set_made}
 use Rattle.run_states.proofs.Moves.{IsMoved, begun_named as has_begun_named, midway_arrives, midway_set_aside, moved, stands_named}
-use Rattle.run_states.proofs.Naming.{named_before}
+use Rattle.run_states.proofs.Naming.{named_next}
 use Rattle.run_states.proofs.Plain.{any_whole}
 use Rattle.runner.specs.Going.{DuringStep, AfterCopy, AfterStep, AtMoment, BeforeStep, AfterSearch, CopiesUnder, FoundCopy, StepStart, log_at, next_at, number_at, plan_at, version_at}
 use Rattle.runner.specs.Faults.{RefusedAt}
@@ -78,14 +78,14 @@ module _ {ours : List ℕ → Bool} {alone : Bool} (opening : Opening ours alone
 
   -- ---- what others add
 
-  ready_one : (w : World) (is_taken_up : Bool) (d m : Device) → Arrives ours alone d m → StepStart ours alone w opening.options version plan log is_taken_up d → StepStart ours alone w opening.options version plan log is_taken_up m
+  ready_one : (w : World) (is_taken_up : Bool) (d m : Device) → Arrives ours alone d m → StepStart ours alone opening.named w opening.options version plan log is_taken_up d → StepStart ours alone opening.named w opening.options version plan log is_taken_up m
   ready_one w false d m a at = midway_arrives ours alone w opening.options version plan log false log false d m a at
   ready_one w true d m a at = stands_arrives ours alone w opening.options version plan log false d m a at
 
   pub ready_arrives : (is_taken_up : Bool) (d m : Device) → Arrives ours alone d m → BeforeStep opening opened is_taken_up d → BeforeStep opening opened is_taken_up m
   ready_arrives is_taken_up d m a = moment_map opening opened _ _ (λ w g b at. ready_one w is_taken_up d m a at)
 
-  begun_one : (w : World) (is_made : Bool) (d m : Device) → Arrives ours alone d m → HasBegun ours alone w opening.options version plan log is_made d → HasBegun ours alone w opening.options version plan log is_made m
+  begun_one : (w : World) (is_made : Bool) (d m : Device) → Arrives ours alone d m → HasBegun ours alone opening.named w opening.options version plan log is_made d → HasBegun ours alone opening.named w opening.options version plan log is_made m
   begun_one w is_made d m a (inl k) = inl (k.0, midway_arrives ours alone w opening.options version plan log false log k.0 d m a k.1, k.2)
   begun_one w is_made d m a (inr k) = inr (k.0, midway_arrives ours alone w opening.options version plan log false (log ++ k.0 ∷ []) false d m a k.1)
 
@@ -100,20 +100,20 @@ module _ {ours : List ℕ → Bool} {alone : Bool} (opening : Opening ours alone
 
   -- ---- each leaves a run underway
 
-  pub planned : (P : World → Type 0) (d : Device) → ((w : World) → P w → PlannedAt ours alone w opening.options d) → AtMoment opening opened P → Underway opening d
+  pub planned : (P : World → Type 0) (d : Device) → ((w : World) → P w → PlannedAt ours alone opening.named w opening.options d) → AtMoment opening opened P → Underway opening d
   planned P d f k = let s = k.since in inr (inl (record { world = s.world; grows = s.grows; admitted = s.admitted; below = s.below; within = s.within; holds = f s.world s.holds }))
 
-  stands_at : (w : World) (d : Device) → Stands ours alone w opening.options version plan log false d → PlannedAt ours alone w opening.options d
+  stands_at : (w : World) (d : Device) → Stands ours alone opening.named w opening.options version plan log false d → PlannedAt ours alone opening.named w opening.options d
   stands_at w d s = record { version = version; plan = plan; log = log; is_torn = false; stands = s }
 
-  pub stands_of : (w : World) (is_taken_up : Bool) (d : Device) → StepStart ours alone w opening.options version plan log is_taken_up d → Stands ours alone w opening.options version plan log false d
+  pub stands_of : (w : World) (is_taken_up : Bool) (d : Device) → StepStart ours alone opening.named w opening.options version plan log is_taken_up d → Stands ours alone opening.named w opening.options version plan log false d
   stands_of w false d at = inl (false, at)
   stands_of w true d at = at
 
   pub ready_underway : (is_taken_up : Bool) (d : Device) → BeforeStep opening opened is_taken_up d → Underway opening d
   ready_underway is_taken_up d = planned _ d (λ w at. stands_at w d (stands_of w is_taken_up d at))
 
-  begun_stands : (w : World) (is_made : Bool) (d : Device) → HasBegun ours alone w opening.options version plan log is_made d → Stands ours alone w opening.options version plan log false d
+  begun_stands : (w : World) (is_made : Bool) (d : Device) → HasBegun ours alone opening.named w opening.options version plan log is_made d → Stands ours alone opening.named w opening.options version plan log false d
   begun_stands w is_made d (inl k) = inl (k.0, k.1)
   begun_stands w is_made d (inr k) = inr k
 
@@ -128,7 +128,7 @@ module _ {ours : List ℕ → Bool} {alone : Bool} (opening : Opening ours alone
 
   -- ---- and in each the files hold the plan, of which it is the next step
 
-  stands_held : (w : World) (d : Device) → Stands ours alone w opening.options version plan log false d → RefusedAt (number_at opened) d
+  stands_held : (w : World) (d : Device) → Stands ours alone opening.named w opening.options version plan log false d → RefusedAt (number_at opened) d
   stands_held w d (inl k) = let x = k.1 in record { state = w.state; written = record { version = version; journal = record { plan = plan; log = log }; is_torn = false }; held = x.files; next = refl }
   stands_held w d (inr k) = let x = k.1 in record { state = w.state; written = record { version = version; journal = record { plan = plan; log = log }; is_torn = false }; held = x.files; next = refl }
 
@@ -155,7 +155,7 @@ module _ {ours : List ℕ → Bool} {alone : Bool} (opening : Opening ours alone
   -- ---- copies
 
   pub sought_told : (dir : Direction) (mark : List ℕ) → CopiesUnder opened dir mark → (d m : Device) → Arrives ours alone d m → BeforeStep opening opened true d → (found : Option ℕ) → found ≡ marked_from mark (first_uid plan (target dir)) (box m (target dir)) → AfterSearch opening opened found m
-  sought_told dir mark next d m a r found told = moment_map opening opened _ _ (λ w g b at. sought ours alone w opening.options version plan log g.in_order dir next.uid next.flags mark next.is m at found told) (ready_arrives true d m a r)
+  sought_told dir mark next d m a r found told = moment_map opening opened _ _ (λ w g b at. sought ours alone opening.named w opening.options version plan log g.in_order dir next.uid next.flags mark next.is m at found told) (ready_arrives true d m a r)
 
   pub sought_none : (d : Device) → AfterSearch opening opened None d → BeforeStep opening opened false d
   sought_none d k = k
@@ -164,27 +164,27 @@ module _ {ours : List ℕ → Bool} {alone : Bool} (opening : Opening ours alone
   sought_some copy d k = k
 
   pub copy_told : (dir : Direction) (mark : List ℕ) → CopiesUnder opened dir mark → (d m : Device) → Arrives ours alone d m → AfterCopy opening opened d → (found : Option ℕ) → found ≡ marked_from mark (first_uid plan (target dir)) (box m (target dir)) → FoundCopy opening opened found m
-  copy_told dir mark next d m a r found told = by_found found (λ w g at. told ∙ copy_found ours alone w opening.options version plan log g.in_order dir next.uid next.flags mark next.is false at.0 m at.1) (copied_arrives d m a r)
+  copy_told dir mark next d m a r found told = by_found found (λ w g at. told ∙ copy_found ours alone opening.named w opening.options version plan log g.in_order dir next.uid next.flags mark next.is false at.0 m at.1) (copied_arrives d m a r)
     where
-      by_found : (found : Option ℕ) → ((w : World) → Grows alone opening.world w → (at : (copy : ℕ) × Midway ours alone w opening.options version plan log false (log ++ Copied copy ∷ []) false m) → found ≡ Some at.0) → AfterCopy opening opened m → FoundCopy opening opened found m
+      by_found : (found : Option ℕ) → ((w : World) → Grows alone opening.world w → (at : (copy : ℕ) × Midway ours alone opening.named w opening.options version plan log false (log ++ Copied copy ∷ []) false m) → found ≡ Some at.0) → AfterCopy opening opened m → FoundCopy opening opened found m
       by_found None f k = let s = k.since in let e = f s.world s.grows s.holds in cc
-      by_found (Some copy) f k = moment_map opening opened _ _ (λ w g b at. let e = f w g at in let same : at.0 ≡ copy = cc in subst (λ (x : ℕ). Midway ours alone w opening.options version plan log false (log ++ Copied x ∷ []) false m) same at.1) k
+      by_found (Some copy) f k = moment_map opening opened _ _ (λ w g b at. let e = f w g at in let same : at.0 ≡ copy = cc in subst (λ (x : ℕ). Midway ours alone opening.named w opening.options version plan log false (log ++ Copied x ∷ []) false m) same at.1) k
 
   module _ (dir : Direction) (uid flags : ℕ) (mark : List ℕ) (is : next_at opened ≡ Some (step.New dir uid flags mark)) where
-    pub carry_made : (told : Option ℕ) (d m d' : Device) → Arrives ours alone d m → BeforeStep opening opened false d → Carry dir uid flags mark (Made told) m d' → AtMoment opening opened (λ w. (copy : ℕ) × Midway ours alone w opening.options version plan log false (log ++ Copied copy ∷ []) false d' × Tells told copy)
-    carry_made told d m d' a r c = moment_map opening opened _ _ (λ w g b at. brought ours alone w opening.options version plan log g.in_order dir uid flags mark is false told m d' at c) (ready_arrives false d m a r)
+    pub carry_made : (told : Option ℕ) (d m d' : Device) → Arrives ours alone d m → BeforeStep opening opened false d → Carry dir uid flags mark (Made told) m d' → AtMoment opening opened (λ w. (copy : ℕ) × Midway ours alone opening.named w opening.options version plan log false (log ++ Copied copy ∷ []) false d' × Tells told copy)
+    carry_made told d m d' a r c = moment_map opening opened _ _ (λ w g b at. brought ours alone opening.named w opening.options version plan log g.in_order dir uid flags mark is false told m d' at c) (ready_arrives false d m a r)
 
     pub carry_untold : (told : Option ℕ) (d m d' : Device) → Arrives ours alone d m → BeforeStep opening opened false d → Carry dir uid flags mark (Made told) m d' → AfterCopy opening opened d'
     carry_untold told d m d' a r c = moment_map opening opened _ _ (λ w g b at. (at.0, at.1)) (carry_made told d m d' a r c)
 
     pub carry_told : (copy : ℕ) (d m d' : Device) → Arrives ours alone d m → BeforeStep opening opened false d → Carry dir uid flags mark (Made (Some copy)) m d' → AfterStep opening opened (Copied copy) d'
-    carry_told copy d m d' a r c = moment_map opening opened _ _ (λ w g b at. subst (λ (x : ℕ). Midway ours alone w opening.options version plan log false (log ++ Copied x ∷ []) false d') (sym at.2) at.1) (carry_made (Some copy) d m d' a r c)
+    carry_told copy d m d' a r c = moment_map opening opened _ _ (λ w g b at. subst (λ (x : ℕ). Midway ours alone opening.named w opening.options version plan log false (log ++ Copied x ∷ []) false d') (sym at.2) at.1) (carry_made (Some copy) d m d' a r c)
 
     pub never_absent : (d m d' : Device) → Arrives ours alone d m → BeforeStep opening opened false d → Carry dir uid flags mark Absent m d' → ⊥
-    never_absent d m d' a r c = let k = ready_arrives false d m a r in let s = k.since in not_absent ours alone s.world opening.options version plan log s.grows.in_order dir uid flags mark is false m s.holds c.1
+    never_absent d m d' a r c = let k = ready_arrives false d m a r in let s = k.since in not_absent ours alone opening.named s.world opening.options version plan log s.grows.in_order dir uid flags mark is false m s.holds c.1
 
     pub never_unfit : (d m d' : Device) → Arrives ours alone d m → BeforeStep opening opened false d → Carry dir uid flags mark Unfit m d' → ⊥
-    never_unfit d m d' a r c = let k = ready_arrives false d m a r in let s = k.since in not_unfit ours alone s.world opening.options version plan log s.grows.in_order dir uid flags mark is false m s.holds c.1
+    never_unfit d m d' a r c = let k = ready_arrives false d m a r in let s = k.since in not_unfit ours alone opening.named s.world opening.options version plan log s.grows.in_order dir uid flags mark is false m s.holds c.1
 
     set_aside : (d m d' : Device) → Arrives ours alone d m → BeforeStep opening opened false d → SetsAside (target dir) m d' → BeforeStep opening opened false d'
     set_aside d m d' a r c = moment_map opening opened _ _ (λ w g b at. midway_set_aside ours alone w opening.options version plan (target dir) log false log false m d' c at) (ready_arrives false d m a r)
@@ -204,28 +204,24 @@ module _ {ours : List ℕ → Bool} {alone : Bool} (opening : Opening ours alone
 
   -- ---- a call that has named its message, and done nothing
 
-  planned_by : (w : World) (d : Device) → Stands ours alone w opening.options version plan log false d → IsPlanned ours w opening.options plan
-  planned_by w d (inl k) = let at = k.1 in at.planned
-  planned_by w d (inr k) = let at = k.1 in at.planned
-
   module _ (s : Step) (side : Side) (uid : ℕ) (is : next_at opened ≡ Some s) (names : names_of s ≡ record { side = side; uid = uid } ∷ []) where
-    before_it : (w : World) → IsInOrder w → NamesBelow w → IsPlanned ours w opening.options plan → uid < (store w side).next
-    before_it w order below p = All-head (λ n. n.uid < (store w n.side).next) (record { side = side; uid = uid }) [] (subst (λ (ns : List Named). All (λ n. n.uid < (store w n.side).next) ns) names (named_before w opening.options plan log s order below p is))
+    of_step : Contains (flat_map names_of plan.steps) (record { side = side; uid = uid })
+    of_step = All-head (λ n. Contains (flat_map names_of plan.steps) n) (record { side = side; uid = uid }) [] (subst (λ (ns : List Named). All (λ n. Contains (flat_map names_of plan.steps) n) ns) names (named_next plan.steps log s is))
 
     pub ready_named : (d m d' : Device) → Arrives ours alone d m → BeforeStep opening opened true d → Names side uid m d' → BeforeStep opening opened true d'
-    ready_named d m d' a r t = moment_map opening opened _ _ (λ w g b at. stands_named ours alone w opening.options version plan side uid log false m d' (before_it w g.in_order b (planned_by w m at)) t at) (ready_arrives true d m a r)
+    ready_named d m d' a r t = moment_map opening opened _ _ (λ w g b at. stands_named ours alone w opening.options version plan side uid log false m d' of_step t at) (ready_arrives true d m a r)
 
     pub begun_named : (is_made : Bool) (d m d' : Device) → Arrives ours alone d m → DuringStep opening opened is_made d → Names side uid m d' → DuringStep opening opened is_made d'
-    begun_named is_made d m d' a r t = moment_map opening opened _ _ (λ w g b at. has_begun_named ours alone w opening.options version plan side uid log is_made m d' (before_it w g.in_order b (planned_by w m (begun_stands w is_made m at))) t at) (begun_arrives is_made d m a r)
+    begun_named is_made d m d' a r t = moment_map opening opened _ _ (λ w g b at. has_begun_named ours alone w opening.options version plan side uid log is_made m d' of_step t at) (begun_arrives is_made d m a r)
 
   -- ---- a call that is a whole step
 
   pub whole_made : (s : Step) → next_at opened ≡ Some s → Rattle.law_steps.specs.Steps.makes_copy s ≡ false → (d m d' : Device) → Arrives ours alone d m → BeforeStep opening opened true d → IsMoved (names_of s) m d' (step_after (boxes_at m) s None) → AfterStep opening opened Done d'
-  whole_made s is plain d m d' a r c = moment_map opening opened _ _ (λ w g b at. any_whole ours alone w opening.options version plan log s is plain g.in_order b false m d' at c) (ready_arrives true d m a r)
+  whole_made s is plain d m d' a r c = moment_map opening opened _ _ (λ w g b at. any_whole ours alone opening.named w opening.options version plan log s is plain false m d' at c) (ready_arrives true d m a r)
 
   -- a message whose expunge is next is marked as deleted, if it is there
   pub ready_deleted : (side : Side) (uid : ℕ) → next_at opened ≡ Some (step.Expunge side uid) → (d : Device) → BeforeStep opening opened true d → All (λ m. m.uid ≡ uid → has m.flags DELETED ≡ true) (messages_in (boxes_at d) side)
-  ready_deleted side uid is d k = let s = k.since in stands_deleted ours alone s.world opening.options version plan log s.grows.in_order side uid is false d s.holds
+  ready_deleted side uid is d k = let s = k.since in stands_deleted ours alone opening.named s.world opening.options version plan log s.grows.in_order side uid is false d s.holds
 
   pub expunge_made : (side : Side) (uid : ℕ) → next_at opened ≡ Some (step.Expunge side uid) → (d m d' : Device) → Arrives ours alone d m → BeforeStep opening opened true d → Turns side uid (removed uid) m d' → AfterStep opening opened Done d'
   expunge_made side uid is d m d' a r t = whole_made (step.Expunge side uid) is refl d m d' a r (removed_is side uid m d' (ready_deleted side uid is m (ready_arrives true d m a r)) t)
@@ -234,13 +230,13 @@ module _ {ours : List ℕ → Bool} {alone : Bool} (opening : Opening ours alone
 
   module _ (dir : Direction) (far near set cleared : ℕ) (is : next_at opened ≡ Some (step.Flags dir far near set cleared)) where
     pub set_called : (is_made : Bool) (d m d' : Device) → Arrives ours alone d m → BeforeStep opening opened true d → Turns (target dir) (changed_uid dir far near) (flags_added (changed_uid dir far near) set) m d' → DuringStep opening opened is_made d'
-    set_called is_made d m d' a r t = moment_map opening opened _ _ (λ w g b at. set_made ours alone w opening.options version plan log dir far near set cleared is g.in_order b is_made m d' at (moved (target dir) (changed_uid dir far near) _ m d' t)) (ready_arrives true d m a r)
+    set_called is_made d m d' a r t = moment_map opening opened _ _ (λ w g b at. set_made ours alone opening.named w opening.options version plan log dir far near set cleared is is_made m d' at (moved (target dir) (changed_uid dir far near) _ m d' t)) (ready_arrives true d m a r)
 
     pub set_none : (d : Device) → BeforeStep opening opened true d → DuringStep opening opened false d
-    set_none d r = moment_map opening opened _ _ (λ w g b at. none_made ours alone w opening.options version plan log dir far near set cleared is d at) r
+    set_none d r = moment_map opening opened _ _ (λ w g b at. none_made ours alone opening.named w opening.options version plan log dir far near set cleared is d at) r
 
     pub clear_called : (is_made : Bool) → (is_made ≡ false → set ≡ 0) → (d m d' : Device) → Arrives ours alone d m → DuringStep opening opened is_made d → Turns (target dir) (changed_uid dir far near) (flags_removed (changed_uid dir far near) cleared) m d' → AfterStep opening opened Done d'
-    clear_called is_made f d m d' a r t = moment_map opening opened _ _ (λ w g b at. clear_made ours alone w opening.options version plan log dir far near set cleared is g.in_order b is_made f m d' at (moved (target dir) (changed_uid dir far near) _ m d' t)) (begun_arrives is_made d m a r)
+    clear_called is_made f d m d' a r t = moment_map opening opened _ _ (λ w g b at. clear_made ours alone opening.named w opening.options version plan log dir far near set cleared is is_made f m d' at (moved (target dir) (changed_uid dir far near) _ m d' t)) (begun_arrives is_made d m a r)
 
     pub clear_uncalled : cleared ≡ 0 → (d : Device) → DuringStep opening opened true d → AfterStep opening opened Done d
-    clear_uncalled none d r = moment_map opening opened _ _ (λ w g b at. clear_none ours alone w opening.options version plan log dir far near set cleared is none d at) r
+    clear_uncalled none d r = moment_map opening opened _ _ (λ w g b at. clear_none ours alone opening.named w opening.options version plan log dir far near set cleared is none d at) r

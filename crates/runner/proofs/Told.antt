@@ -27,9 +27,10 @@ use Rattle.outside.specs.Devices.{Device}
 use Rattle.outside.specs.Opened.{AreCommitted, IsHeld, Opened, journal_in}
 use Rattle.run_states.specs.Endings.{EndedUnder}
 use Rattle.run_states.specs.Openings.{Opening}
-use Rattle.run_states.specs.Plans.{IsPlanned}
+use Rattle.run_states.specs.Plans.{IsPlanned, NamedBy}
 use Rattle.run_states.proofs.Ends.{ended, whole_at}
 use Rattle.run_states.proofs.Growth.{since_map}
+use Rattle.run_states.proofs.Spared.{named_by_plan}
 use Rattle.runner.specs.declared.fault.RunFault.{RunFault}
 use Rattle.runner.specs.declared.pass.Pass.{Pass}
 use Rattle.runner.specs.declared.pass.Pass.TheVariants.{Already}
@@ -139,6 +140,12 @@ module _ {ours : List ℕ → Bool} {alone : Bool} (opening : Opening ours alone
       let whole = whole_at ours alone w opening.options (version_at opened) (plan_at opened) (log_at opened) none false m stands in
       record { ended = ended ours alone w opening.options (version_at opened) (plan_at opened) (log_at opened) none m d' grows.in_order stands does; planned = whole.planned; fit = whole.fit }) r.since
 
+  -- the plan that was carried out is the one that was pending
+  pub named_last : (old now : Option Opened) (results : List Logged) (d : Device) → HasLogged old now results → EndsBy opening (plan_at now) (log_at now) d → NamedBy opening.named (plan_at old).steps d.named
+  named_last old now results d h ends =
+      let last = ends.holds in
+      subst (λ (p : Plan). NamedBy opening.named p.steps d.named) h.plan (named_by_plan ours ends.world opening.options (plan_at now) opening.named d.named last.planned last.ended.alike.named)
+
   told_last : (old now : Option Opened) (ps : List Performed) (d : Device) → HasLogged old now (logs_of ps) → steps_of ps ≡ drop (length (log_at old)) (plan_at old).steps → EndsBy opening (plan_at now) (log_at now) d
       → AreStepsOf opening (plan_at old) (take (length (log_at old)) (plan_at old).steps) ps d
   told_last old now ps d h steps ends =
@@ -149,7 +156,8 @@ module _ {ours : List ℕ → Bool} {alone : Bool} (opening : Opening ours alone
       record {
         steps = sym (take-append-drop n (plan_at old).steps) ∙ ap (λ (l : List Step). before ++ l) (sym steps);
         copies = subst (λ (l : List Step). Fit l (results_of (logs_of ps))) (sym steps) (fit_rest (plan_at old).steps (log_at old) (logs_of ps) logged);
-        over = since_map opening _ _ (λ w grows k. (subst (λ (p : Plan). EndedUnder ours alone w opening.options (marks_of p.steps) d) h.plan k.ended, subst (λ (p : Plan). IsPlanned ours w opening.options p) h.plan k.planned)) ends;
+        over = since_map opening _ _ (λ w grows k. (subst (λ (p : Plan). EndedUnder ours alone opening.named w opening.options (marks_of p.steps) d) h.plan k.ended, subst (λ (p : Plan). IsPlanned ours w opening.options p) h.plan k.planned)) ends;
+        named = named_last old now (logs_of ps) d h ends;
       }
 
   pub told_rest : (old now : Option Opened) (ps : List Performed) (d : Device) → HasLogged old now (logs_of ps) → steps_of ps ≡ drop (length (log_at old)) (plan_at old).steps → EndsBy opening (plan_at now) (log_at now) d

@@ -61,7 +61,7 @@ pub validities_next : (a b c : Device) → KeepsValidities a b → KeepsValiditi
 validities_next a b c p q = record { far = q.far ∙ p.far; near = q.near ∙ p.near }
 
 pub kept_next : (alone : Bool) (a b c : Device) → IsKept alone a b → IsKept alone b c → IsKept alone a c
-kept_next alone a b c p q = record { files = q.files ∙ p.files; validities = validities_next a b c p.validities q.validities; same = λ e. q.same e ∙ p.same e }
+kept_next alone a b c p q = record { files = q.files ∙ p.files; named = q.named ∙ p.named; validities = validities_next a b c p.validities q.validities; same = λ e. q.same e ∙ p.same e }
 
 box_kept : (side : Side) (d d' : Device) → KeepsValidities d d' → (box d' side).validity ≡ (box d side).validity
 box_kept Far d d' k = k.far
@@ -84,6 +84,7 @@ module _ (ours : List ℕ → Bool) (alone : Bool) where
   pub kept_arrives : (d m : Device) → Arrives ours alone d m → IsKept alone d m
   kept_arrives d m a = record {
     files = ap (λ (x : Device). x.files) a.now;
+    named = ap (λ (x : Device). x.named) a.now;
     validities = record { far = ap (λ (x : Device). x.far.validity) a.now; near = ap (λ (x : Device). x.near.store.validity) a.now };
     same = a.nobody;
   }

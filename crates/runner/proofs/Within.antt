@@ -62,15 +62,15 @@ module _ {ours : List ℕ → Bool} {alone : Bool} (opening : Opening ours alone
   moment_within : (P : World → Type 0) → ((w : World) → P w → IsPlanned ours w opening.options (plan_at opened)) → AtMoment opening opened P → IsWithinStep opening.options.keywords s
   moment_within P f k = let n = k.since in step_within opening.options.keywords ours n.world opening.options (plan_at opened) (log_at opened) s n.within (f n.world n.holds) next
 
-  stands_planned : (w : World) (d : Device) → Stands ours alone w opening.options (version_at opened) (plan_at opened) (log_at opened) false d → IsPlanned ours w opening.options (plan_at opened)
+  stands_planned : (w : World) (d : Device) → Stands ours alone opening.named w opening.options (version_at opened) (plan_at opened) (log_at opened) false d → IsPlanned ours w opening.options (plan_at opened)
   stands_planned w d (inl k) = let m = k.1 in m.planned
   stands_planned w d (inr k) = let m = k.1 in m.planned
 
-  ready_planned : (is_taken_up : Bool) (w : World) (d : Device) → StepStart ours alone w opening.options (version_at opened) (plan_at opened) (log_at opened) is_taken_up d → IsPlanned ours w opening.options (plan_at opened)
+  ready_planned : (is_taken_up : Bool) (w : World) (d : Device) → StepStart ours alone opening.named w opening.options (version_at opened) (plan_at opened) (log_at opened) is_taken_up d → IsPlanned ours w opening.options (plan_at opened)
   ready_planned false w d m = m.planned
   ready_planned true w d k = stands_planned w d k
 
-  begun_planned : (is_made : Bool) (w : World) (d : Device) → HasBegun ours alone w opening.options (version_at opened) (plan_at opened) (log_at opened) is_made d → IsPlanned ours w opening.options (plan_at opened)
+  begun_planned : (is_made : Bool) (w : World) (d : Device) → HasBegun ours alone opening.named w opening.options (version_at opened) (plan_at opened) (log_at opened) is_made d → IsPlanned ours w opening.options (plan_at opened)
   begun_planned is_made w d (inl k) = let m = k.1 in m.planned
   begun_planned is_made w d (inr k) = let m = k.1 in m.planned
 

@@ -134,7 +134,7 @@ made_in (Finished performed) = made performed.items
 
 -- the outcome, and no journal
 abbrev pub RunEnd : {ours : List ℕ → Bool} {alone : Bool} → Opening ours alone → Device → Type 0
-RunEnd {ours} {alone} opening d = Since opening (λ w. EndedAt ours alone w opening.options d)
+RunEnd {ours} {alone} opening d = Since opening (λ w. EndedAt ours alone opening.named w opening.options d)
 
 -- what a pass for this run reaches
 pub record PassEnd {ours : List ℕ → Bool} {alone : Bool} (opening : Opening ours alone) (run : ℕ) (d : Device) : Type 0 where

@@ -17,7 +17,7 @@ use Rattle.outside.specs.Devices.{Device}
 use Rattle.outside.specs.Opened.{IsHeld, Opened, state_of}
 use Rattle.run_states.specs.Conditions.{IsPending, Underway}
 use Rattle.run_states.specs.Moments.{Listed}
-use Rattle.run_states.specs.Openings.{Grows, IsIdle, Opening, Since, SparesLater, Unplanned, world_at}
+use Rattle.run_states.specs.Openings.{Grows, IsIdle, Opening, Since, Unplanned, world_at}
 use Rattle.run_states.specs.Plans.{IsPlanned}
 
 -- a plan of the next run is pending
@@ -55,14 +55,14 @@ pub record HasNone {ours : List ℕ → Bool} {alone : Bool} (opening : Opening 
   pub unplanned : Unplanned opening d
   pub held : IsHeld opened d
 
--- there is no journal; once the waiting files are admitted, none waits where nobody adds any
+-- there is no journal, and no call has named a message; once the waiting files are admitted, none waits where nobody adds any
 pub record IsClear {ours : List ℕ → Bool} {alone : Bool} (opening : Opening ours alone) (opened : Option Opened) (is_admitted : Bool) (d : Device) : Type 0 where
   pub state : state_of opened ≡ Some opening.world.state
   pub files : Holds d.files opening.world.state Missing
   pub chosen : opening.called ≡ opening.options
   pub below : NamesBelow opening.world
   pub grows : Grows alone opening.world (world_at d opening.world.state)
-  pub spares : SparesLater opening.world d
+  pub named : d.named ≡ opening.named
   pub admitted : is_admitted ≡ true → alone ≡ true → d.near.waiting ≡ []
 
 -- the far mailbox was listed, each flag by its name; others may have added since
@@ -88,9 +88,9 @@ pub record AreShown (w : World) (far near : Listing) : Type 0 where
 
 pub record BothListed {ours : List ℕ → Bool} {alone : Bool} (opening : Opening ours alone) (opened : Option Opened) (far near : Listing) (d : Device) : Type 0 where
   pub clear : IsClear opening opened true d
-  pub since : Since opening (λ w. AreShown w far near × Listed ours alone w d)
+  pub since : Since opening (λ w. AreShown w far near × Listed ours alone opening.named w d)
 
 -- the plan of that world is made
 pub record IsMade {ours : List ℕ → Bool} {alone : Bool} (opening : Opening ours alone) (opened : Option Opened) (plan : Plan) (d : Device) : Type 0 where
   pub clear : IsClear opening opened true d
-  pub since : Since opening (λ w. IsPlanned ours w opening.options plan × Listed ours alone w d)
+  pub since : Since opening (λ w. IsPlanned ours w opening.options plan × Listed ours alone opening.named w d)

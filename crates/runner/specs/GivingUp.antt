@@ -3,7 +3,6 @@ use Rattle.std.specs.Prelude.{◌≡◌, ◌≤◌, ◌⊎◌, ◌+◌, ◌++◌
 use Rattle.std.specs.Option.{option_map}
 use Rattle.mailcore.specs.declared.listing.Item.{Item}
 use Rattle.mailcore.specs.declared.mailbox.Message.{Message}
-use Rattle.mailcore.specs.declared.side.Side.TheVariants.{Far}
 use Rattle.rules.specs.declared.plan.Plan.{Plan}
 use Rattle.rules.specs.declared.plan.Step.{Step}
 use Rattle.rules.specs.declared.state.SyncState.{SyncState}
@@ -15,6 +14,7 @@ use Rattle.book.specs.declared.book.Pending.TheVariants.{Missing, Planned}
 use Rattle.book.specs.Books.{Holds}
 use Rattle.book.specs.BookLogs.{with_logged}
 use Rattle.book.specs.GivingUp.{GivesUp}
+use Rattle.book.specs.LostSides.{Lost}
 use Rattle.outside.specs.Calls.{Seen}
 use Rattle.outside.specs.Devices.{Device}
 use Rattle.outside.specs.GoingOn.{Continues}
@@ -24,7 +24,7 @@ use Rattle.run_states.specs.Plans.{next_of}
 use Rattle.runner.specs.declared.fault.RunFault.{RunFault}
 use Rattle.runner.specs.Faults.{Reasons, TellsUnread, because, or_refused, or_unread}
 use Rattle.runner.specs.Finding.{FindsSame, copy_at}
-use Rattle.runner.specs.HalfEntries.{lost_among, lost_at, removes_some}
+use Rattle.runner.specs.HalfEntries.{lost_at, lost_between, removes_some}
 use Rattle.runner.specs.Parts.{PartOr, Unstepped}
 use Rattle.runner.specs.Validities.{TellsChanged}
 
@@ -71,8 +71,8 @@ pub record StillPending (opened : Option Opened) (d : Device) : Type 0 where
   pub goes_on : Continues journal written.journal
   pub held : Holds d.files state (Planned written)
 
--- the state that is left of the plan that was read, with these far messages lost, and this journal
-pub record HoldsLeftOf (lost : List ℕ) (opened : Option Opened) (pending : Pending) (d : Device) : Type 0 where
+-- the state that is left of the plan that was read, where these entries lose a side, and this journal
+pub record HoldsLeftOf (lost : Lost) (opened : Option Opened) (pending : Pending) (d : Device) : Type 0 where
   pub before : SyncState
   pub journal : Journal
   pub state : SyncState
@@ -81,8 +81,8 @@ pub record HoldsLeftOf (lost : List ℕ) (opened : Option Opened) (pending : Pen
   pub left : GivesUp journal lost before state
   pub held : Holds d.files state pending
 
--- the same, with those far messages lost that the plan has removed, or found removed, and whose near ones were undeleted, by both mailboxes as
--- they were looked at
+-- the same, where those entries lose a side whose message there the plan has removed, or found removed, and whose other one was undeleted, by
+-- both mailboxes as they were looked at
 pub record HoldsLeft (ours : List ℕ → Bool) (alone : Bool) (opened : Option Opened) (pending : Pending) (d d' : Device) : Type 0 where
   pub before : SyncState
   pub journal : Journal
@@ -95,8 +95,8 @@ pub record HoldsLeft (ours : List ℕ → Bool) (alone : Bool) (opened : Option 
   pub held : Holds d'.files state pending
 
 -- The state that is left of this plan, of whose next step a copy was sought: it is logged if it was there. The device on which it was sought
--- has the same copies as this one. Lost are the far messages that the plan has removed, or found removed, and whose near ones were undeleted, by
--- both mailboxes as they were looked at.
+-- has the same copies as this one. Those entries lose a side whose message there the plan has removed, or found removed, and whose other one was
+-- undeleted, by both mailboxes as they were looked at.
 pub record IsGivenUp (ours : List ℕ → Bool) (alone : Bool) (before : SyncState) (j : Journal) (d d' : Device) (pending : Pending) : Type 0 where
   pub sought : Device
   pub same : FindsSame ours d sought
@@ -145,14 +145,14 @@ pub record NotesCopy (ours : List ℕ → Bool) (opened now : Option Opened) (d 
   pub state : state_of now ≡ state_of opened
   pub journal : journal_of now ≡ option_map (λ j. with_found j (next_copy j sought)) (journal_of opened)
 
--- ---- which far messages are lost
+-- ---- which entries lose a side
 
 -- by what was read, and by these listings
-abbrev pub LosesListed : Option Opened → (far near : List Item) → (lost : List ℕ) → Type 0
-LosesListed opened far near lost = (s : SyncState) (j : Journal) → state_of opened ≡ Some s → journal_of opened ≡ Some j → lost ≡ lost_among j Far far near s.entries
+abbrev pub LosesListed : Option Opened → (far near : List Item) → (lost : Lost) → Type 0
+LosesListed opened far near lost = (s : SyncState) (j : Journal) → state_of opened ≡ Some s → journal_of opened ≡ Some j → lost ≡ lost_between j far near s.entries
 
 -- by what was read, and by both mailboxes as they were looked at
-pub record LosesBy (ours : List ℕ → Bool) (alone : Bool) (opened : Option Opened) (d : Device) (lost : List ℕ) : Type 0 where
+pub record LosesBy (ours : List ℕ → Bool) (alone : Bool) (opened : Option Opened) (d : Device) (lost : Lost) : Type 0 where
   pub looked : Device
   pub boxes : KeepsBoxes ours alone d looked
   pub lost_is : (s : SyncState) (j : Journal) → state_of opened ≡ Some s → journal_of opened ≡ Some j → lost ≡ lost_at j s looked

@@ -16,7 +16,7 @@ use Rattle.sync_state.specs.declared.journal.Logged.{Logged}
 use Rattle.sync_state.specs.declared.journal.Logged.TheVariants.{Copied, Done, Void}
 use Rattle.book.specs.declared.book.Pending.{Pending}
 use Rattle.book.specs.declared.book.Pending.TheVariants.{Missing, Useless, Planned}
-use Rattle.outside.specs.Devices.{Device}
+use Rattle.outside.specs.Devices.{Device, Named}
 use Rattle.outside.specs.Opened.{IsOpen, Opened, journal_of, state_of}
 use Rattle.run_states.specs.Moments.{HasBegun, IsSought, Midway, Stands}
 use Rattle.run_states.specs.Openings.{Opening, Since}
@@ -138,28 +138,28 @@ pub record AtMoment {ours : List ℕ → Bool} {alone : Bool} (opening : Opening
   pub since : Since opening P
 
 -- none of its calls is done; where the plan was taken up again, some or all may be
-abbrev pub StepStart : (List ℕ → Bool) → Bool → World → Options → Version → Plan → List Logged → (is_taken_up : Bool) → Device → Type 0
-StepStart ours alone w options version plan log false d = Midway ours alone w options version plan log false log false d
-StepStart ours alone w options version plan log true d = Stands ours alone w options version plan log false d
+abbrev pub StepStart : (List ℕ → Bool) → Bool → List Named → World → Options → Version → Plan → List Logged → (is_taken_up : Bool) → Device → Type 0
+StepStart ours alone earlier w options version plan log false d = Midway ours alone earlier w options version plan log false log false d
+StepStart ours alone earlier w options version plan log true d = Stands ours alone earlier w options version plan log false d
 
 abbrev pub BeforeStep : {ours : List ℕ → Bool} {alone : Bool} → Opening ours alone → Option Opened → (is_taken_up : Bool) → Device → Type 0
-BeforeStep {ours} {alone} opening opened is_taken_up d = AtMoment opening opened (λ w. StepStart ours alone w opening.options (version_at opened) (plan_at opened) (log_at opened) is_taken_up d)
+BeforeStep {ours} {alone} opening opened is_taken_up d = AtMoment opening opened (λ w. StepStart ours alone opening.named w opening.options (version_at opened) (plan_at opened) (log_at opened) is_taken_up d)
 
 -- its flags are set, if they are set by a call of their own
 abbrev pub DuringStep : {ours : List ℕ → Bool} {alone : Bool} → Opening ours alone → Option Opened → (is_made : Bool) → Device → Type 0
-DuringStep {ours} {alone} opening opened is_made d = AtMoment opening opened (λ w. HasBegun ours alone w opening.options (version_at opened) (plan_at opened) (log_at opened) is_made d)
+DuringStep {ours} {alone} opening opened is_made d = AtMoment opening opened (λ w. HasBegun ours alone opening.named w opening.options (version_at opened) (plan_at opened) (log_at opened) is_made d)
 
 -- its copy was looked for
 abbrev pub AfterSearch : {ours : List ℕ → Bool} {alone : Bool} → Opening ours alone → Option Opened → (found : Option ℕ) → Device → Type 0
-AfterSearch {ours} {alone} opening opened found d = AtMoment opening opened (λ w. IsSought ours alone w opening.options (version_at opened) (plan_at opened) (log_at opened) found d)
+AfterSearch {ours} {alone} opening opened found d = AtMoment opening opened (λ w. IsSought ours alone opening.named w opening.options (version_at opened) (plan_at opened) (log_at opened) found d)
 
 -- it is done, and to be logged so
 abbrev pub AfterStep : {ours : List ℕ → Bool} {alone : Bool} → Opening ours alone → Option Opened → Logged → Device → Type 0
-AfterStep {ours} {alone} opening opened logged d = AtMoment opening opened (λ w. Midway ours alone w opening.options (version_at opened) (plan_at opened) (log_at opened) false (log_at opened ++ logged ∷ []) false d)
+AfterStep {ours} {alone} opening opened logged d = AtMoment opening opened (λ w. Midway ours alone opening.named w opening.options (version_at opened) (plan_at opened) (log_at opened) false (log_at opened ++ logged ∷ []) false d)
 
 -- its copy is made, under some UID
 abbrev pub AfterCopy : {ours : List ℕ → Bool} {alone : Bool} → Opening ours alone → Option Opened → Device → Type 0
-AfterCopy {ours} {alone} opening opened d = AtMoment opening opened (λ w. (copy : ℕ) × Midway ours alone w opening.options (version_at opened) (plan_at opened) (log_at opened) false (log_at opened ++ Copied copy ∷ []) false d)
+AfterCopy {ours} {alone} opening opened d = AtMoment opening opened (λ w. (copy : ℕ) × Midway ours alone opening.named w opening.options (version_at opened) (plan_at opened) (log_at opened) false (log_at opened ++ Copied copy ∷ []) false d)
 
 -- the copy that was just made was looked for, and found
 abbrev pub FoundCopy : {ours : List ℕ → Bool} {alone : Bool} → Opening ours alone → Option Opened → (found : Option ℕ) → Device → Type 0

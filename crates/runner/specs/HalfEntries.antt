@@ -15,6 +15,7 @@ use Rattle.rules.specs.declared.state.SyncState.{SyncState}
 use Rattle.rules.specs.Entries.{is_full, uid_of}
 use Rattle.rules.specs.Scene.{flags_at}
 use Rattle.sync_state.specs.declared.journal.Journal.{Journal}
+use Rattle.book.specs.LostSides.{Lost, lost_of}
 use Rattle.outside.specs.Devices.{Device}
 
 -- ---- what the plan has removed, or found removed
@@ -83,6 +84,10 @@ loses j side own others e = is_full e && is_none (flags_at own (uid_of side e)) 
 abbrev pub lost_among : Journal → (side : Side) → (own others : List Item) → List Entry → List ℕ
 lost_among j side own others entries = map (uid_of Far) (filter (loses j side own others) entries)
 
+-- those that lose a side, by what is listed of both
+abbrev pub lost_between : Journal → (far near : List Item) → List Entry → Lost
+lost_between j far near entries = lost_of (lost_among j Far far near entries) (lost_among j Near near far entries)
+
 -- ---- by both mailboxes
 
 abbrev pub far_items : Device → List Item
@@ -91,6 +96,6 @@ far_items d = map (item_of Far) d.far.messages
 abbrev pub near_items : Device → List Item
 near_items d = map (item_of Near) d.near.store.messages
 
--- those that lose their far side, of a state and a plan, by what both mailboxes of a device hold
-abbrev pub lost_at : Journal → SyncState → Device → List ℕ
-lost_at j s d = lost_among j Far (far_items d) (near_items d) s.entries
+-- those that lose a side, of a state and a plan, by what both mailboxes of a device hold
+abbrev pub lost_at : Journal → SyncState → Device → Lost
+lost_at j s d = lost_between j (far_items d) (near_items d) s.entries

@@ -10,6 +10,7 @@ pub mod Validities
 pub mod ChangedMaps
 pub mod Attempts
 pub mod Finding
+pub mod Naming
 pub mod Settled
 pub mod Passes
 pub mod Sources

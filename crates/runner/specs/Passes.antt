@@ -2,17 +2,20 @@
 use Rattle.std.specs.Prelude.{◌≡◌, ◌≤◌, ◌+◌, ℕ, Bool, true, List}
 use Rattle.rand_core.specs.Stream.{Stream}
 use Rattle.rules.specs.declared.options.Options.{Options}
+use Rattle.rules.specs.declared.state.SyncState.{SyncState}
 use Rattle.rules.specs.Opening.{IsOpening}
+use Rattle.book.specs.declared.book.Pending.{Pending}
 use Rattle.book.specs.declared.book.Pending.TheVariants.{Missing}
 use Rattle.book.specs.Books.{Holds}
 use Rattle.outside.specs.Devices.{Device}
 use Rattle.run_states.specs.Endings.{IsDone}
 use Rattle.run_states.specs.Openings.{IsIdle, Opening}
 use Rattle.runner.specs.declared.pass.Pass.{Pass}
-use Rattle.runner.specs.Answers.{HasRepeats, PassStart, OfFiles}
+use Rattle.runner.specs.Answers.{HasRepeats, PassStart, OfFiles, as_read}
 use Rattle.runner.specs.Faults.{Reasons, TellsBeyond, TellsUnread, because, or_beyond, or_keywords, or_unread}
 use Rattle.runner.specs.ChangedMaps.{TellsOtherMap}
 use Rattle.runner.specs.Finding.{FindsAt}
+use Rattle.runner.specs.Naming.{NamesAt, OthersStand}
 use Rattle.runner.specs.Results.{Report}
 use Rattle.runner.specs.Validities.{LeavesBoxes, TellsChanged}
 
@@ -20,10 +23,13 @@ use Rattle.runner.specs.Validities.{LeavesBoxes, TellsChanged}
 -- where the plan was pending; each new message is told with the UID of a copy; the messages that were passed over are those of the listed
 -- world. A copy is told as found exactly if it stood on its side when the pass began, under the UID that it has: that of the first step that
 -- was not logged alone, and none where the plan was made in this pass. Where nobody else adds messages, and the run is not an older one, both
--- mailboxes and the state are alike to the outcome that the rules name for the opening.
+-- mailboxes and the state are alike to the outcome that the rules name for the opening. Calls have named only what steps of that plan are to
+-- change or to remove, and each other message stands as it did.
 pub record TellsRun {ours : List ℕ → Bool} {alone : Bool} (opening : Opening ours alone) (run : ℕ) (pass : Pass) (old new : Device) : Type 0 where
   pub told : Report opening pass new
   pub found : FindsAt ours old pass
+  pub named : NamesAt opening pass old new
+  pub others : (s : SyncState) (p : Pending) → Holds old.files s p → OthersStand opening (as_read s p) pass old new
   pub alike : alone ≡ true → opening.world.state.run + 1 ≤ run → IsOpening opening.world → IsDone opening.world opening.options new
 
 -- of a run that was made before: both mailboxes stay as they are, and a journal without a plan of the next run goes

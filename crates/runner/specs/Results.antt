@@ -16,10 +16,10 @@ use Rattle.book.specs.declared.book.Pending.TheVariants.{Missing}
 use Rattle.book.specs.Books.{Holds}
 use Rattle.law_steps.specs.Steps.{Fit}
 use Rattle.law_outcome.specs.CommitLaws.{results_of}
-use Rattle.outside.specs.Devices.{Device}
+use Rattle.outside.specs.Devices.{Device, Named}
 use Rattle.run_states.specs.Endings.{EndedUnder}
 use Rattle.run_states.specs.Openings.{Opening, Since}
-use Rattle.run_states.specs.Plans.{IsPlanned}
+use Rattle.run_states.specs.Plans.{IsPlanned, NamedBy}
 use Rattle.runner.specs.declared.pass.Pass.{Pass}
 use Rattle.runner.specs.declared.pass.Pass.TheVariants.{Already, Ran, Finished}
 use Rattle.runner.specs.declared.performed.Performed.{Performed}
@@ -68,25 +68,27 @@ HasResults (Finished performed) d = AreResults performed.items d
 -- ---- of which plan the steps are
 
 -- the run is over for this world, and this is its plan, whose marks the copies bear, and whose steps have these results
-pub record IsOverBy (ours : List ℕ → Bool) (alone : Bool) (w : World) (options : Options) (plan : Plan) (log : List Logged) (d : Device) : Type 0 where
-  pub ended : EndedUnder ours alone w options (marks_of plan.steps) d
+pub record IsOverBy (ours : List ℕ → Bool) (alone : Bool) (earlier : List Named) (w : World) (options : Options) (plan : Plan) (log : List Logged) (d : Device) : Type 0 where
+  pub ended : EndedUnder ours alone earlier w options (marks_of plan.steps) d
   pub planned : IsPlanned ours w options plan
   pub fit : Fit plan.steps (results_of log)
 
 -- the run is over for some world since the opening, and that world's plan, whose steps have these results, is this one
 abbrev pub EndsBy : {ours : List ℕ → Bool} {alone : Bool} → Opening ours alone → Plan → List Logged → Device → Type 0
-EndsBy {ours} {alone} opening plan log d = Since opening (λ w. IsOverBy ours alone w opening.options plan log d)
+EndsBy {ours} {alone} opening plan log d = Since opening (λ w. IsOverBy ours alone opening.named w opening.options plan log d)
 
 -- some world since the opening has this plan, and these messages of it, which only want fitness to be new, were passed over
 abbrev pub PassedOver : {ours : List ℕ → Bool} {alone : Bool} → Opening ours alone → Plan → List (Side × ℕ) → Type 0
 PassedOver {ours} {alone} opening plan unfit = Since opening (λ w. IsPlanned ours w opening.options plan × (unfit ≡ all_unfit (scene_of w opening.options)))
 
 -- The steps told are those of this plan behind these ones. The run is over for a world that has this plan, the copies bear its marks, and
--- each new message that is told, and no other step, has the UID of a copy.
+-- each new message that is told, and no other step, has the UID of a copy. Calls have named no message since the opening but those that the
+-- steps of this plan are to change or to remove.
 pub record AreStepsOf {ours : List ℕ → Bool} {alone : Bool} (opening : Opening ours alone) (plan : Plan) (before : List Step) (performed : List Performed) (d : Device) : Type 0 where
   pub steps : plan.steps ≡ before ++ steps_of performed
   pub copies : Fit (steps_of performed) (results_of (logs_of performed))
-  pub over : Since opening (λ w. EndedUnder ours alone w opening.options (marks_of plan.steps) d × IsPlanned ours w opening.options plan)
+  pub over : Since opening (λ w. EndedUnder ours alone opening.named w opening.options (marks_of plan.steps) d × IsPlanned ours w opening.options plan)
+  pub named : NamedBy opening.named plan.steps d.named
 
 -- what is told of a run that was planned in this pass: all steps of its plan, and the messages of the world that was listed for it
 pub record WholeReport {ours : List ℕ → Bool} {alone : Bool} (opening : Opening ours alone) (performed : List Performed) (unfit : List (Side × ℕ)) (d : Device) : Type 0 where

@@ -1,9 +1,12 @@
 -- What several attempts at one run answer, leave and count.
-use Rattle.std.specs.Prelude.{◌≡◌, ◌≤◌, ◌+◌, ◌-◌, ℕ, Bool, true, List, Result, Ok, Err}
+use Rattle.std.specs.Prelude.{◌≡◌, ◌≤◌, ◌+◌, ◌-◌, ℕ, All, Bool, true, List, [], ◌∷◌, ◌++◌, Result, Ok, Err}
 use Rattle.rand_core.specs.Stream.{Stream}
 use Rattle.mailcore.specs.declared.side.Side.{Side}
 use Rattle.rules.specs.declared.options.Options.{Options}
+use Rattle.rules.specs.declared.state.SyncState.{SyncState}
 use Rattle.rules.specs.Opening.{IsOpening}
+use Rattle.book.specs.declared.book.Pending.{Pending}
+use Rattle.book.specs.Books.{Holds}
 use Rattle.outside.specs.Calls.{Seen}
 use Rattle.run_states.specs.Conditions.{IsOver, Underway}
 use Rattle.run_states.specs.Endings.{IsDone}
@@ -11,10 +14,12 @@ use Rattle.run_states.specs.Openings.{Opening}
 use Rattle.runner.specs.declared.fault.RunFault.{RunFault}
 use Rattle.runner.specs.declared.fault.RunFault.TheVariants as run
 use Rattle.runner.specs.declared.pass.Settled.{Settled}
+use Rattle.runner.specs.Answers.{as_read}
 use Rattle.runner.specs.Attempts.{AnswersAt, LastAttempt, ChangedLast, HaveRepeated, KeptLast, MetBefore, MetStops, Reopens, began_on, failed_before}
 use Rattle.runner.specs.ChangedMaps.{HoldsOtherMap}
 use Rattle.runner.specs.Faults.{IsCaused, LeavesRun, RefusedAt, TellsNoRun, because, or_beyond, or_keywords, or_refused, or_unread}
 use Rattle.runner.specs.Finding.{FindsAt}
+use Rattle.runner.specs.Naming.{NamesAt, OthersStand}
 use Rattle.runner.specs.Results.{Report}
 
 -- An answer. The run is over; where nobody else adds messages, both mailboxes and the state are alike to the outcome that the rules name for
@@ -22,6 +27,8 @@ use Rattle.runner.specs.Results.{Report}
 -- plan of it was pending, or none was. The steps told are those of the plan of the world that the run is over for: all of them, or the last
 -- where the plan was pending, each new message with the UID of a copy; the messages that were passed over are those of the listed world. A
 -- copy that is told as found stood on its side when the last attempt began, and has the UID that it had there; each other one was made by it.
+-- Calls have named only what steps of that plan are to change or to remove, and the last attempt none, where the run was made already. Each
+-- message that stood when this began, or when an attempt did, and that no step is to change or to remove, stands as it did.
 pub record IsSettled {ours : List ℕ → Bool} {alone : Bool} (opening : Opening ours alone) (options : Options) (stream : Stream) (settled : Settled) (old new : Seen) : Type 0 where
   pub over : IsOver opening new.device
   pub alike : alone ≡ true → IsOpening opening.world → IsDone opening.world opening.options new.device
@@ -29,6 +36,9 @@ pub record IsSettled {ours : List ℕ → Bool} {alone : Bool} (opening : Openin
   pub answers : AnswersAt (opening.world.state.run + 1) options settled.last (began_on began.reopens.since old.device) began.drawn
   pub told : Report opening settled.last new.device
   pub found : FindsAt ours (began_on began.reopens.since old.device) settled.last
+  pub named : NamesAt opening settled.last (began_on began.reopens.since old.device) new.device
+  pub others : (s : SyncState) (p : Pending) → Holds (began_on began.reopens.since old.device).files s p →
+      All (λ d. OthersStand opening (as_read s p) settled.last d new.device) (began.reopens.since ++ old.device ∷ [])
 
 -- A fault. The run is underway still. Behind `ValidityChanged` and `KeywordsChanged` nothing has changed but what the attempts before the last
 -- have done. A step

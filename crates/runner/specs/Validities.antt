@@ -82,15 +82,16 @@ pub record KeepsValidities (d d' : Device) : Type 0 where
   pub far : d'.far.validity ≡ d.far.validity
   pub near : d'.near.store.validity ≡ d.near.store.validity
 
--- a run has changed nothing: the files are as they were, and, where nobody adds messages, both mailboxes
+-- a run has changed nothing: no call has named a message, the files are as they were, and, where nobody adds messages, both mailboxes
 pub record IsKept (alone : Bool) (d d' : Device) : Type 0 where
   pub files : d'.files ≡ d.files
+  pub named : d'.named ≡ d.named
   pub validities : KeepsValidities d d'
   pub same : alone ≡ true → d' ≡ d
 
--- where nobody adds messages, both mailboxes are as they were
+-- no call has named a message, and, where nobody adds messages, both mailboxes are as they were
 abbrev pub LeavesBoxes : (honest : Type 0) → (alone : Bool) → (d d' : Device) → Type 0
-LeavesBoxes honest alone d d' = honest → alone ≡ true → (d'.far ≡ d.far) × (d'.near ≡ d.near)
+LeavesBoxes honest alone d d' = honest → (d'.named ≡ d.named) × (alone ≡ true → (d'.far ≡ d.far) × (d'.near ≡ d.near))
 
 -- ---- when a change is told
 

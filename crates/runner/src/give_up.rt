@@ -1,7 +1,6 @@
 //! A plan that has become wrong is given up: neither mailbox is changed, and what it has copied is recorded.
 
 ghost use Rattle.std.specs.Prelude.{◌≡◌, ◌⊎◌, false, is_some, true, Some, OnOk, OnErr, IfOk};
-ghost use Rattle.std.specs.List.Sorted.{IsNonDecreasing};
 ghost use Rattle.mailcore.specs.Operations.{marked_from};
 ghost use Rattle.rules.specs.declared.state.SyncState.{SyncState as State};
 ghost use Rattle.sync_state.specs.declared.journal.WrittenJournal.{WrittenJournal};
@@ -10,6 +9,7 @@ ghost use Rattle.book.specs.declared.book.Pending.{Pending};
 ghost use Rattle.book.specs.declared.book.Pending.TheVariants.{Missing, Planned};
 ghost use Rattle.book.specs.Books.{Holds, mended};
 ghost use Rattle.book.specs.BookLogs.{logged_more};
+ghost use Rattle.book.specs.LostSides.{AreRising};
 ghost use Rattle.outside.specs.Devices.{box};
 ghost use Rattle.outside.specs.Opened.{IsBook, IsHeld, journal_in, turned, with_box};
 ghost use Rattle.run_states.specs.Openings.{IsIdle};
@@ -22,9 +22,10 @@ ghost use Rattle.runner.specs.Parts.{IsStuck, Unstepped};
 ghost use Rattle.runner.specs.Validities.{BothSame, HasSame, IsKept, TellsChange, TellsOther};
 
 use crate::fault::{RunFault, call_fault, step_fault};
-use crate::half_entries::lost_far;
+use crate::half_entries::lost_sides;
 use crate::opening::recorded_validity;
 use crate::pending::{first_uid, next_step};
+use book::lost_sides::LostSides;
 use mailcore::side::{Direction, Side};
 use mailcore::tuid::Tuid;
 use mailcore::uid::Uid;
@@ -226,9 +227,9 @@ fn note_copy<O: Outside>(outside: &mut O) -> Result<(), RunFault>
 }
 
 /// The state that is left takes the old one's place, and the journal goes.
-fn leave<O: Outside>(outside: &mut O, lost: &[u32]) -> Result<(), RunFault>
+fn leave<O: Outside>(outside: &mut O, lost: &LostSides) -> Result<(), RunFault>
     requires plan { HasPlan (O.opened outside.old) }
-    requires rising { IsNonDecreasing lost.now }
+    requires rising { AreRising lost.now }
     ensures was_honest { O.honest outside.new → O.honest outside.old }
     ensures keywords { O.keywords outside.new ≡ O.keywords outside.old }
     ensures done { OnOk result (O.honest outside.new → IsHeld (O.opened outside.old) (O.seen outside.old).device
@@ -245,7 +246,7 @@ fn leave<O: Outside>(outside: &mut O, lost: &[u32]) -> Result<(), RunFault>
     }
 }
 
-/// Looks which far messages are lost, and leaves the plan.
+/// Looks which entries lose a side, and leaves the plan.
 fn look_and_leave<O: Outside>(alloc: Global, outside: &mut O) -> Result<(), RunFault>
     requires plan { HasPlan (O.opened outside.old) }
     requires boxes { AreOpen (O.opened outside.old) }
@@ -260,7 +261,7 @@ fn look_and_leave<O: Outside>(alloc: Global, outside: &mut O) -> Result<(), RunF
     ensures boxes { O.honest outside.new → KeepsBoxes O.ours O.alone (O.seen outside.old).device (O.seen outside.new).device }
     ensures counted { Counted Unstepped (O.honest outside.new) (O.seen outside.old) (O.seen outside.new) result }
 {
-    let lost = lost_far(alloc, outside)?;
+    let lost = lost_sides(alloc, outside)?;
     leave(outside, &lost)
 }
 
@@ -299,7 +300,7 @@ fn get_ready<O: Outside>(outside: &mut O) -> Result<(), RunFault>
     mend_plan(outside)
 }
 
-/// Logs the copy that the step after the logged ones may have made, looks which far messages are lost, and leaves the plan.
+/// Logs the copy that the step after the logged ones may have made, looks which entries lose a side, and leaves the plan.
 fn finish_log<O: Outside>(alloc: Global, outside: &mut O) -> Result<(), RunFault>
     requires going { IsGoing (O.opened outside.old) }
     requires whole { (O.seen outside.old).is_broken ≡ false }
@@ -336,7 +337,7 @@ fn leave_plan<O: Outside>(alloc: Global, outside: &mut O) -> Result<bool, RunFau
     }
 }
 
-/// Gives up the plan of the next run, and tells whether one was pending: what it has copied is recorded, and the next run plans anew.
+/// Gives up the plan of the next run; true where one was pending. What it has copied is recorded, and the next run plans anew.
 /// Neither mailbox is changed. `ValidityChanged`: a UIDVALIDITY is not the plan's. `BadState(0)`: a copy has a UID that is taken.
 ///
 /// After an error the plan is still pending, or was given up, and this can be called again, once the outside was reopened.

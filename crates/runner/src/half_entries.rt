@@ -1,18 +1,20 @@
-//! Which entries of a plan that is given up lose their far side: the plan has removed their far message, or found it removed, and their near
-//! one was undeleted since.
+//! Which entries of a plan that is given up lose a side: the plan has removed their message there, or found it removed, and their other one
+//! was undeleted since.
 
 ghost use Rattle.std.specs.Prelude.{◌≡◌, ℕ, IfErr, IfOk, false};
 ghost use Rattle.std.specs.List.{list_any};
 ghost use Rattle.std.specs.List.Sorted.{IsNonDecreasing};
 ghost use Rattle.mailcore.specs.Listed.{IsRising};
 ghost use Rattle.rules.specs.Scene.{flags_at};
+ghost use Rattle.book.specs.LostSides.{AreRising};
 ghost use Rattle.runner.specs.Before.{HasPlan};
 ghost use Rattle.runner.specs.GivingUp.{Counted, KeepsAll, LosesBy, LosesListed, RemovesSome};
 ghost use Rattle.runner.specs.Going.{AreOpen};
-ghost use Rattle.runner.specs.HalfEntries.{far_items, has_removed, is_expunge, is_gone, is_side, lacks_mark, logged, loses, lost_among, near_items, removes, removes_some, tells_gone, tried};
+ghost use Rattle.runner.specs.HalfEntries.{far_items, has_removed, is_expunge, is_gone, is_side, lacks_mark, logged, loses, lost_among, lost_between, near_items, removes, removes_some, tells_gone, tried};
 ghost use Rattle.runner.specs.Parts.{Unstepped};
 
 use crate::fault::{RunFault, call_fault};
+use book::lost_sides::LostSides;
 use mailcore::flags::Flag;
 use mailcore::listing::{Item, Listing};
 use mailcore::side::Side;
@@ -216,22 +218,38 @@ fn list_near<O: Outside>(alloc: Global, outside: &mut O) -> Result<Listing, RunF
     }
 }
 
-/// The far UIDs of the entries that lose their far side, by what was read, and by these listings.
+/// The entries that lose a side, by both listings.
+fn lost_between(
+    alloc: Global,
+    state: &SyncState,
+    journal: &Journal,
+    far: &Listing,
+    near: &Listing,
+) -> Result<LostSides, AllocError>
+    ensures lost { IfOk result (λ lost. lost ≡ lost_between journal.now far.now.items near.now.items state.now.entries) }
+    ensures rising { IfOk result AreRising }
+{
+    let lost_far = lost_among(alloc, state, journal, Side::Far, far, near)?;
+    let lost_near = lost_among(alloc, state, journal, Side::Near, near, far)?;
+    Ok(LostSides::new(lost_far, lost_near))
+}
+
+/// The entries that lose a side, by what was read, and by these listings.
 fn lost_by<O: Outside>(
     alloc: Global,
     outside: &O,
     far: &Listing,
     near: &Listing,
-) -> Result<Vec<u32>, RunFault>
+) -> Result<LostSides, RunFault>
     requires plan { HasPlan (O.opened outside.now) }
-    ensures lost { IfOk result (λ lost. LosesListed (O.opened outside.now) far.now.items near.now.items lost.items) }
-    ensures rising { IfOk result (λ lost. IsNonDecreasing lost.items) }
+    ensures lost { IfOk result (λ lost. LosesListed (O.opened outside.now) far.now.items near.now.items lost) }
+    ensures rising { IfOk result AreRising }
     ensures fault { IfErr result (λ fault. fault ≡ RunFault.NoMemory) }
 {
     let Some(journal) = outside.pending() else {
-        return Ok(Vec::new(alloc));
+        return Ok(LostSides::none(alloc));
     };
-    match lost_among(alloc, outside.state(), journal, Side::Far, far, near) {
+    match lost_between(alloc, outside.state(), journal, far, near) {
         Ok(lost) => Ok(lost),
         Err(_) => Err(RunFault::NoMemory),
     }
@@ -248,16 +266,16 @@ fn has_removed_some<O: Outside>(outside: &O) -> bool
     }
 }
 
-/// Lists both mailboxes, and tells the far UIDs of the entries that lose their far side, in rising order.
-fn look_for_lost<O: Outside>(alloc: Global, outside: &mut O) -> Result<Vec<u32>, RunFault>
+/// Lists both mailboxes, and answers the entries that lose a side, in rising order.
+fn look_for_lost<O: Outside>(alloc: Global, outside: &mut O) -> Result<LostSides, RunFault>
     requires plan { HasPlan (O.opened outside.old) }
     requires boxes { AreOpen (O.opened outside.old) }
     ensures was_honest { O.honest outside.new → O.honest outside.old }
     ensures keywords { O.keywords outside.new ≡ O.keywords outside.old }
     ensures opened { O.opened outside.new ≡ O.opened outside.old }
     ensures lost { IfOk result (λ lost. O.honest outside.new → LosesBy O.ours O.alone (O.opened outside.old) (O.seen outside.old).device
-        lost.items) }
-    ensures rising { IfOk result (λ lost. IsNonDecreasing lost.items) }
+        lost) }
+    ensures rising { IfOk result AreRising }
     ensures kept { O.honest outside.new → KeepsAll O.ours O.alone (O.seen outside.old).device (O.seen outside.new).device }
     ensures counted { Counted Unstepped (O.honest outside.new) (O.seen outside.old) (O.seen outside.new) result }
 {
@@ -266,9 +284,8 @@ fn look_for_lost<O: Outside>(alloc: Global, outside: &mut O) -> Result<Vec<u32>,
     lost_by(alloc, outside, &far, &near)
 }
 
-/// The far UIDs of the entries that lose their far side, in rising order. Nothing is listed where the plan has removed no message
-/// and found none removed.
-pub(crate) fn lost_far<O: Outside>(alloc: Global, outside: &mut O) -> Result<Vec<u32>, RunFault>
+/// The entries that lose a side, in rising order. Nothing is listed where the plan has removed no message and found none removed.
+pub(crate) fn lost_sides<O: Outside>(alloc: Global, outside: &mut O) -> Result<LostSides, RunFault>
     requires plan { HasPlan (O.opened outside.old) }
     requires boxes { AreOpen (O.opened outside.old) }
     requires whole { (O.seen outside.old).is_broken ≡ false }
@@ -276,14 +293,14 @@ pub(crate) fn lost_far<O: Outside>(alloc: Global, outside: &mut O) -> Result<Vec
     ensures keywords { O.keywords outside.new ≡ O.keywords outside.old }
     ensures opened { O.opened outside.new ≡ O.opened outside.old }
     ensures lost { IfOk result (λ lost. O.honest outside.new → LosesBy O.ours O.alone (O.opened outside.old) (O.seen outside.old).device
-        lost.items) }
-    ensures rising { IfOk result (λ lost. IsNonDecreasing lost.items) }
+        lost) }
+    ensures rising { IfOk result AreRising }
     ensures kept { O.honest outside.new → KeepsAll O.ours O.alone (O.seen outside.old).device (O.seen outside.new).device }
     ensures counted { Counted Unstepped (O.honest outside.new) (O.seen outside.old) (O.seen outside.new) result }
 {
     if has_removed_some(outside) {
         look_for_lost(alloc, outside)
     } else {
-        Ok(Vec::new(alloc))
+        Ok(LostSides::none(alloc))
     }
 }

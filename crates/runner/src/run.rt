@@ -13,6 +13,7 @@ ghost use Rattle.runner.specs.Going.{AreOpen, BeforeStep, IsGoing, log_at, next_
 ghost use Rattle.runner.specs.Before.{HasNoPlan, HasPlan, IsEmptied, ReadUnderway, Resumed};
 ghost use Rattle.runner.specs.Results.{EndsBy, HasResults, Report, PassedOver};
 ghost use Rattle.runner.specs.Finding.{FindsBy, OfSame};
+ghost use Rattle.runner.specs.Naming.{NamesBy};
 ghost use Rattle.runner.specs.Answers.{AnswersTo, RunEnd, HasRepeats, PlanStart, PassStart, ReadPassStart, IsRun, Moves, OfFiles, PassEnd, RunsBy, made_in, run_of};
 ghost use Rattle.runner.specs.Attempts.{AnswersAt};
 ghost use Rattle.runner.specs.Passes.{LeavesMade, TellsRun, pass_reasons};
@@ -113,6 +114,9 @@ fn begin<O: Outside, R: Rng, P: Progress>(
     ensures found { IfOk result (λ pass. O.honest outside.new → PlanStart opening (O.opened outside.old)
         options.now (R.stream rng.old) (O.seen outside.old).device
         → OfSame O.ours (O.seen outside.old).device (λ d. FindsBy (O.opened outside.old) d pass)) }
+    ensures named { IfOk result (λ pass. O.honest outside.new → PlanStart opening (O.opened outside.old)
+        options.now (R.stream rng.old) (O.seen outside.old).device
+        → NamesBy opening (O.opened outside.old) pass (O.seen outside.old).device (O.seen outside.new).device) }
     ensures part { RunPart (because (TellsUnlessSame (O.honest outside.new) (O.opened outside.old) (O.seen outside.old).device)
         (HasRepeats opening (O.honest outside.new) (PlanStart opening (O.opened outside.old) options.now
         (R.stream rng.old) (O.seen outside.old).device) options.now (R.stream rng.old))) (O.honest outside.new)
@@ -146,6 +150,9 @@ fn resume<O: Outside, P: Progress>(
     ensures found { IfOk result (λ pass. O.honest outside.new → Resumed opening (O.opened outside.old)
         (O.seen outside.old).device
         → OfSame O.ours (O.seen outside.old).device (λ d. FindsBy (O.opened outside.old) d pass)) }
+    ensures named { IfOk result (λ pass. O.honest outside.new → Resumed opening (O.opened outside.old)
+        (O.seen outside.old).device
+        → NamesBy opening (O.opened outside.old) pass (O.seen outside.old).device (O.seen outside.new).device) }
     ensures part { RunPart Unstepped (O.honest outside.new) (Resumed opening (O.opened outside.old))
         (Underway opening) made_in (λ _. RunEnd opening) (O.seen outside.old) (O.seen outside.new) result }
 {
@@ -200,6 +207,9 @@ fn work<O: Outside, R: Rng, P: Progress>(
     ensures found { IfOk result (λ pass. O.honest outside.new → ReadPassStart opening (O.opened outside.old)
         (run_of (O.opened outside.old) + 1) options.now (R.stream rng.old) (O.seen outside.old).device
         → OfSame O.ours (O.seen outside.old).device (λ d. FindsBy (O.opened outside.old) d pass)) }
+    ensures named { IfOk result (λ pass. O.honest outside.new → ReadPassStart opening (O.opened outside.old)
+        (run_of (O.opened outside.old) + 1) options.now (R.stream rng.old) (O.seen outside.old).device
+        → NamesBy opening (O.opened outside.old) pass (O.seen outside.old).device (O.seen outside.new).device) }
     ensures part { RunPart (because (TellsUnlessSame (O.honest outside.new) (O.opened outside.old) (O.seen outside.old).device)
         (HasRepeats opening (O.honest outside.new) (ReadPassStart opening (O.opened outside.old)
         (run_of (O.opened outside.old) + 1) options.now (R.stream rng.old) (O.seen outside.old).device) options.now (R.stream rng.old)))
@@ -239,6 +249,9 @@ fn open_and_work<O: Outside, R: Rng, P: Progress>(
     ensures found { IfOk result (λ pass. O.honest outside.new → ReadPassStart opening (O.opened outside.old)
         (run_of (O.opened outside.old) + 1) options.now (R.stream rng.old) (O.seen outside.old).device
         → OfSame O.ours (O.seen outside.old).device (λ d. FindsBy (O.opened outside.old) d pass)) }
+    ensures named { IfOk result (λ pass. O.honest outside.new → ReadPassStart opening (O.opened outside.old)
+        (run_of (O.opened outside.old) + 1) options.now (R.stream rng.old) (O.seen outside.old).device
+        → NamesBy opening (O.opened outside.old) pass (O.seen outside.old).device (O.seen outside.new).device) }
     ensures part { RunPart (or_keywords (TellsMap (O.honest outside.new) O.alone (O.opened outside.old) options.now.keywords
         (O.seen outside.old).device (O.seen outside.new).device)
         (because (TellsChange (O.honest outside.new) O.alone (O.opened outside.old) (O.seen outside.old).device (O.seen outside.new).device)
@@ -281,6 +294,9 @@ fn take_up<O: Outside, R: Rng, P: Progress>(
     ensures found { IfOk result (λ pass. O.honest outside.new → ReadPassStart opening (O.opened outside.old)
         run options.now (R.stream rng.old) (O.seen outside.old).device
         → OfSame O.ours (O.seen outside.old).device (λ d. FindsBy (O.opened outside.old) d pass)) }
+    ensures named { IfOk result (λ pass. O.honest outside.new → ReadPassStart opening (O.opened outside.old)
+        run options.now (R.stream rng.old) (O.seen outside.old).device
+        → NamesBy opening (O.opened outside.old) pass (O.seen outside.old).device (O.seen outside.new).device) }
     ensures beyond { run_of (O.opened outside.old) + 1 < run → IsErr result × (O.seen outside.new ≡ O.seen outside.old) }
     ensures part { RunPart (or_beyond (run_of (O.opened outside.old) + 1 < run)
         (or_keywords (TellsMap (O.honest outside.new) O.alone (O.opened outside.old) options.now.keywords (O.seen outside.old).device

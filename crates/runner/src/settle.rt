@@ -7,6 +7,7 @@ ghost use Rattle.runner.specs.Answers.{HasRepeats, Moves, OfFiles, made_in};
 ghost use Rattle.runner.specs.Attempts.{AnswersAt, AtOpening, FromOpening, HasNoNext, HasReached, IsReached, AttemptStart, AttemptAt, found_by};
 ghost use Rattle.runner.specs.Faults.{TellsNoRun, because, or_beyond, or_keywords, or_unread};
 ghost use Rattle.runner.specs.Finding.{FindsAt, FindsSame};
+ghost use Rattle.runner.specs.Naming.{NamesAt};
 ghost use Rattle.runner.specs.ChangedMaps.{TellsOtherMap};
 ghost use Rattle.runner.specs.Parts.{IsStuck, PartOr, RunPart, Unstepped};
 ghost use Rattle.runner.specs.Results.{HasResults, Report};
@@ -97,6 +98,8 @@ fn attempt<O: Outside, R: Rng, P: Progress>(
         (O.seen outside.old).device → Report opening pass (O.seen outside.new).device) }
     ensures found { IfOk result (λ pass. O.honest outside.new → AttemptStart opening options.now (R.stream rng.old) run.old
         (O.seen outside.old).device → FindsAt O.ours (O.seen outside.old).device pass) }
+    ensures named { IfOk result (λ pass. O.honest outside.new → AttemptStart opening options.now (R.stream rng.old) run.old
+        (O.seen outside.old).device → NamesAt opening pass (O.seen outside.old).device (O.seen outside.new).device) }
     ensures greatest { run.old ≡ None → HasNoNext (O.honest outside.new) O.alone (O.seen outside.old).device (O.seen outside.new).device result }
     ensures unfixed { run.old ≡ None → OfFiles (O.honest outside.new) (O.seen outside.old).device (λ s p. s.run + 1 ≡ 2 ^ 64 → run.new ≡ None) }
     ensures reached { O.honest outside.new → IsReached run.old (O.seen outside.old).device.files

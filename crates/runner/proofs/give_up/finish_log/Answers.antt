@@ -1,6 +1,7 @@
 use Rattle.std.proofs.Common.{inl}
 use Rattle.std.proofs.lemmas.Result.{err_from_is_err_and}
-use Rattle.runner.proofs.GivingUp.{boxes_next, err_then, leaves_noted, ok_then, untorn_plan}
+use Rattle.runner.proofs.KeptBoxes.{boxes_next}
+use Rattle.runner.proofs.GivingUp.{err_then, leaves_noted, ok_then, untorn_plan}
 use Rattle.runner.proofs.PartCalls.{part_after}
 use Rattle.runner.proofs.StepParts.{part_unstepped}
 use Rattle.runner.proofs.give_up.finish_log.Goals as goal

@@ -1,6 +1,6 @@
-use Rattle.std.proofs.Common.{◌∙◌}
 use Rattle.std.proofs.lemmas.Result.{err_from_is_err_and}
-use Rattle.runner.proofs.GivingUp.{err_holds, held_same, still_here}
+use Rattle.runner.proofs.KeptBoxes.{held_same}
+use Rattle.runner.proofs.GivingUp.{err_holds, still_here}
 use Rattle.runner.proofs.PartCalls.{part_after}
 use Rattle.runner.proofs.StepParts.{part_unstepped}
 use Rattle.runner.proofs.give_up.get_ready.Goals as goal

@@ -6,7 +6,9 @@ use Rattle.book.specs.declared.book.Pending.TheVariants.{Planned}
 use Rattle.book.specs.Books.{Holds}
 use Rattle.book.specs.Shelves.{Files}
 use Rattle.runner.proofs.Readings.{none_of, some_of}
-use Rattle.runner.proofs.GivingUp.{answer_known, answered, by_files, goes_nowhere, held_same, none_pending, number_held, some_pending}
+use Rattle.runner.proofs.KeptBoxes.{held_same}
+use Rattle.runner.proofs.GivingUp.{goes_nowhere}
+use Rattle.runner.proofs.GivenUpRead.{answer_known, answered, by_files, none_pending, number_held, some_pending}
 use Rattle.runner.proofs.PartCalls.{left_told, part_after, part_told}
 use Rattle.runner.proofs.Validities.{files_changed}
 use Rattle.runner.proofs.give_up.give_up.Goals as goal

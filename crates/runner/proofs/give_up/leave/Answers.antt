@@ -1,4 +1,5 @@
-use Rattle.runner.proofs.GivingUp.{boxes_booked, boxes_left, did, given_up_at, given_up_or_not, held_arrives, takes_plan}
+use Rattle.runner.proofs.KeptBoxes.{boxes_booked, boxes_left, did, held_arrives}
+use Rattle.runner.proofs.GivingUp.{given_up_at, given_up_or_not, takes_plan}
 use Rattle.runner.proofs.PartCalls.{left_call, line_of_book, passed_call}
 use Rattle.runner.proofs.give_up.leave.Goals as goal
 

@@ -1,9 +1,9 @@
-use Rattle.std.proofs.Common.{◌≡◌, ◌∙◌, subst, true, Option}
+use Rattle.std.proofs.Common.{◌∙◌, true}
 use Rattle.std.proofs.lemmas.Result.{err_from_is_err_and}
-use Rattle.outside.specs.Opened.{Opened}
-use Rattle.runner.specs.GivingUp.{LeavesRead}
-use Rattle.runner.proofs.GivingUp.{boxes_next, read_done, read_left, read_pending, ready_going, ready_number}
-use Rattle.runner.proofs.PartCalls.{left_after, left_told, passed_after, passed_weaker}
+use Rattle.runner.proofs.KeptBoxes.{boxes_next}
+use Rattle.runner.proofs.GivingUp.{ready_going}
+use Rattle.runner.proofs.GivenUpRead.{read_done, read_left, read_pending, ready_number}
+use Rattle.runner.proofs.PartCalls.{left_after, left_told, passed_after}
 use Rattle.runner.proofs.StepParts.{calls_told, unrefused_told}
 use Rattle.runner.proofs.give_up.leave_plan.Goals as goal
 

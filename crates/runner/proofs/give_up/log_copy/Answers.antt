@@ -1,7 +1,9 @@
 use Rattle.sync_state.specs.declared.journal.Logged.TheVariants.{Copied}
 use Rattle.book.specs.Books.{torn}
 use Rattle.book.specs.BookLogs.{logged_more}
-use Rattle.runner.proofs.GivingUp.{boxes_booked, boxes_left, did, held_arrives, in_look, logged_on, still_by, torn_on, turned_held, untorn_plan}
+use Rattle.runner.proofs.KeptBoxes.{boxes_booked, boxes_left, did, held_arrives}
+use Rattle.runner.proofs.GivingUp.{logged_on, still_by, torn_on, turned_held, untorn_plan}
+use Rattle.runner.proofs.GivenUpRead.{in_look}
 use Rattle.runner.proofs.Logging.{takes_log}
 use Rattle.runner.proofs.PartCalls.{left_step, left_told, line_of_log, passed_call}
 use Rattle.runner.proofs.Readings.{turned_open}

@@ -1,7 +1,6 @@
-use Rattle.std.proofs.Common.{ap, sym, subst}
-use Rattle.mailcore.specs.Operations.{marked_from}
-use Rattle.outside.specs.Devices.{Device, box}
-use Rattle.runner.proofs.GivingUp.{all_read, in_look}
+use Rattle.std.proofs.Common.{sym}
+use Rattle.runner.proofs.KeptBoxes.{all_read}
+use Rattle.runner.proofs.GivenUpRead.{in_look}
 use Rattle.runner.proofs.PartCalls.{left_step, left_told, line_of_box, passed_call}
 use Rattle.runner.proofs.give_up.look.Goals as goal
 

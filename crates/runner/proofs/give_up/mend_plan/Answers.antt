@@ -1,5 +1,6 @@
 use Rattle.book.specs.Books.{mended}
-use Rattle.runner.proofs.GivingUp.{boxes_booked, boxes_left, did, held_arrives, mended_on, still_by, turned_held}
+use Rattle.runner.proofs.KeptBoxes.{boxes_booked, boxes_left, did, held_arrives}
+use Rattle.runner.proofs.GivingUp.{mended_on, still_by, turned_held}
 use Rattle.runner.proofs.GivingUp as giving
 use Rattle.runner.proofs.PartCalls.{left_call, line_of_book, passed_call}
 use Rattle.runner.proofs.Readings.{plan_read}

@@ -1,4 +1,4 @@
-use Rattle.std.proofs.Common.{◌≡◌, ◌∙◌, refl, None}
+use Rattle.std.proofs.Common.{◌∙◌, refl, None}
 use Rattle.runner.proofs.Finding.{same_none}
 use Rattle.runner.specs.GivingUp.{InLook, Nowhere}
 use Rattle.runner.specs.Going.{number_at}

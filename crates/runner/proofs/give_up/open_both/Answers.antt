@@ -1,6 +1,7 @@
 use Rattle.std.proofs.lemmas.Result.{err_from_is_err_and}
 use Rattle.mailcore.specs.declared.side.Side.TheVariants.{Far}
-use Rattle.runner.proofs.GivingUp.{all_next, boxed_plan}
+use Rattle.runner.proofs.KeptBoxes.{all_next}
+use Rattle.runner.proofs.GivingUp.{boxed_plan}
 use Rattle.runner.proofs.PartCalls.{left_told, part_after, part_told}
 use Rattle.runner.proofs.Validities.{both_opened, far_told, near_told}
 use Rattle.runner.proofs.give_up.open_both.Goals as goal

@@ -1,6 +1,6 @@
 use Rattle.std.proofs.Common.{◌∙◌, refl, sym}
 use Rattle.runner.specs.GivingUp.{Nowhere}
-use Rattle.runner.proofs.GivingUp.{all_read}
+use Rattle.runner.proofs.KeptBoxes.{all_read}
 use Rattle.runner.proofs.PartCalls.{left_call, left_here, line_of_box, passed_call}
 use Rattle.runner.proofs.Readings.{plan_read}
 use Rattle.runner.proofs.Validities.{any_read, other_read, same_read}

@@ -3,7 +3,7 @@ use Rattle.runner.proofs.PartCalls.{left_call, line_of_shelf, passed_call, stuck
 use Rattle.runner.proofs.Readings.{unread_files}
 use Rattle.runner.proofs.Validities.{kept_read}
 use Rattle.outside.specs.Devices.{Device}
-use Rattle.runner.proofs.GivingUp.{all_read, held_same}
+use Rattle.runner.proofs.KeptBoxes.{all_read, held_same}
 use Rattle.runner.proofs.give_up.read_book.Goals as goal
 
 pub returns-in-Ok-clause-held : goal.returns-in-Ok-clause-held

@@ -1,4 +1,4 @@
-use Rattle.std.proofs.Common.{◌≡◌, ◌∙◌, ap, subst, sym, Option, Some}
+use Rattle.std.proofs.Common.{◌∙◌, ap, subst, sym, Option, Some}
 use Rattle.sync_state.specs.declared.journal.Logged.TheVariants.{Copied}
 use Rattle.book.specs.BookLogs.{logged_more}
 use Rattle.outside.specs.Opened.{Opened, turned}

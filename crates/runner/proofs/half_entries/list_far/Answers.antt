@@ -1,7 +1,5 @@
-use Rattle.std.proofs.Common.{ap, sym}
 use Rattle.mailcore.specs.declared.side.Side.TheVariants.{Far}
-use Rattle.runner.specs.HalfEntries.{far_items}
-use Rattle.runner.proofs.GivingUp.{all_read}
+use Rattle.runner.proofs.KeptBoxes.{all_read}
 use Rattle.runner.proofs.PartCalls.{left_call, line_of_box, passed_call}
 use Rattle.runner.proofs.half_entries.list_far.Goals as goal
 

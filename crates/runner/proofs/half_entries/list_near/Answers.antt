@@ -1,10 +1,9 @@
-use Rattle.std.proofs.Common.{◌≡◌, ◌∙◌, ℕ, List, ap, sym}
+use Rattle.std.proofs.Common.{◌∙◌, List, ap}
 use Rattle.mailcore.specs.declared.listing.Item.{Item}
 use Rattle.mailcore.specs.declared.side.Side.TheVariants.{Near}
-use Rattle.mailcore.specs.Spared.{spares}
 use Rattle.rules.specs.Scene.{flags_at}
 use Rattle.runner.proofs.Fitness.{flags_sparing}
-use Rattle.runner.proofs.GivingUp.{all_read}
+use Rattle.runner.proofs.KeptBoxes.{all_read}
 use Rattle.runner.proofs.PartCalls.{left_call, line_of_box, passed_call}
 use Rattle.runner.proofs.half_entries.list_near.Goals as goal
 

@@ -1,6 +1,6 @@
 use Rattle.std.proofs.Common.{◌∙◌}
 use Rattle.std.proofs.lemmas.Result.{err_from_is_err_and}
-use Rattle.runner.proofs.GivingUp.{all_next}
+use Rattle.runner.proofs.KeptBoxes.{all_next}
 use Rattle.runner.proofs.HalfEntries.{counted_here, looked_ok}
 use Rattle.runner.proofs.PartCalls.{left_after, passed_after}
 use Rattle.runner.proofs.half_entries.look_for_lost.Goals as goal
@@ -22,7 +22,7 @@ returns-in_err-near-clause-counted g c =
 
 pub returns-clause-lost : goal.returns-clause-lost
 returns-clause-lost g c =
-    looked_ok (λ v. v.items) g.O.Outside.ours g.O.Outside.alone (g.O.Outside.opened c.args.outside.now) (g.O.Outside.opened c.list_near.new.outside) c.in_ok-far.far.items c.in_ok-near.near.items
+    looked_ok g.O.Outside.ours g.O.Outside.alone (g.O.Outside.opened c.args.outside.now) (g.O.Outside.opened c.list_near.new.outside) c.in_ok-far.far.items c.in_ok-near.near.items
     (g.O.Outside.seen c.args.outside.now).device (g.O.Outside.seen c.list_far.new.outside).device (g.O.Outside.seen c.list_near.new.outside).device _ _
     (c.list_near.ensures.opened ∙ c.list_far.ensures.opened) c.list_near.ensures.was_honest c.list_far.ensures.kept c.list_near.ensures.kept c.in_ok-far.ensures.shows c.in_ok-near.ensures.shows
     c.lost_by.result c.lost_by.ensures.lost

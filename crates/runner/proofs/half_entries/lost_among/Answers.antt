@@ -1,4 +1,4 @@
-use Rattle.std.proofs.Common.{◌≡◌, ◌∙◌, ◌<◌, ◌≤◌, ◌++◌, ◌∷◌, [], ℕ, List, Vec, append-nil, ap, ap₂, get_or, length, subst, sym, true, false, rules}
+use Rattle.std.proofs.Common.{◌≡◌, ◌∙◌, ◌<◌, ◌≤◌, ◌++◌, ◌∷◌, [], ℕ, List, append-nil, ap, ap₂, get_or, length, subst, sym, true, false, rules}
 use Rattle.mailcore.specs.declared.listing.Item.{Item}
 use Rattle.rules.specs.declared.entry.Entry.{Entry}
 use Rattle.runner.specs.HalfEntries.{loses}

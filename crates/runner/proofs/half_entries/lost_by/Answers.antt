@@ -1,5 +1,3 @@
-use Rattle.std.proofs.Common.{arith}
-use Rattle.std.proofs.lemmas.List.Sorted.{IsNonDecreasingBy-short}
 use Rattle.runner.proofs.HalfEntries.{listed_by, never_none}
 use Rattle.runner.proofs.Readings.{plan_read}
 use Rattle.runner.proofs.half_entries.lost_by.Goals as goal
@@ -11,4 +9,4 @@ pub returns-in_default-clause-lost : goal.returns-in_default-clause-lost
 returns-in_default-clause-lost g c = λ s j is journal. never_none (g.O.Outside.opened c.args.outside.now) j c.in_default.ensures journal
 
 pub returns-in-Ok-clause-lost : goal.returns-in-Ok-clause-lost
-returns-in-Ok-clause-lost g c = listed_by (g.O.Outside.opened c.args.outside.now) _ _ c.in-Ok.lost.items c.state.result.now c.in-Some.journal.now c.state.ensures.state c.in-Some.ensures c.in-Ok.ensures.lost
+returns-in-Ok-clause-lost g c = listed_by (g.O.Outside.opened c.args.outside.now) _ _ c.in-Ok.lost c.state.result.now c.in-Some.journal.now c.state.ensures.state c.in-Some.ensures c.in-Ok.ensures.lost

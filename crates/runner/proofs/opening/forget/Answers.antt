@@ -45,7 +45,7 @@ returns-in-Err-clause-part g c =
     )))
 
 pub returns-in-Ok-clause-stores : goal.returns-in-Ok-clause-stores
-returns-in-Ok-clause-stores g c = λ honest alone. let w = c.in-Ok.ensures.call in let acts = w.acts in let e = acts.effect honest in stores_kept g.opening _ _ e.mid _ c.requires.1.0 e.before e.behind alone
+returns-in-Ok-clause-stores g c = λ honest. let w = c.in-Ok.ensures.call in let acts = w.acts in let e = acts.effect honest in stores_kept g.opening _ _ e.mid _ c.requires.1.0 e.before e.behind
 
 pub returns-then-is_some-clause-gone : goal.returns-then-is_some-clause-gone
 returns-then-is_some-clause-gone g c = λ none.

@@ -1,11 +1,13 @@
-use Rattle.std.proofs.Common.{arith, rules, sym, ◌∙◌}
+use Rattle.std.proofs.Common.{List, arith, rules, subst, sym, ◌∙◌}
 use Rattle.std.proofs.lemmas.Result.{err_from_is_err_and}
+use Rattle.rules.specs.declared.plan.Step.{Step}
+use Rattle.run_states.specs.Plans.{NamedBy}
 use Rattle.runner.specs.Answers.{PlanStart}
-use Rattle.runner.specs.Going.{made}
+use Rattle.runner.specs.Going.{logs_of, made}
 use Rattle.runner.proofs.StepParts.{left_unstepped, steps_told, unrefused_told}
 use Rattle.runner.proofs.PartCalls.{left_after, left_told, passed_after, passed_weaker}
 use Rattle.runner.proofs.Passes.{none_few, ran_answers, takes_commit, whole_steps}
-use Rattle.runner.proofs.Told.{told, told_whole}
+use Rattle.runner.proofs.Told.{named_last, told, told_whole}
 use Rattle.runner.proofs.Finding.{all_new, same_none}
 use Rattle.runner.proofs.run.begin.Goals as goal
 
@@ -87,3 +89,15 @@ returns-clause-found g c = λ h k d to.
     let s1 = g.O.Outside.seen c.propose.new.outside in
     let ready = part.reaches (performed.was_honest carried) k in
     all_new g.opening (g.O.Outside.opened c.propose.new.outside) c.in_ok-performed.performed.items s1.device performed.steps ready (performed.found carried ready s1.device (same_none g.O.Outside.ours s1.device))
+
+pub returns-clause-named : goal.returns-clause-named
+returns-clause-named g c = λ h k.
+    let proposed = c.in_ok-unfit.ensures in
+    let performed = c.in_ok-performed.ensures in
+    let concluded = c.in_ok-conclude.ensures in
+    let ready = g.O.Outside.opened c.propose.new.outside in
+    let s1 = g.O.Outside.seen c.propose.new.outside in
+    let d2 = (g.O.Outside.seen c.conclude.new.outside).device in
+    let so_far = passed_after _ _ _ _ _ _ _ _ s1 _ performed.was_honest proposed.part performed.part in
+    subst (λ (ss : List Step). NamedBy g.opening.named ss d2.named) (sym (whole_steps ready c.in_ok-performed.performed.items proposed.log performed.steps))
+    (named_last g.opening ready (g.O.Outside.opened c.carry_out.new.outside) (logs_of c.in_ok-performed.performed.items) d2 performed.opened (concluded.ends h (so_far.reaches (concluded.was_honest h) k)))

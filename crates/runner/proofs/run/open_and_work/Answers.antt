@@ -7,6 +7,7 @@ use Rattle.runner.specs.declared.fault.RunFault.TheVariants as run
 use Rattle.runner.specs.Answers.{RunEnd, Inputs, ReadPassStart, run_of}
 use Rattle.runner.specs.Going.{plan_at}
 use Rattle.runner.specs.Maps.{HasOtherMapIn, by_map}
+use Rattle.runner.specs.Naming.{NamesBy}
 use Rattle.runner.specs.Results.{Report}
 use Rattle.runner.proofs.PartCalls.{left_here, left_told, left_weaker, part_after, part_by, part_told, passed_weaker, passed_with}
 use Rattle.runner.proofs.StepParts.{repeats_by}
@@ -16,6 +17,7 @@ use Rattle.runner.proofs.Readings.{book_read, both_open}
 use Rattle.runner.proofs.Validities.{same_told}
 use Rattle.runner.proofs.Told.{told_over}
 use Rattle.runner.proofs.Finding.{boxed_plan, finds_from}
+use Rattle.runner.proofs.Naming.{names_from}
 use Rattle.runner.proofs.run.open_and_work.Goals as goal
 
 pub open_boxes-requires : goal.open_boxes-requires
@@ -148,3 +150,30 @@ returns-clause-found g c =
     let m = k.most in
     let same : here ≡ g.opening = ap (λ (x : List Keyword). by_map x g.opening) (sym (known_map g.opening new options stream s1.device (omega (arith, as_many, m)) c.in_ok-same_map.ensures.same k.asked known)) in
     subst (λ (o : Opening ours alone). ReadPassStart o new run options stream s1.device) (sym same) (record { most = k.most; asked = k.asked; known = known })) c.in_ok-open_boxes.ensures.same (rw as_many at c.work.ensures.found)
+
+pub returns-clause-named : goal.returns-clause-named
+returns-clause-named g c =
+    let ours = g.O.Outside.ours in
+    let alone = g.O.Outside.alone in
+    let old = g.O.Outside.opened c.args.outside.now in
+    let new = g.O.Outside.opened c.open_boxes.new.outside in
+    let d0 = (g.O.Outside.seen c.args.outside.now).device in
+    let d1 = (g.O.Outside.seen c.open_boxes.new.outside).device in
+    let d2 = (g.O.Outside.seen c.work.new.outside).device in
+    let plan : plan_at new ≡ plan_at old = rw c.in_ok-open_boxes.ensures.opened (boxed_plan old) in
+    let run = run_of old + 1 in
+    let options = c.args.options.now in
+    let stream = g.R.Rng.stream c.args.rng.now in
+    let here = by_map options.keywords g.opening in
+    let as_many : run_of new ≡ run_of old = rw c.in_ok-open_boxes.ensures.opened (boxed_run old) in
+    let part = c.in_ok-open_boxes.ensures.part in
+    told_over c.work.result _ (ReadPassStart here new run options stream d1) _ _ _
+    (λ h k.
+    let known = part.reaches (c.work.ensures.was_honest h) k.known in
+    let m = k.most in
+    let same : here ≡ g.opening = ap (λ (x : List Keyword). by_map x g.opening) (sym (known_map g.opening new options stream d1 (omega (arith, as_many, m)) c.in_ok-same_map.ensures.same k.asked known)) in (
+      subst (λ (o : Opening ours alone). ReadPassStart o new run options stream d1) (sym same) (record { most = k.most; asked = k.asked; known = known }),
+      λ pass t.
+          let kept = c.in_ok-open_boxes.ensures.kept (c.work.ensures.was_honest h) in
+          names_from g.opening old new pass d0 d1 d2 plan kept.1.named (subst (λ (o : Opening ours alone). NamesBy o new pass d1 d2) same t),
+    )) (rw as_many at c.work.ensures.named)

@@ -3,12 +3,13 @@ use Rattle.std.proofs.lemmas.Result.{err_from_is_err_and}
 use Rattle.runner.specs.Answers.{Inputs, PassStart, ReadPassStart}
 use Rattle.runner.proofs.PartCalls.{left_told, left_weaker, part_after, part_told, passed_weaker, passed_with}
 use Rattle.runner.proofs.PassTells.{answers_so, made_so, tells_so}
-use Rattle.runner.proofs.Passes.{answers_held, beyond_held, beyond_read, emptied_held, pass_alike, runs_held, stores_joined}
+use Rattle.runner.proofs.Passes.{answers_held, beyond_held, beyond_read, emptied_held, pass_alike, pass_others, runs_held, stores_joined}
 use Rattle.runner.proofs.PlanFacts.{moved_none}
 use Rattle.runner.proofs.StepParts.{repeats_from}
 use Rattle.runner.proofs.Validities.{files_changed, files_map}
 use Rattle.runner.proofs.Told.{told_from}
 use Rattle.runner.proofs.Finding.{finds_held}
+use Rattle.runner.proofs.Naming.{names_held}
 use Rattle.runner.proofs.run.pass.Goals as goal
 
 pub returns-in_err-recall-clause-part : goal.returns-in_err-recall-clause-part
@@ -30,7 +31,7 @@ returns-clause-made g c =
     let s2 = g.O.Outside.seen c.take_up.new.outside in
     let before = c.take_up.ensures.was_honest in
     made_so alone _ s0.device s2.device c.take_up.result
-    (stores_joined alone _ _ s0.device s1.device s2.device c.take_up.result c.take_up.ensures.stores before (λ h e. let k = c.in_ok-recall.ensures.kept h in k.same e))
+    (stores_joined alone _ _ s0.device s1.device s2.device c.take_up.result c.take_up.ensures.stores before (λ h. c.in_ok-recall.ensures.kept h))
     (emptied_held (g.O.Outside.opened c.recall.new.outside) s0.device s1.device s2.device _ _ c.take_up.result c.take_up.ensures.emptied before c.in_ok-recall.ensures.held (λ h. let k = c.in_ok-recall.ensures.kept h in k.files))
 
 pub returns-in_err-recall-clause-beyond : goal.returns-in_err-recall-clause-beyond
@@ -84,4 +85,6 @@ returns-clause-told g c =
     tells_so g.opening run _ _ d0 _ c.take_up.result
     (told_from c.take_up.result _ _ _ _ leads c.take_up.ensures.told)
     (finds_held ours opened d0 d1 c.take_up.result _ _ _ _ before leads c.in_ok-recall.ensures.same c.in_ok-recall.ensures.held c.take_up.ensures.found)
+    (names_held g.opening opened d0 d1 _ c.take_up.result _ _ _ _ before leads (λ h. c.in_ok-recall.ensures.kept h) c.in_ok-recall.ensures.held c.take_up.ensures.named)
     (pass_alike _ _ g.opening run options stream (g.O.Outside.seen c.args.outside.now) (g.O.Outside.seen c.take_up.new.outside) c.take_up.result (returns-clause-part g c))
+    (pass_others _ _ g.opening run options stream (g.O.Outside.seen c.args.outside.now) (g.O.Outside.seen c.take_up.new.outside) c.take_up.result (returns-clause-part g c))

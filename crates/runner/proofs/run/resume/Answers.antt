@@ -1,15 +1,16 @@
 use Rattle.std.proofs.Common.{◌≡◌, arith, rules, subst, sym, ◌∙◌}
 use Rattle.rules.specs.declared.plan.Plan.{Plan}
+use Rattle.run_states.specs.Plans.{NamedBy}
 use Rattle.runner.specs.Before.{Resumed}
 use Rattle.runner.specs.Finding.{AreFoundSo}
-use Rattle.runner.specs.Going.{made, plan_at}
+use Rattle.runner.specs.Going.{logs_of, made, plan_at}
 use Rattle.std.proofs.lemmas.Result.{err_from_is_err_and}
 use Rattle.book.specs.Books.{mended}
 use Rattle.outside.specs.Opened.{turned}
 use Rattle.runner.proofs.StepParts.{left_unstepped, steps_told}
 use Rattle.runner.proofs.PartCalls.{left_after, left_told, passed_after, passed_weaker}
 use Rattle.runner.proofs.Passes.{book_few, finished_answers, mended_book, mended_going, mended_rest, takes_commit}
-use Rattle.runner.proofs.Told.{told, told_rest}
+use Rattle.runner.proofs.Told.{named_last, told, told_rest}
 use Rattle.runner.proofs.Finding.{mended_plan, same_then}
 use Rattle.runner.proofs.run.resume.Goals as goal
 
@@ -89,3 +90,17 @@ returns-clause-found g c = λ h k d to.
     let s1 = g.O.Outside.seen c.untear.new.outside in
     let same : plan_at (g.O.Outside.opened c.untear.new.outside) ≡ plan_at old = rw untorn.opened (mended_plan old) in
     subst (λ (p : Plan). AreFoundSo p d c.in_ok-performed.performed.items) same (performed.found carried (part.reaches (performed.was_honest carried) k) d (same_then g.O.Outside.ours d (g.O.Outside.seen c.args.outside.now).device s1.device to (untorn.same (performed.was_honest carried))))
+
+pub returns-clause-named : goal.returns-clause-named
+returns-clause-named g c = λ h k.
+    let performed = c.in_ok-performed.ensures in
+    let concluded = c.in_ok-conclude.ensures in
+    let untorn = c.in_ok-untear.ensures in
+    let old = g.O.Outside.opened c.args.outside.now in
+    let ready = g.O.Outside.opened c.untear.new.outside in
+    let s1 = g.O.Outside.seen c.untear.new.outside in
+    let d2 = (g.O.Outside.seen c.conclude.new.outside).device in
+    let so_far = passed_after _ _ _ _ _ _ _ _ s1 _ performed.was_honest untorn.part performed.part in
+    let same : plan_at ready ≡ plan_at old = rw untorn.opened (mended_plan old) in
+    subst (λ (p : Plan). NamedBy g.opening.named p.steps d2.named) same
+    (named_last g.opening ready (g.O.Outside.opened c.carry_out.new.outside) (logs_of c.in_ok-performed.performed.items) d2 performed.opened (concluded.ends h (so_far.reaches (concluded.was_honest h) k)))

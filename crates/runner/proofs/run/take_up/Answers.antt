@@ -7,6 +7,7 @@ use Rattle.runner.proofs.PlanFacts.{moved_none}
 use Rattle.runner.proofs.Readings.{book_read}
 use Rattle.runner.proofs.Told.{told_from, told_none}
 use Rattle.runner.proofs.Finding.{finds_none}
+use Rattle.runner.proofs.Naming.{names_none}
 use Rattle.runner.proofs.run.take_up.Goals as goal
 
 pub state-requires : goal.state-requires
@@ -77,3 +78,13 @@ returns-clause-found g c =
     let same = run_of_state opened c.state.result.now c.state.ensures.state in
     let is : c.args.run ≡ run_of opened + 1 = omega (arith, same, c.if-run-last.false, c.if-run-last-gt1.false) in
     told_from c.open_and_work.result _ _ _ _ (λ h k. record { most = let m = k.most in omega (arith, is, m); asked = k.asked; known = k.known }) c.open_and_work.ensures.found
+
+pub returns-then-run-last-clause-named : goal.returns-then-run-last-clause-named
+returns-then-run-last-clause-named g c = names_none g.opening (g.O.Outside.opened c.args.outside.now) _ _ (g.O.Outside.seen c.args.outside.now).device (g.O.Outside.seen c.skip.new.outside).device c.skip.result c.skip.ensures.answer c.skip.ensures.stores
+
+pub returns-clause-named : goal.returns-clause-named
+returns-clause-named g c =
+    let opened = g.O.Outside.opened c.args.outside.now in
+    let same = run_of_state opened c.state.result.now c.state.ensures.state in
+    let is : c.args.run ≡ run_of opened + 1 = omega (arith, same, c.if-run-last.false, c.if-run-last-gt1.false) in
+    told_from c.open_and_work.result _ _ _ _ (λ h k. record { most = let m = k.most in omega (arith, is, m); asked = k.asked; known = k.known }) c.open_and_work.ensures.named

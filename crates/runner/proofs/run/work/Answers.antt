@@ -56,3 +56,17 @@ returns-else-is_some-clause-found g c =
     let i : is_some c.pending.result ≡ false = grind (arith, common_steps) in
     let none : HasNoPlan opened = has_none opened (book_read opened c.requires.1.1.1.0) (none_of _ c.pending.result _ c.pending.ensures i) in
     told_from c.begin.result _ _ _ _ (λ h k. record { asked = k.asked; none = known_unplanned g.opening opened _ none k.most k.known }) c.begin.ensures.found
+
+pub returns-then-is_some-clause-named : goal.returns-then-is_some-clause-named
+returns-then-is_some-clause-named g c =
+    let opened = g.O.Outside.opened c.args.outside.now in
+    let i : is_some c.pending.result ≡ true = grind (arith, common_steps) in
+    let j = some_of _ c.pending.result _ c.pending.ensures i in
+    told_from c.resume.result _ _ _ _ (λ h k. known_planned g.opening opened _ (has_plan opened j.0 j.1) k.most k.known) c.resume.ensures.named
+
+pub returns-else-is_some-clause-named : goal.returns-else-is_some-clause-named
+returns-else-is_some-clause-named g c =
+    let opened = g.O.Outside.opened c.args.outside.now in
+    let i : is_some c.pending.result ≡ false = grind (arith, common_steps) in
+    let none : HasNoPlan opened = has_none opened (book_read opened c.requires.1.1.1.0) (none_of _ c.pending.result _ c.pending.ensures i) in
+    told_from c.begin.result _ _ _ _ (λ h k. record { asked = k.asked; none = known_unplanned g.opening opened _ none k.most k.known }) c.begin.ensures.named

@@ -7,9 +7,10 @@ use Rattle.runner.proofs.Attempts.{asked_later, attempt_answers, attempt_changed
 use Rattle.runner.proofs.PartCalls.{goes_on, left_mapped, left_told, left_with, part_after, part_mapped, part_told, part_with, passed_weaker, passed_with}
 use Rattle.runner.proofs.PlanFacts.{moved_none}
 use Rattle.runner.proofs.StepParts.{repeats_from}
-use Rattle.runner.proofs.PassTells.{found_in, told_in}
+use Rattle.runner.proofs.PassTells.{found_in, named_in, told_in}
 use Rattle.runner.proofs.Told.{told_from}
 use Rattle.runner.proofs.Finding.{finds_tried}
+use Rattle.runner.proofs.Naming.{names_tried}
 use Rattle.runner.proofs.settle.attempt.Goals as goal
 
 pub returns-in_err-number-clause-moved : goal.returns-in_err-number-clause-moved
@@ -98,3 +99,13 @@ returns-clause-found g c =
     let t = tried_fixed g.opening c.fix_run.new.run n _ fixed (part.reaches (c.pass.ensures.was_honest h) k.tried) in
     record { most = let e = t.0 in omega (arith, e); asked = k.asked; underway = t.1 })
     (λ h. let k = c.in_ok-number.ensures.kept h in k.files) c.in_ok-number.ensures.same (found_in g.opening _ _ _ _ _ c.pass.result c.pass.ensures.told)
+
+pub returns-clause-named : goal.returns-clause-named
+returns-clause-named g c =
+    let n = c.in_ok-number.number in
+    let fixed = c.in_ok-number.ensures.fixed in
+    let part = c.in_ok-number.ensures.part in
+    names_tried g.opening (g.O.Outside.seen c.args.outside.now).device (g.O.Outside.seen c.fix_run.new.outside).device (g.O.Outside.seen c.pass.new.outside).device c.pass.result _ _ _ _ c.pass.ensures.was_honest (λ h k.
+    let t = tried_fixed g.opening c.fix_run.new.run n _ fixed (part.reaches (c.pass.ensures.was_honest h) k.tried) in
+    record { most = let e = t.0 in omega (arith, e); asked = k.asked; underway = t.1 })
+    c.in_ok-number.ensures.kept (named_in g.opening _ _ _ _ _ c.pass.result c.pass.ensures.told)
