@@ -265,6 +265,17 @@ def earlier_server(tally):
         tally.same("put right, it is taken", scene.run("c"), [0, "c:INBOX", "ran"])
         del box.messages[3], box.messages[4]
         tally.same("messages that were removed are no such thing", scene.run("c"), [0, "c:INBOX", "gone pull 3 3", "gone pull 4 4", "ran"])
+    with Edge(ONE) as scene:
+        scene.run("c")
+        box, earlier = scene.inbox(), copy.deepcopy(scene.inbox())
+        scene.write("inbox/new/17.mine", near_text(TWO))
+        tally.same("a message is pushed", scene.run("c"), [0, "c:INBOX", "new push 2 -> 2", "ran"])
+        before, scene.server.boxes["INBOX"] = [scene.near_messages(), scene.own()], earlier
+        for words in (("c",), ("--expunge", "c")):
+            tally.same("a server from before a push is told", scene.run(*words), stopped(EARLIER % (2, 2)))
+            tally.same("nothing is done on either side", [scene.near_messages(), scene.own(), earlier.messages], [*before, {1: earlier.messages[1]}])
+        scene.server.boxes["INBOX"] = box
+        tally.same("put right, it is taken", scene.run("c"), [0, "c:INBOX", "ran"])
 
 
 def no_permission(tally):
@@ -288,6 +299,18 @@ def no_permission(tally):
             tally.same("nothing is lost", scene.sides(), [near(ONE, TWO), far(ONE, TWO, THREE)])
             tally.same("with permission the run goes on", scene.run("c"), [0, "c:INBOX", *lines])
             tally.same("each message is there once", scene.sides(), [near(ONE, TWO, THREE), far(ONE, TWO, THREE)])
+    with Edge(ONE, patterns="*", create="Both") as scene:
+        scene.server.boxes.update(a=Box([TWO]), b=Box([TWO]))
+        scene.run("all")
+        for name in ("a", "b"):
+            scene.server.boxes[name].add(THREE)
+        scene.leave_root()
+        os.chmod(scene.path("mail/a"), 0)
+        told = [1, "mbsync: cannot open " + scene.path("mail/a")]
+        tally.same("a folder of Path without permission is told, not passed over", [scene.run("all"), scene.run("-l", "all")], [told, told])
+        os.chmod(scene.path("mail/a"), 0o700)
+        lines = ["all:a", "new pull 2 -> 2", "ran", "all:b", "new pull 2 -> 2", "ran"]
+        tally.same("with permission each mailbox is synchronised", scene.run("all"), [0, *lines])
     return None
 
 

@@ -110,7 +110,7 @@ def absent_boxes(tally):
         faults = ["mbsync: all:INBOX: absent near", "mbsync: all:a: absent far", "mbsync: all:b: absent near"]
         got = scene.run("all")
         tally.same("absent boxes without Create", [line for line in got if not str(line).startswith("  ")], [1, *faults])
-        tally.same("nothing is made", os.path.exists(scene.path("mail/b")), False)
+        tally.same("nothing is made", [os.path.exists(scene.path(name)) for name in ("inbox", "mail/b")], [False, False])
         with scene.far() as far:
             tally.same("nor at the server", far.ask(b'LIST "" "*"').count(b"* LIST"), 2)
 

@@ -70,19 +70,19 @@ def sizes(tally):
 
 
 def planted(edit):
-    """What a planted bug replaces, in turn: a file, the text there, and the text that it puts there. A line of a text is a line of the edit."""
-    found, last = [], None
+    """What a planted bug replaces, in turn: a file, the text there, and the text that it puts there, each of one line, as rt reads them."""
+    found, file, old = [], None, None
     for line in read(edit).splitlines():
         key, _, text = line.partition(":")
         text = text.removeprefix(" ")
         if key == "file":
             file = text.strip()
-        elif key == "old" and last != "old":
-            found.append((file, [text], []))
-        else:
-            found[-1][("old", "new").index(key) + 1].append(text)
-        last = key
-    return [(file, "\n".join(old), "\n".join(new)) for file, old, new in found]
+        elif key == "old":
+            # Two of these without a new one between them are no pair, nor are two new ones.
+            found, old = found + [(file, text, None)] if old is not None else found, text
+        elif key == "new":
+            found, old = [*found, (file, old, text)], None
+    return found
 
 
 def bugs(tally):
@@ -91,6 +91,9 @@ def bugs(tally):
         crate = os.path.join(TOP, *edit.split(os.sep)[:2])
         texts = {}
         for file, old, new in planted(os.path.join(TOP, edit)):
+            if old is None or new is None:
+                tally.fails(f"{edit}: a text of several lines")
+                break
             text = texts.get(file) or read(os.path.join(crate, file))
             if text.count(old) != 1:
                 tally.fails(f"{edit}: {text.count(old)} times in {file}: {old!r}")

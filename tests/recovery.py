@@ -81,18 +81,33 @@ class Place:
             file.write(text)
 
 
-def damaged_journal(place):
-    """A journal with both steps logged, whose second log line is damaged."""
+def two_copies(place):
+    """Makes both copies of a plan, and gives the plan's lines."""
     validity = place.text(".uidvalidity").split("\n")[0]
     steps = "s new pull 1 S AAAAAAAAAAAA\ns new pull 2 - BAAAAAAAAAAA\n"
-    plan = f"journal 1\nrun 1\nfar 1 2 3\nnear {validity} 0 1\n{steps}go\n"
     place.near.add("1.copy,U=1", b"X-TUID: AAAAAAAAAAAA\nSubject: one\n", frozenset("S"))
     place.near.add("2.copy,U=2", b"X-TUID: BAAAAAAAAAAA\nSubject: two\n", frozenset())
     place.write(".uidvalidity", f"{validity}\n2\n")
+    return f"journal 1\nrun 1\nfar 1 2 3\nnear {validity} 0 1\n{steps}go\n"
+
+
+def damaged_journal(place):
+    """A journal with both steps logged, whose second log line is damaged."""
+    plan = two_copies(place)
     place.write(".mbsyncstate.journal", plan + "d 1 1\nd 2 ?\n")
     place.fails("a damaged journal is refused", "bad journal 9")
     place.write(".mbsyncstate.journal", plan + "d 1 1\n")
     place.works("without its damaged line the run goes on, and finds the copy", "found pull 2 -> 2", "finished")
+    place.works("and no message has come twice", "ran")
+
+
+def damaged_log(place):
+    """A journal with both steps done, whose first log line is damaged."""
+    plan = two_copies(place)
+    place.write(".mbsyncstate.journal", plan + "d 1 ?\nd 2 2\n")
+    place.fails("a damaged journal is refused", "bad journal 8")
+    place.write(".mbsyncstate.journal", plan)
+    place.works("without the lines from there on both copies are found", "found pull 1 -> 1", "found pull 2 -> 2", "finished")
     place.works("and no message has come twice", "ran")
 
 
@@ -171,11 +186,11 @@ def locked(place):
 
 def main():
     program = program_over(__doc__)
-    for part in (damaged_journal, damaged_state, meta_file, one_uid_twice, refused_message, start_over, locked):
+    for part in (damaged_journal, damaged_log, damaged_state, meta_file, one_uid_twice, refused_message, start_over, locked):
         with tempfile.TemporaryDirectory() as folder:
             place = Place(program, folder)
             with TALLY.scene(part.__name__):
-                if part is damaged_journal:
+                if part in (damaged_journal, damaged_log):
                     place.write(".uidvalidity", "7\n0\n")
                 part(place)
             place.server.stop()

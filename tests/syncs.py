@@ -1,8 +1,9 @@
 #!/usr/bin/env python3
 """Looks in which order a run of mbsync makes what it writes outlive a loss of power, as docs/DECISIONS.md says.
 
-Three runs over trial-imapd are traced by strace: one that pulls three messages and takes over a file that was left in `new`, one that
-removes a message and changes a flag, and one with nothing to do. Each order is a line of the output."""
+Four runs over trial-imapd are traced by strace: one that pulls three messages and takes over a file that was left in `new`, one that
+removes a message and changes a flag, one with nothing to do, and one that resumes the plan of a run that was killed. Each order is a line
+of the output."""
 import os
 import pathlib
 import re
@@ -84,6 +85,18 @@ def look(tally, name, trace, copies, changes):
     tally.check(f"{name}: the state's name is synced before the journal goes", trace.synced(".", state, gone))
 
 
+def look_resumed(tally, trace):
+    first = min(trace.places(lambda event: in_mailbox(event) or event == ("write", "tmp/mbsync.copy")))
+    tally.check("resumed: the journal that was read is synced before the next step", trace.synced(".mbsyncstate.journal", -1, first))
+    tally.check("resumed: so are the names beside it", trace.synced(".", -1, first))
+
+
+def kill_at_copy(program, rc):
+    """Kills a run when the first copy gets its name."""
+    command = ["strace", "-f", "-e", f"trace={CALLS}", "-e", "inject=rename,renameat,renameat2:signal=KILL:when=1", "-o", os.devnull]
+    subprocess.run([*command, program, "-c", rc, "bench"], stdin=subprocess.DEVNULL, capture_output=True, check=False)
+
+
 def traced(program, rc, box):
     with tempfile.NamedTemporaryFile("r", errors="replace") as log:
         command = ["strace", "-f", "-y", "-s", "4096", "-e", f"trace={CALLS}", "-o", log.name, program, "-c", rc, "bench"]
@@ -114,6 +127,12 @@ def scenes(tally, program, top):
             far.ask(b"UID EXPUNGE 2")
         look(tally, "changes", traced(program, rc, box), copies=0, changes=3)
         look(tally, "nothing to do", traced(program, rc, box), copies=0, changes=0)
+        with ImapSide(server.port) as far:
+            for number in (4, 5):
+                far.add(None, b"Subject: %d\n\nbody\n" % number, frozenset())
+        kill_at_copy(program, rc)
+        tally.check("a run that is killed leaves its plan", os.path.getsize(os.path.join(box, ".mbsyncstate.journal")) > 0)
+        look_resumed(tally, traced(program, rc, box))
     finally:
         server.stop()
 
@@ -123,7 +142,7 @@ def main():
     if shutil.which("strace") is None:
         sys.exit("strace is not installed")
     tally = Tally()
-    with tempfile.TemporaryDirectory() as top, tally.scene("the three runs"):
+    with tempfile.TemporaryDirectory() as top, tally.scene("the four runs"):
         scenes(tally, program, top)
     tally.end()
 

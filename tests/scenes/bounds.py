@@ -1,4 +1,5 @@
 """The scenes of stale.py about what is bounded and hidden: memory, time, the password, and the line of progress."""
+import itertools
 import os
 import re
 import subprocess
@@ -7,16 +8,21 @@ import time
 
 from tests.scenes.server_edges import peak_of
 from tests.support.edge_scene import Edge, can_mount, far, near
+from tests.support.imap_side import IMAP_NAMES
 from tests.support.scene import ONE, TWO, near_text
 from tests.support.scripted_server import BODY, Box
 from tests.support.stale_scene import Stale
 
 CLEAN = [0, "c:INBOX", "ran"]
 MB = 2 ** 20
-# How many bytes a stray file has, a message that is longer than its size, and endless replies; and how many MB of memory a run over
+# How many bytes a stray file has, a message that is longer than its size, and endless replies; and how many MB of memory such a run may
+# take beyond the usual.
 STRAY, GROWN, ENDLESS, MEMORY = 3000 * MB, 48 * MB, 4 * MB, 16
-# The limit of a message, and a far one above it.
+# The limit of a message.
 LIMIT = 16 * MB
+# LIST replies are kept until the command has ended: each byte of them may take so many bytes of memory. After so many bytes of them the run
+# stops, and it may have taken so many MB of memory beyond the usual. A server sends so many bytes of them.
+LIST_COST, LIST_MOST, LIST_MEMORY, NAMES = 10, 16 * MB, 200, 100 * MB
 MAILBOXES = 16000
 
 
@@ -45,6 +51,7 @@ def stray_file(tally):
 def long_far_message(tally):
     """A message at the server has more than 16 MiB by its size: it is never fetched."""
     with Stale(ONE) as scene:
+        _, usual = peak_of(scene, "c")
         scene.inbox().add(b"Subject: long\r\n\r\n" + b"x" * LIMIT + b"\r\n")
         scene.inbox().add(TWO)
         fetched = []
@@ -54,7 +61,6 @@ def long_far_message(tally):
                 fetched.append(command.uids())
             return False
 
-        _, usual = peak_of(scene, "-h")
         scene.server.script = script
         got, peak = peak_of(scene, "c")
         tally.same("a far message beyond the limit is not fetched", [fetched, got[0]], [[3], 0])
@@ -64,6 +70,7 @@ def long_far_message(tally):
 def grown_far_message(tally):
     """The server says a small size, and sends more where the message is fetched."""
     with Stale(ONE) as scene:
+        _, usual = peak_of(scene, "c")
         scene.inbox().add(TWO)
 
         def script(talk, command):
@@ -76,37 +83,62 @@ def grown_far_message(tally):
             talk.done(command)
             return True
 
-        _, usual = peak_of(scene, "-h")
         scene.server.script = script
         got, peak = peak_of(scene, "c")
         tally.check("a message that is longer than its size is not kept whole", peak < usual + 2 * LIMIT // MB + MEMORY, f"{peak:.1f} MB")
-        tally.check("it is told, and not copied", got[0] == 1 and sorted(scene.near_messages()) == [1], got)
+        tally.check("it is told, and not copied", got[0] == 1 and any(line.startswith("mbsync: c:INBOX: ") for line in got[1:])
+                    and sorted(scene.near_messages()) == [1], got)
 
 
 def endless_replies(tally):
-    """A server repeats replies of the kind that was asked for."""
-    kinds = (("CAPABILITY", b"CAPABILITY", b"* CAPABILITY IMAP4rev1 IMAP4rev2\r\n"), ("UIDNEXT", b"SELECT", b"* OK [UIDNEXT 2] next\r\n"),
-             ("one LIST line", b"LIST", b'* LIST () "/" "INBOX"\r\n'), ("FLAGS", b"SELECT", b"* FLAGS (\\Seen)\r\n"),
-             ("PERMANENTFLAGS", b"SELECT", b"* OK [PERMANENTFLAGS (\\Seen \\*)] flags\r\n"))
-    for name, verb, line in kinds:
+    """A server repeats replies of the kind that was asked for. Those that are kept stop the run at last; FLAGS is dropped as it comes, and
+    of LIST replies more may come."""
+    kinds = (("CAPABILITY", b"CAPABILITY", b"* CAPABILITY IMAP4rev1 IMAP4rev2\r\n", 1, MEMORY), ("UIDNEXT", b"SELECT", b"* OK [UIDNEXT 2] next\r\n", 1, MEMORY),
+             ("one LIST line", b"LIST", b'* LIST () "/" "INBOX"\r\n', 0, MEMORY + ENDLESS // MB * LIST_COST),
+             ("FLAGS", b"SELECT", b"* FLAGS (\\Seen)\r\n", 0, MEMORY),
+             ("PERMANENTFLAGS", b"SELECT", b"* OK [PERMANENTFLAGS (%s)] flags\r\n" % b" ".join(sorted(IMAP_NAMES.values())), 1, MEMORY))
+    for name, verb, line, status, memory in kinds:
         with Stale(ONE) as scene:
             _, usual = peak_of(scene, "c")
-            scene.server.script = lambda talk, command, verb=verb, line=line: (
-                command.verb == verb and command.count > 0 and (repeat(talk, line), False)[1])
+            sent = []
+            scene.server.script = lambda talk, command, verb=verb, line=line, sent=sent: (
+                command.verb == verb and (repeat(talk, itertools.repeat(line), ENDLESS, sent), False)[1])
             start = time.monotonic()
             got, peak = peak_of(scene, "c")
-            tally.tell(f"{ENDLESS // MB} MB of {name}: {peak:.1f} MB of memory, else {usual:.1f} MB, {time.monotonic() - start:.1f} s: {got[0]}")
-            tally.check(f"memory under endless {name} is bounded", peak < usual + MEMORY, f"{peak:.1f} MB")
+            tally.tell(f"{ENDLESS // MB} MB of {name}: {peak:.1f} MB of memory, else {usual:.1f} MB, {time.monotonic() - start:.1f} s: {got}")
+            tally.same(f"endless {name} {'stops' if status else 'does not stop'} the run", got[0], status)
+            tally.check(f"memory under endless {name} is bounded", sum(sent) > 0 and peak < usual + memory, f"{peak:.1f} MB")
             scene.server.script = None
             tally.same("without them the run is whole", [scene.run("c"), *scene.sides()], [CLEAN, near(ONE), far(ONE)])
 
 
-def repeat(talk, line):
-    """Says a line again and again."""
-    many = line * (MB // len(line))
+def endless_names(tally):
+    """A server lists mailboxes without an end: one name again and again, or always another one."""
+    one = itertools.repeat(b'* LIST () "/" "work"\r\n')
+    others = (b'* LIST () "/" "box%07d"\r\n' % number for number in itertools.count())
+    for name, lines in (("one name", one), ("other names", others)):
+        with Edge(ONE, create="Both") as scene:
+            _, usual = peak_of(scene, "all")
+            sent = []
+            scene.server.script = lambda talk, command, lines=lines, sent=sent: (
+                command.verb == b"LIST" and (repeat(talk, lines, NAMES, sent), False)[1])
+            got, peak = peak_of(scene, "all")
+            tally.tell(f"endless LIST replies with {name}: {peak:.1f} MB of memory, else {usual:.1f} MB: {got}")
+            tally.check("they stop the run", got[0] == 1, str(got))
+            tally.check("where they are too many, and long before all have come", LIST_MOST - MB < max(sent) < 3 * LIST_MOST, str(sent))
+            tally.check("memory is bounded", peak < usual + LIST_MEMORY, f"{peak:.1f} MB")
+            scene.server.script = None
+            tally.same("without them the run is whole", [scene.run("all"), *scene.sides()], [[0, "all:INBOX", "ran"], near(ONE), far(ONE)])
+
+
+def repeat(talk, lines, most, sent):
+    """Says so many bytes of lines, as long as someone listens, and notes how many it said."""
+    sent.append(0)
     try:
-        for _ in range(ENDLESS // len(many)):
-            talk.stream.sendall(many)
+        while sent[-1] < most:
+            some = b"".join(itertools.islice(lines, 10000))
+            talk.stream.sendall(some)
+            sent[-1] += len(some)
     except (BrokenPipeError, ConnectionResetError):
         # The client has had enough.
         return
@@ -127,7 +159,7 @@ def many_mailboxes(tally):
             tally.same(f"{count} mailboxes are listed", [got[0], len(got)], [0, count + 1])
             seconds.append(min(times))
     tally.tell(f"{MAILBOXES // 4} mailboxes in {seconds[0]:.2f} s, {MAILBOXES} in {seconds[1]:.2f} s")
-    tally.check("four times as many take less than nine times as long", seconds[1] < 9 * seconds[0] + 0.2, str(seconds))
+    tally.check("four times as many take less than six times as long", seconds[1] < 6 * seconds[0] + 0.2, str(seconds))
 
 
 def hidden_password(tally):
@@ -195,7 +227,7 @@ def whole_seconds_in(tally, scene):
 
 def progress(tally):
     """On a terminal the line of progress shows what a silent server is waited for."""
-    for verb, word in ((b"LOGIN", "log"), (b"LIST", "list"), (b"SELECT", "open"), (b"CAPABILITY", "greet|connect|log|far")):
+    for verb, words in ((b"CAPABILITY", "waiting for server"), (b"LOGIN", "logging in"), (b"LIST", "listing mailboxes"), (b"SELECT", "opening the mailbox")):
         with Stale(ONE) as scene:
             shown = []
 
@@ -208,8 +240,8 @@ def progress(tally):
 
             scene.server.script = script
             scene.run_on_terminal("c", out=scene.path("told"))
-            tally.check(f"a server that is silent at {verb.decode()}: it shows on the line of progress",
-                        bool(shown) and re.search(word, shown[0].partition("Script started")[2] or shown[0], re.IGNORECASE) is not None, str(shown))
+            tally.same(f"a server that is silent at {verb.decode()}: the line of progress ends with what it is waited for",
+                       [text.rpartition(": ")[2] for text in shown], [f"{words} .."])
 
 
-SCENES = [stray_file, long_far_message, grown_far_message, endless_replies, many_mailboxes, hidden_password, whole_seconds, progress]
+SCENES = [stray_file, long_far_message, grown_far_message, endless_replies, endless_names, many_mailboxes, hidden_password, whole_seconds, progress]

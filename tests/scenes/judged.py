@@ -1,7 +1,10 @@
 """The scenes of stale.py that try the judge of its rounds: what it has to see, and what it takes to be promised. No program is run."""
 import os
+import socket
 
 from tests.support.promises import kept_far, kept_near, moment_of
+from tests.support.scene import ONE
+from tests.support.scripted_server import ScriptedServer
 from tests.support.stale_rounds import Course
 
 STATE = "mbsync state 2\nrun 3\nfar 1 9\nnear 1 9\ne 5 6 %s\nend\n"
@@ -43,6 +46,7 @@ def filled():
     course = Course(1)
     for number in (1, 2, 3):
         data = b"Message-ID: <m%d@stale>\r\n\r\ntext %d\r\n" % (number, number)
+        course.person.made[f"m{number}"] = data
         course.scene.inbox().add(data)
         course.scene.write(f"inbox/cur/{number}.x,U={number}:2,", data.replace(b"\r\n", b"\n"))
     course.person.known()
@@ -80,15 +84,45 @@ def change(course):
     course.scene.inbox().messages[2] = (frozenset(), course.scene.inbox().messages[2][1] + b"x")
 
 
+def cut_off(course):
+    """Nothing of the message is there but its line of a mark, on both sides."""
+    course.scene.inbox().messages[9] = (frozenset(), b"X-TUID: 123456789012\r\n")
+    course.scene.write("inbox/cur/9.x,U=9:2,", b"X-TUID: 123456789012\n")
+
+
 def judge_sees(tally):
     """Each of these wrongs is seen, and no other."""
     for wrong in (remove_far, remove_near, mark_near, mark_far, double, revive, change):
-        course = filled()
-        tally.same("nothing is wrong at first", [course.judge.look(), course.judge.end()], [[], []])
-        wrong(course)
-        found = course.judge.look() + course.judge.end()
+        found = found_after(tally, wrong)
         tally.check(f"the judge sees {wrong.__name__}", len(found) == 1 and "m2" in found[0], str(found))
-        course.close()
+    found = found_after(tally, cut_off)
+    tally.same("the judge sees cut_off", found, [f"{side}: None has other bytes: b''" for side in ("far", "near")])
 
 
-SCENES = [promises, judge_sees]
+def found_after(tally, wrong):
+    """What the judge sees of this wrong, with which a person goes on."""
+    course = filled()
+    tally.same("nothing is wrong at first", [course.judge.look(), course.judge.end()], [[], []])
+    wrong(course)
+    found = course.judge.look() + course.judge.end()
+    course.person.known()
+    course.person.act()
+    course.close()
+    return found
+
+
+def cut_append(tally):
+    """A client ends before or within a message that it sends, as one that is killed: the server of the rounds keeps nothing of it."""
+    for sent in (b"", b"Subject: cut", b"Subject: cut off"):
+        server = ScriptedServer([ONE])
+        with socket.create_connection(("127.0.0.1", server.port)) as client:
+            client.sendall(b"a LOGIN u p\r\nb APPEND \"INBOX\" () {16}\r\n" + sent)
+            client.shutdown(socket.SHUT_WR)
+            while client.recv(1000):
+                continue
+        server.rest()
+        tally.same(f"{len(sent)} of 16 bytes are sent", [data for _, data in server.boxes["INBOX"].messages.values()], [ONE])
+        server.stop()
+
+
+SCENES = [promises, judge_sees, cut_append]

@@ -76,7 +76,7 @@ def named_with_an_own_part(tally):
         scene.server.boxes["a/tmp"] = Box([TWO])
         scene.configure(imap_store(scene.server.port) + maildir_store("~/mail", "~/inbox") + "Channel c\nFar :far:a/tmp\nNear :near:a/tmp\nCreate Both\n")
         told = scene.run("c")
-        tally.check("a mailbox of such a name is refused", told[0] != 0, told)
+        tally.same("a mailbox of such a name is refused", told[:2], [1, "mbsync: config channel c: mailbox a/tmp"])
         tally.same("nothing is made near", os.path.exists(scene.path("mail/a")), False)
 
 
@@ -127,6 +127,8 @@ def folder_spelled(tally):
         scene.write("mail/Inbox/cur/17.old:2,S", near_text(THREE))
         told = [scene.run("all") for _ in range(2)]
         tally.same("the runs are whole, and nothing is made at the server", [[it[0] for it in told], sorted(scene.server.boxes)], [[0, 0], ["INBOX", "work"]])
+        tally.same("it is skipped, with a notice in each", told[1], [0, "all:work", "ran", "mbsync: skipped for its name: near:Inbox"])
+        tally.same("that comes once", [it.count("mbsync: skipped for its name: near:Inbox") for it in told], [1, 1])
         tally.same("its file is as it was", os.listdir(scene.path("mail/Inbox/cur")), ["17.old:2,S"])
 
 

@@ -106,6 +106,22 @@ def undeleted_far(tally):
             tally.same("then there is nothing to do", told, CLEAN)
 
 
+def undeleted_far_alone(tally):
+    """A file is removed; the run is cut before the expunge, and the mark that it made is taken off at the server."""
+    for expunge in ("Both", "Far"):
+        with Stale(ONE, TWO, expunge=expunge) as scene:
+            scene.take_away(2)
+            scene.cut_at("c", when=says(b"UID EXPUNGE"))
+            tally.same("a run is cut before the expunge", scene.far_messages()[2][0], "T")
+            scene.mark_far(2, "")
+            tally.same("undeleted at the server, its file removed: the run ends, and UID EXPUNGE spares it", scene.run("c"),
+                       [0, "c:INBOX", "expunge far 2", "finished"])
+            tally.same(f"Expunge {expunge}: it is kept at the server alone", scene.sides(), [near(ONE), far(ONE, TWO)])
+            for _ in range(2):
+                tally.same("then there is nothing to do", scene.run("c"), CLEAN)
+            tally.same("and it stays", scene.sides(), [near(ONE), far(ONE, TWO)])
+
+
 def undeleted_far_told(tally):
     """The same, and what the run says."""
     with Stale(ONE, TWO) as scene:
@@ -194,6 +210,7 @@ def giving_up_is_cut(tally):
             tally.same(f"killed at command {count}: each message is kept, once",
                        [told, scene.near_messages(), scene.far_messages()],
                        [CLEAN, {**near(ONE, TWO), 3: ("", near_text(numbered(1)[0]))}, {**far(ONE, TWO), 3: ("", numbered(1)[0])}])
+    tally.fails("giving up comes to its end after fewer than 30 commands")
 
 
 def other_keywords(tally):
@@ -224,5 +241,5 @@ def changed_validity(tally):
         tally.same("nothing is given up", scene.own(), before)
 
 
-SCENES = [put_back, put_back_some, undeleted_near, undeleted_late, undeleted_far, undeleted_far_told, put_back_late, odd_way_back,
+SCENES = [put_back, put_back_some, undeleted_near, undeleted_late, undeleted_far, undeleted_far_alone, undeleted_far_told, put_back_late, odd_way_back,
           copies_of_a_given_up_plan, giving_up_is_cut, other_keywords, changed_validity]

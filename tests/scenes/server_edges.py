@@ -180,6 +180,21 @@ def earlier_midway(tally):
         scene.server.boxes["INBOX"] = box
         tally.same("put right, it is taken, and the run goes on", scene.run("c"), [0, "c:INBOX", "new push 4 -> 4", "finished"])
         tally.same("each message is there once", scene.sides(), [near(ONE, TWO, THREE, FOUR), far(ONE, TWO, THREE, FOUR)])
+    with Edge(ONE) as scene:
+        scene.run("c")
+        box, earlier = scene.inbox(), copy.deepcopy(scene.inbox())
+        scene.write("inbox/new/17.mine", near_text(TWO))
+        scene.write("inbox/new/18.mine", near_text(THREE))
+        scene.server.script = lambda talk, command: command.verb == b"APPEND" and len(box.messages) == 2 and (talk.hang_up(), True)
+        tally.same("a run is stopped after its first push", scene.run("c"), stopped(ENDED))
+        scene.server.script, scene.server.boxes["INBOX"] = None, earlier
+        before = [scene.own(), scene.sides()]
+        for words in (("c",), ("--expunge", "c")):
+            tally.same("a server from before a copy of the plan is told", scene.run(*words), stopped(EARLIER % (2, 2)))
+            tally.same("nothing is done", [scene.own(), scene.sides()], before)
+        scene.server.boxes["INBOX"] = box
+        tally.same("put right, the rest is pushed", scene.run("c"), [0, "c:INBOX", "new push 3 -> 3", "finished"])
+        tally.same("each message is there once", scene.sides(), [near(ONE, TWO, THREE), far(ONE, TWO, THREE)])
 
 
 def given_twice(tally):

@@ -205,10 +205,16 @@ def inbox(tally):
         tally.same("Inbox below Path is no mailbox beside INBOX", scene.run("all"), [0, "all:INBOX", "ran"])
         tally.same("nor is it in the configuration", scene.run("other"), [0, "other:INBOX", "ran"])
         scene.near("mail/INBOX")
-        notice = "mbsync: skipped for its name: near:INBOX"
-        tally.same("another folder of this name is skipped", scene.run("-l", "all"), [0, "all:INBOX"])
-        scene.configure(text.replace("* INBOX", "INBOX"))
-        tally.same("with a notice", scene.run("-l", "all"), [0, "all:INBOX", notice])
+        scene.near("mail/iNbOx")
+        notices = [f"mbsync: skipped for its name: near:{name}" for name in ("INBOX", "iNbOx")]
+        # Which of these folders could be chosen, were INBOX a name like others: the pattern INBOX is the only one that matches INBOX.
+        for patterns, listed, told in (("* INBOX", ["all:INBOX"], notices), ("INBOX", ["all:INBOX"], notices[:1]), ("*", [], notices[1:]),
+                                       ("a*", [], [])):
+            scene.configure(text.replace("* INBOX", patterns))
+            tally.same(f"other folders of this name are skipped, with Patterns {patterns} and -l", scene.run("-l", "all"), [0, *listed, *told])
+            tally.same("and in a run", scene.run("all"), [0, *(line for box in listed for line in (box, "ran")), *told])
+        tally.same("nothing is made of them", [list(scene.server.boxes), scene.near_messages("mail/INBOX"), scene.near_messages("mail/iNbOx")],
+                   [["INBOX"], {}, {}])
 
 
 def begun(tally):

@@ -38,6 +38,8 @@ class Person:
     def __init__(self, scene, rng):
         self.scene, self.rng, self.log = scene, rng, []
         self.messages, self.count, self.covered = {}, 0, None
+        # The bytes of each message that was made, by its name.
+        self.made = {}
         self.place = {"far": set(), "near": set()}
 
     # ---- what stands on both sides
@@ -63,13 +65,13 @@ class Person:
         return None
 
     def known(self):
-        """Learns the messages that stand on both sides, and lets what was learnt of the others stand."""
+        """Learns the messages that stand on both sides, and lets what was learnt of the others stand. One that nobody made is the judge's."""
         far, near = self.far(), {}
         for path, parts in self.near_files():
             with open(path, "rb") as file:
                 near[name_of(file.read())] = int(parts["uid"]) if parts and parts["uid"] else None
         for name in set(far) & set(near):
-            if name not in self.messages and near[name]:
+            if name in self.made and name not in self.messages and near[name]:
                 self.messages[name] = Message(name, {"far": far[name][0], "near": near[name]})
         for message in self.messages.values():
             message.own.clear()
@@ -86,7 +88,7 @@ class Person:
         kinds = kinds or (self.mark_near, self.mark_near, self.mark_far, self.take, self.take, self.remove, self.expunge, self.undelete_near,
                           self.undelete_far, self.put_back, self.spoil, self.flag, self.move)
         kind = self.rng.choice(kinds)
-        able = [it for _, it in sorted(self.messages.items(), key=lambda pair: str(pair[0])) if not it.odd]
+        able = [it for _, it in sorted(self.messages.items()) if not it.odd]
         self.rng.shuffle(able)
         for message in able:
             try:
@@ -236,6 +238,7 @@ class Person:
         self.count += 1
         name = f"m{self.count}"
         data = b"Message-ID: <%s@stale>\r\nSubject: %s\r\n\r\ntext of %s\r\n" % ((name.encode(),) * 3)
+        self.made[name] = data
         if self.rng.random() < 0.5:
             self.scene.inbox().add(data)
             self.place["far"].add(name)

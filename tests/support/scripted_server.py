@@ -125,7 +125,9 @@ class Talk:
         name, flags, size = re.match(rb"(\S+) \(([^)]*)\) (?:\"[^\"]*\" )?\{(\d+)\}\Z", command.words).groups()
         self.send(b"+ go")
         data = self.file.read(int(size))
-        self.file.readline()
+        if self.file.readline() == b"":
+            # The client has ended in the middle: a server keeps nothing of such a message.
+            raise ConnectionResetError
         box = self.server.boxes[plain(name).decode()]
         uid = box.add(data, letters_of(flags))
         if not (self.server.added and self.server.added(self, command)):
@@ -173,12 +175,22 @@ class ScriptedServer(Listening):
     def __init__(self, messages=(), name="INBOX"):
         self.boxes, self.counts = {name: Box(messages)}, {}
         self.script = self.added = None
+        self.talks, self.lock = [], threading.Lock()
         self.connections, self.greeting = 0, b"* OK ready"
         super().__init__()
 
     def take(self, stream):
         """Serves a connection in a thread of its own."""
-        threading.Thread(target=self.talk, args=(stream,), daemon=True).start()
+        with self.lock:
+            self.talks.append(threading.Thread(target=self.talk, args=(stream,), daemon=True))
+            self.talks[-1].start()
+
+    def rest(self):
+        """Waits until the connections have ended: what clients sent before they ended is done then."""
+        with self.lock:
+            talks, self.talks = self.talks, []
+        for talk in talks:
+            talk.join(10)
 
     def talk(self, stream):
         try:

@@ -23,10 +23,10 @@ CLEAN = [0, "c:INBOX", "ran"]
 
 
 class Judge:
-    """Knows the bytes of each message, and on which side it was seen. It knows nothing of states and plans."""
+    """Knows the bytes of each message that was made, and on which side it was seen. It knows nothing of states and plans."""
 
     def __init__(self, person):
-        self.person, self.bytes = person, {}
+        self.person = person
         self.ever = {"far": set(), "near": set()}
         self.last = {"far": set(), "near": set()}
 
@@ -42,16 +42,17 @@ class Judge:
         return found
 
     def look(self, may_come=()):
-        """What is wrong now with what stands on both sides: something twice, with other bytes, or back where it had gone."""
+        """What is wrong now with what stands on both sides: something twice, with other bytes than were made, as of a message that was cut
+        off, or back where it had gone."""
         wrong = []
         for side, messages in self.sides().items():
             there = Counter(name for name, _, _ in messages)
             wrong += [f"{side}: {name} is there {count} times" for name, count in there.items() if count > 1]
             for name, _, data in messages:
-                if self.bytes.setdefault(name, data) != data:
-                    wrong.append(f"{side}: {name} has other bytes")
+                if self.person.made.get(name) != data:
+                    wrong.append(f"{side}: {name} has other bytes: {data!r}")
             back = set(there) - self.last[side] - set(may_come)
-            wrong += [f"{side}: {name} has come back" for name in sorted(back & self.ever[side])]
+            wrong += [f"{side}: {name} has come back" for name in sorted(map(str, back & self.ever[side]))]
             self.ever[side] |= set(there)
             self.last[side] = set(there)
         return wrong
@@ -132,6 +133,8 @@ class Course:
         process.append(scene.start("c"))
         started.set()
         told = ended(process[0])
+        # A command may have come just before the client was killed.
+        scene.server.rest()
         scene.server.script, person.covered = None, None
         person.log.append(f"run: {told}")
         self.count(told)

@@ -144,8 +144,10 @@ def do_silently(talk, command):
     """Does what a command asks for, and drops the answer."""
     if command.verb == b"APPEND":
         talk.server.added, kept = lambda *_: True, talk.server.added
-        talk.answer(command)
-        talk.server.added = kept
+        try:
+            talk.answer(command)
+        finally:
+            talk.server.added = kept
     else:
         talk.send = lambda *_: None
         talk.answer(command)

@@ -63,7 +63,10 @@ class Tally:
             self.fails(f"the scene {name} comes to its end\n{traceback.format_exc()}")
 
     def play(self, scenes, names=()):
-        """Plays the scenes, or those whose names contain one of these, and ends the script."""
+        """Plays the scenes, or those whose names contain one of these, and ends the script. A name that is in none is a failed check."""
+        for name in names:
+            if not any(name in scene.__name__ for scene in scenes):
+                self.fails(f"no scene has {name} in its name")
         for scene in scenes:
             if not names or any(name in scene.__name__ for name in names):
                 with self.scene(scene.__name__):
