@@ -11,6 +11,7 @@
 //! | `play for each B from N to M` | the trial is played once for each number from N to M, in place of each word `B` of its text: where all numbers of a range have the same answer, it is told once behind the range |
 //! | `play for each B from N to M over loopback` | the same over loopback connections |
 //! | `play for each B from N to M behind a face` | the same behind faces |
+//! | `play for each B from N to M in pieces` | whether each comes to the same as in memory where what the server says is received in pieces |
 #![tactic(auto)]
 
 mod numbered;

@@ -17,6 +17,17 @@ pub fn run(rt: &HostRuntime, script: &mut Script<'_>) -> Result<(), Failure> {
     play_all(rt, &mut Trials { rt, text }, script)
 }
 
+/// What is printed where pieces make no difference.
+const AS_IN_MEMORY: &str = "as in memory";
+
+/// How the far mailbox is reached.
+enum Way {
+    /// In one way.
+    Link(Request),
+    /// In memory, where what the server says comes in pieces of each size.
+    Pieces,
+}
+
 /// The trial that is played.
 #[derive(Drop)]
 struct Trials<'a> {
@@ -51,46 +62,40 @@ impl Trials<'_> {
         Ok(self.text.extend_from_slice(text)?)
     }
 
-    /// `over loopback`, `behind a face`, `in pieces`, or `for each B from N to M`, behind which the first two may stand.
+    /// `for each B from N to M`, or nothing, and then how the far mailbox is reached.
     fn play_as(&self, line: &mut Words<'_>, told: &mut Told) -> Result<(), Failure> {
         match line.word() {
-            "over" => {
-                expect(line, "loopback");
-                self.play_text(Request::Loopback, told)
-            }
-            "behind" => {
-                expect(line, "a");
-                expect(line, "face");
-                self.play_text(Request::Face, told)
-            }
-            "in" => {
-                expect(line, "pieces");
-                self.play_in_pieces(told)
-            }
             "for" => {
                 expect(line, "each");
                 expect(line, PLACE);
                 self.play_each(line, told)
             }
-            _ => Err(Failure::Script),
+            word => match way_of(word, line) {
+                Way::Link(request) => self.play_text(request, told),
+                Way::Pieces => self.play_in_pieces(told),
+            },
         }
     }
 
-    /// Tells that the trial comes to the same as in memory where what the server says comes in pieces, or what it comes to.
+    /// Prints that the trial comes to the same as in memory where what the server says comes in pieces, or what it comes to.
     fn play_in_pieces(&self, told: &mut Told) -> Result<(), Failure> {
-        let whole = self.answer(Request::Memory, &self.text)?;
-        let mut are_same = true;
-        for piece in PIECES {
-            let answer = self.answer(Request::Pieces(piece as usize), &self.text)?;
-            if answer.as_str() != whole.as_str() {
-                are_same = false;
-                tell_range(told, piece, piece, &answer);
-            }
-        }
-        if are_same {
-            told.answer("as in memory");
+        match self.other_in_pieces(&self.text)? {
+            Some((piece, answer)) => tell_range(told, piece, piece, &answer),
+            None => told.answer(AS_IN_MEMORY),
         }
         Ok(())
+    }
+
+    /// The first size of pieces in which this trial comes to something else than in memory, and what it comes to.
+    fn other_in_pieces(&self, text: &[u8]) -> Result<Option<(u32, Told)>, Failure> {
+        let whole = self.answer(Request::Memory, text)?;
+        for piece in PIECES {
+            let answer = self.answer(Request::Pieces(piece as usize), text)?;
+            if answer.as_str() != whole.as_str() {
+                return Ok(Some((piece, answer)));
+            }
+        }
+        Ok(None)
     }
 
     /// Tells what the trial comes to.
@@ -100,13 +105,30 @@ impl Trials<'_> {
         Ok(())
     }
 
-    /// `from N to M`: tells what it comes to with each of these numbers.
+    /// `from N to M`, and how the far mailbox is reached: prints what it comes to with each of these numbers.
     fn play_each(&self, line: &mut Words<'_>, told: &mut Told) -> Result<(), Failure> {
         expect(line, "from");
         let first = line.number();
         expect(line, "to");
         let last = line.number();
-        let request = link_of(line);
+        if line.is_over() {
+            return self.play_range(Request::Memory, first, last, told);
+        }
+        let word = line.word();
+        match way_of(word, line) {
+            Way::Link(request) => self.play_range(request, first, last, told),
+            Way::Pieces => self.play_range_in_pieces(first, last, told),
+        }
+    }
+
+    /// Prints what it comes to with each of these numbers.
+    fn play_range(
+        &self,
+        request: Request,
+        first: u32,
+        last: u32,
+        told: &mut Told,
+    ) -> Result<(), Failure> {
         let mut start = first;
         let mut same = Told::new(self.rt.alloc());
         for number in first..=last {
@@ -118,6 +140,23 @@ impl Trials<'_> {
             same = answer;
         }
         tell_range(told, start, last, &same);
+        Ok(())
+    }
+
+    /// Prints that with each of these numbers it comes to the same as in memory where what the server says comes in pieces, or what it
+    /// comes to with those for which it does not.
+    fn play_range_in_pieces(&self, first: u32, last: u32, told: &mut Told) -> Result<(), Failure> {
+        let mut are_same = true;
+        for number in first..=last {
+            let text = numbered(self.rt.alloc(), &self.text, number);
+            if let Some((_, answer)) = self.other_in_pieces(text.as_str().as_bytes())? {
+                are_same = false;
+                tell_range(told, number, number, &answer);
+            }
+        }
+        if are_same {
+            told.answer(AS_IN_MEMORY);
+        }
         Ok(())
     }
 
@@ -151,24 +190,25 @@ fn expect(line: &mut Words<'_>, word: &str) {
     }
 }
 
-/// `over loopback`, `behind a face`, or nothing: how the far mailbox is reached.
-fn link_of(line: &mut Words<'_>) -> Request {
-    if line.is_over() {
-        return Request::Memory;
-    }
-    match line.word() {
+/// How the far mailbox is reached: `over loopback`, `behind a face`, or `in pieces`, of which the first word is taken.
+fn way_of(word: &str, line: &mut Words<'_>) -> Way {
+    match word {
         "over" => {
             expect(line, "loopback");
-            Request::Loopback
+            Way::Link(Request::Loopback)
         }
         "behind" => {
             expect(line, "a");
             expect(line, "face");
-            Request::Face
+            Way::Link(Request::Face)
+        }
+        "in" => {
+            expect(line, "pieces");
+            Way::Pieces
         }
         _ => {
             line.refuse();
-            Request::Memory
+            Way::Pieces
         }
     }
 }
