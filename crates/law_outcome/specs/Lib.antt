@@ -3,3 +3,4 @@ pub mod OtherUids
 pub mod AlikeLaws
 pub mod Examples
 pub mod GivenUpLaws
+pub mod Unlike

@@ -7,6 +7,7 @@ ghost use Rattle.law_outcome.specs.CommitLaws as commit_law;
 ghost use Rattle.law_outcome.specs.Examples as example;
 ghost use Rattle.law_outcome.specs.GivenUpLaws as given_up;
 ghost use Rattle.law_outcome.specs.OtherUids as other_uids;
+ghost use Rattle.law_outcome.specs.Unlike as unlike;
 
 /// The state that a finished journal of a plan makes of the one before is the state after the run, under the UIDs that
 /// were given and in the order of its entries.
@@ -76,4 +77,13 @@ pub fn finished_run_is_alike()
 pub fn examples_are_alike()
     ensures late { example.LateIsAlike }
     ensures cleaned { example.CleanedIsAlike }
+{}
+
+/// What is alike to an outcome has its waiting files and its UIDVALIDITYs, and gives no UID a second time. How many messages and entries it
+/// has, and which, crate `law_alike` says.
+pub fn unlike_worlds_are_refused()
+    ensures files { unlike.FilesStay }
+    ensures validities { unlike.ValiditiesStay }
+    ensures recorded { unlike.RecordedValiditiesStay }
+    ensures next { unlike.NextUidsStay }
 {}
