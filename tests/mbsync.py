@@ -176,9 +176,12 @@ def usage(tally):
 
 def what_does_not_open(tally):
     with Scene() as scene:
-        tally.same("HOME is not set", scene.run("c", home=False), [1, "mbsync: cannot open .mbsyncrc"])
-        tally.same("FILE is not there", scene.run("-c", "nope", "c"), [1, "mbsync: cannot open nope"])
-        tally.same("FILE is a folder", scene.run("-c", ".", "c"), [1, "mbsync: cannot open ."])
+        tally.same("HOME is not set", scene.run("c", home=False),
+                   [1, "mbsync: cannot open .mbsyncrc", "  HOME is not set; name the file with -c"])
+        tally.same("FILE is not there", scene.run("-c", "nope", "c"),
+                   [1, "mbsync: cannot open nope", "  there is no such file; see mbsync(1), Configuration, and -c"])
+        tally.same("FILE is a folder", scene.run("-c", ".", "c"),
+                   [1, "mbsync: cannot open .", "  it is a folder; name a file"])
         tally.same("a write that fails", scene.run("-l", "c", out=open("/dev/full", "wb"))[0], 1)
         scene.server.stop()
         tally.same("no server", scene.run("c")[:2], [1, "mbsync: cannot open far"])
@@ -198,9 +201,11 @@ def bad_configurations(tally):
     with Scene() as scene:
         text = "IMAPStore far\nHost h\nUser u\nPass p\n\nMaildirStore near\nPath ~/mail/\n\nChannel c\nFar :far:\nNear :near:\nPatterns * !Sp%\n"
         scene.configure(text + "Sync PullNew Pull\n")
-        tally.same("a cell twice", scene.run("c"), [1, "mbsync: config line 13: kind 9", "  cell asserted twice"])
+        file = scene.path(".mbsyncrc")
+        twice = "Sync names a part twice: Full is New, Gone and Flags, Pull alone is PullNew, PullGone and PullFlags"
+        tally.same("a cell twice", scene.run("c"), [1, "mbsync: config line 13: kind 9", f"  {file}, line 13: {twice}"])
         scene.configure(text.replace("Host h\n", ""))
-        tally.same("a keyword that lacks", scene.run("c"), [1, "mbsync: config line 1: kind 8", "  required keyword missing"])
+        tally.same("a keyword that lacks", scene.run("c"), [1, "mbsync: config line 1: kind 8", f"  {file}, line 1: IMAPStore far lacks Host"])
         tally.same("the words are looked at first", scene.run("--pull", "--noop", "c"), [2, "mbsync: sync words"])
 
 

@@ -1,7 +1,7 @@
 #!/usr/bin/env python3
 """Looks whether mbsync, isync and mblaze read each other's Maildir folders.
 
-isync pulls and pushes through a go-between; its state is converted by the script of docs/MBSYNC.md, and mbsync has to find nothing to do,
+isync pulls and pushes through a go-between; its state is converted by bin/mbsync-from-isync, and mbsync has to find nothing to do,
 and then to go on. mbsync pulls; isync has to copy that folder to another one, and mblaze to list it and to set a flag, which mbsync has to
 push. The part of a program that is not installed is skipped, which is printed."""
 import os
@@ -17,7 +17,7 @@ from tests.support.go_between import GoBetween
 from tests.support.imap_side import ImapSide
 from tests.support.maildir_side import MaildirSide
 from tests.support.messages import subjects
-from tests.support.places import TOP
+from tests.support.converted import CONVERTER
 from tests.support.tally import Tally
 from tests.support.trial_imapd import Server, program_over, world
 
@@ -40,15 +40,6 @@ def written(folder, name, text):
     return path
 
 
-def state_script(folder):
-    """The script of the manual page that turns a state of isync into ours."""
-    with open(os.path.join(TOP, "docs", "MBSYNC.md"), encoding="utf-8") as page:
-        lines = page.read().split("\n")
-    start = next(place for place, line in enumerate(lines) if line.strip().startswith("BEGIN "))
-    end = next(place for place in range(start, len(lines)) if lines[place] == "        }")
-    return written(folder, "isync-state.awk", "\n".join(line[8:] for line in lines[start:end + 1]) + "\n")
-
-
 def move_from_isync(folder, server, program):
     """isync's folder and state are taken over."""
     between, near = GoBetween(server.port), MaildirSide(os.path.join(folder, "INBOX"))
@@ -58,11 +49,10 @@ def move_from_isync(folder, server, program):
     told = run(ISYNC, "-c", its, "box")
     TALLY.check("isync pulls and pushes", told[0] == 0 and len(near.messages()) == 4, told)
     state = os.path.join(near.path, ".mbsyncstate")
-    shutil.move(state, state + ".isync")
-    told = run("awk", "-f", state_script(folder), state + ".isync")
-    with open(state, "w", encoding="ascii") as file:
-        file.write(told[1])
-    TALLY.check("isync's state is turned into ours", told[0] == 0 and told[1].count("\ne ") == 4, told)
+    told = run(CONVERTER, its)
+    shutil.move(state + ".from-isync", state)
+    with open(state, encoding="ascii") as file:
+        TALLY.check("isync's state is turned into ours", told[0] == 0 and file.read().count("\ne ") == 4, told)
     before = near.messages()
     told = run(program, "-c", ours, "box")
     TALLY.check("mbsync takes it over, and has nothing to do", told == (0, "box:INBOX\nran\n", ""), told)

@@ -11,6 +11,7 @@ from tests.support.scene import ONE, TWO, near_text
 from tests.support.scripted_server import BODY, HEAD, LISTING, body_told
 
 UNREACHED = "the server of IMAPStore far cannot be reached (connection refused): check its Host and Port, and run again"
+UNKNOWN_HOST = "the server of IMAPStore far cannot be reached: is its name in Host known, and this machine online? Run again then"
 ENDED = "the connection to the server of IMAPStore far ended: run again"
 DISMISSED = "the server of IMAPStore far ended the session: run again"
 # What is told of a message that the server lists and does not give.
@@ -29,6 +30,11 @@ def not_reached(tally):
     with Edge(ONE) as scene:
         scene.server.stop()
         tally.same("no server", [scene.run("c"), scene.sides()], [[1, "mbsync: cannot open far", "  " + UNREACHED], [{}, far(ONE)]])
+    with Edge(ONE) as scene:
+        with open(scene.path(".mbsyncrc"), encoding="ascii") as file:
+            text = file.read()
+        scene.configure(text.replace("Host 127.0.0.1", "Host nobody.invalid"))
+        tally.same("a name that is not known", scene.run("c"), [1, "mbsync: cannot open far", "  " + UNKNOWN_HOST])
     with Edge(ONE) as scene:
         scene.server.script = lambda talk, command: command.verb == b"SELECT" and (scene.server.stop(), talk.hang_up())
         tally.same("a server that is gone once it was asked", scene.run("c"), stopped(UNREACHED))

@@ -2,18 +2,19 @@
 import os
 import re
 import shutil
-import subprocess
 from collections import Counter
 
-from tests.neighbours import state_script
+from tests.support.configuration import imap_store
+from tests.support.converted import convert
 from tests.support.edge_scene import THREE, Edge, far, near
-from tests.support.scene import ONE, TWO, near_text
+from tests.support.scene import HOME_STORE, ONE, TWO, near_text
 from tests.support.scripted_server import BODY, Box, body_told
 from tests.support.stale_scene import Stale, numbered, says, told_of
 
 CLEAN = [0, "c:INBOX", "ran"]
 JOURNAL_LINE = re.compile(r"\"([dv] \d+)\"")
 STATE_OF_ISYNC = "FarUidValidity 1\nNearUidValidity %s\nMaxPulledUid 2\nMaxPushedUid 2\n\n1 1 S\n2 2 \n"
+ISYNCS_CHANNEL = "Channel c\nFar :far:INBOX\nNear :near:INBOX\nSyncState *\n"
 HARM = ("remove .mbsyncstate", "take .mbsyncstate")
 
 
@@ -218,8 +219,11 @@ def isyncs_state(tally):
         advice = " ".join(faults(told))
         tally.check("isync's state is told, with the converter", "mbsync: c:INBOX: bad state 1" in told and "How to move from isync" in advice, told)
         tally.check("it says that it is isync's, and offers no removal", "isync's" in advice and not any(words in advice for words in HARM), told)
-        made = subprocess.run(["awk", "-f", state_script(scene.home), scene.path("inbox/.mbsyncstate")], capture_output=True, check=True)
-        scene.write("inbox/.mbsyncstate", made.stdout)
+        ours = scene.path(".mbsyncrc")
+        shutil.copy(ours, scene.path("ours"))
+        scene.configure(imap_store(scene.server.port, more="SSLType None\n") + HOME_STORE + ISYNCS_CHANNEL)
+        tally.same("it is converted", [convert(scene.home)[0], convert(scene.home, "--switch")[0]], [0, 0])
+        shutil.copy(scene.path("ours"), ours)
         tally.same("converted, nothing comes twice", [scene.run("c"), twice(scene), len(scene.near_messages())], [CLEAN, [], 2])
 
 
