@@ -183,7 +183,7 @@ fn advise_state<E: Write>(err: &mut E, line: usize) -> io::Result<()> {
         ),
         1 => writeln!(
             err,
-            "  .mbsyncstate is isync's, or damaged. Convert isync's: the manual page says how under \"How to move from isync\"\n  \
+            "  .mbsyncstate is isync's, or damaged. Convert isync's with mbsync-from-isync, as the manual page says under \"How to move from isync\"\n  \
              keep it: without it each message would come twice"
         ),
         _ => writeln!(

@@ -1,10 +1,10 @@
-//! What is told behind a fault of an IMAP server, on a line that begins with two spaces.
+//! What to do after a fault of an IMAP server, printed on a line that begins with two spaces.
 
 use crate::store_fault::ServerFault;
 use std::io;
 use std::io::{ErrorKind, Write};
 
-/// Tells why the server of this IMAP store does not open or ended a run, and what can be done. The password is not told.
+/// Prints why the server of this IMAP store does not open or ended a run, and what can be done. The password is not printed.
 pub(crate) fn advise_server<E: Write>(
     err: &mut E,
     store: &str,
@@ -43,9 +43,14 @@ pub(crate) fn advise_server<E: Write>(
     }
 }
 
-/// Tells that a server cannot be reached, and what the system says of it.
+/// Prints that a server cannot be reached, and what the system says of it.
 fn advise_unreached<E: Write>(err: &mut E, store: &str, kind: Option<ErrorKind>) -> io::Result<()> {
     match kind {
+        // Above all a name of a host that is not known.
+        Some(ErrorKind::Uncategorized) => writeln!(
+            err,
+            "  the server of IMAPStore {store} cannot be reached: is its name in Host known, and this machine online? Run again then"
+        ),
         Some(kind) => writeln!(
             err,
             "  the server of IMAPStore {store} cannot be reached ({kind}): check its Host and Port, and run again"

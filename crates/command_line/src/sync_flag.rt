@@ -76,7 +76,7 @@ impl SyncFlag {
             SyncFlag::Gone => "Sync Gone: messages that have gone",
             SyncFlag::Flags => "Sync Flags: changed flags",
             SyncFlag::Full => "Sync Full: new and gone messages and flags",
-            SyncFlag::Noop => "Sync None: nothing",
+            SyncFlag::Noop => "Copy and mark nothing; Expunge still applies",
         }
     }
 }

@@ -1,6 +1,7 @@
 //! Why a run ends before the first channel.
 
-use config_words::fault::{ConfigFault, FaultKind};
+use config_advice::advice::advice;
+use config_words::fault::ConfigFault;
 use std::alloc::{AllocError, AllocFailed, Global};
 use std::io;
 use std::io::ErrorKind;
@@ -10,17 +11,17 @@ use thiserror::Error;
 #[derive(Debug, Drop, Error)]
 pub(crate) enum Failure {
     /// The file of this name cannot be opened, or not be read to its end.
-    #[error("cannot open {0}")]
-    CannotOpen(String),
+    #[error("cannot open {0}\n  {1}")]
+    CannotOpen(String, &'static str),
     /// The configuration is a bad one.
-    #[error("config line {line}: kind {number}\n  {kind}")]
+    #[error("config line {line}: kind {number}{advice}")]
     Config {
         /// The first faulty line, counted from 1.
         line: usize,
         /// The number of what is wrong with it.
         number: u8,
-        /// What is wrong with it.
-        kind: FaultKind,
+        /// What to do, each line behind a line end. Empty where memory ran out.
+        advice: String,
     },
     /// A channel of the configuration names a mailbox that no Maildir store can have.
     #[error("config channel {channel}: mailbox {mailbox}\n  each mailbox has cur, new and tmp, .mbsyncstate.. and .uidvalidity..: no part of a name may be one of these")]
@@ -43,16 +44,35 @@ impl Failure {
     pub(crate) fn at(alloc: Global, name: &str, error: &io::Error) -> Failure {
         match error.kind() {
             ErrorKind::OutOfMemory => Failure::NoMemory,
-            _ => Failure::cannot_open(alloc, name),
+            kind => Failure::cannot_open(alloc, name, reason_of(kind)),
         }
     }
 
-    /// The file of this name cannot be opened.
-    pub(crate) fn cannot_open(alloc: Global, name: &str) -> Failure {
+    /// The file of this name cannot be opened, for this reason.
+    pub(crate) fn cannot_open(alloc: Global, name: &str, reason: &'static str) -> Failure {
         match String::from_str(alloc, name) {
-            Ok(name) => Failure::CannotOpen(name),
+            Ok(name) => Failure::CannotOpen(name, reason),
             Err(AllocError) => Failure::NoMemory,
         }
+    }
+
+    /// The configuration that has this text and stands in this file has this fault.
+    pub(crate) fn config(alloc: Global, file: &str, text: &[u8], fault: ConfigFault) -> Failure {
+        Failure::Config {
+            line: fault.line,
+            number: fault.kind.number(),
+            advice: advice(alloc, file, text, fault).unwrap_or(String::new(alloc)),
+        }
+    }
+}
+
+/// Why a file cannot be opened, and what to do.
+fn reason_of(kind: ErrorKind) -> &'static str {
+    match kind {
+        ErrorKind::NotFound => "there is no such file; see mbsync(1), Configuration, and -c",
+        ErrorKind::PermissionDenied => "no permission; let yourself read it (chmod 600, chown)",
+        ErrorKind::IsADirectory => "it is a folder; name a file",
+        _ => "the system cannot read it",
     }
 }
 
@@ -65,15 +85,5 @@ impl From<AllocError> for Failure {
 impl<T: Drop> From<AllocFailed<T>> for Failure {
     fn from(_fault: AllocFailed<T>) -> Failure {
         Failure::NoMemory
-    }
-}
-
-impl From<ConfigFault> for Failure {
-    fn from(fault: ConfigFault) -> Failure {
-        Failure::Config {
-            line: fault.line,
-            number: fault.kind.number(),
-            kind: fault.kind,
-        }
     }
 }

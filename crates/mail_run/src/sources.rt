@@ -14,6 +14,9 @@ use std::{env, fs};
 /// The configuration file where the command line names none: in the home folder.
 const CONFIG_FILE: &str = ".mbsyncrc";
 
+/// Why it is not found where HOME is not set.
+const NO_HOME: &str = "HOME is not set; name the file with -c";
+
 /// Where random bytes come from.
 const RANDOM: &str = "/dev/urandom";
 
@@ -36,13 +39,16 @@ pub(crate) fn open_config<R: Files + AllocGlobal>(
     let path = match (file, home) {
         (Some(file), _) => String::from_str(alloc, file)?,
         (None, Some(home)) => format!(in alloc; "{home}/{CONFIG_FILE}")?,
-        (None, None) => return Err(Failure::cannot_open(alloc, CONFIG_FILE)),
+        (None, None) => return Err(Failure::cannot_open(alloc, CONFIG_FILE, NO_HOME)),
     };
     let text = match fs::read(rt, path.as_str()) {
         Ok(text) => text,
         Err(error) => return Err(Failure::at(alloc, path.as_str(), &error)),
     };
-    Ok(read_config(alloc, &text)?)
+    match read_config(alloc, &text) {
+        Ok(config) => Ok(config),
+        Err(fault) => Err(Failure::config(alloc, path.as_str(), &text, fault)),
+    }
 }
 
 /// 32 random bytes.

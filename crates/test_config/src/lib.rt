@@ -7,6 +7,7 @@
 //! | `let NAME LINE \| LINE ..` | nothing: `$NAME` is a line that stands for these lines from now on, in the cases behind it too |
 //! | `read LINE \| LINE ..` | what the configuration of these lines says, or its first faulty line and the kind of its fault |
 //! | `bytes "BYTES"` | the same of a text that is escaped as in worlds (docs/FORMATS.md) |
+//! | `advise LINE \| LINE ..`, `advise_bytes "BYTES"` | what `mbsync` prints after the first faulty line and its kind: what to do |
 //! | `long N LINE \| LINE ..` | the same, once each `~~` of the lines is N letters `x` |
 //! | `choose WORD .. : NAME ..` | which of these names the words of Patterns choose |
 //!
@@ -22,6 +23,7 @@
 //! Words are separated by one space, and `''` is the empty word.
 #![tactic(auto)]
 
+mod advised;
 pub mod command_lines;
 mod configs;
 mod patterns;

@@ -1,5 +1,6 @@
 //! How a script of configurations is played.
 
+use crate::advised::tell_advice;
 use crate::configs::tell_read;
 use crate::patterns::tell_chosen;
 use std::alloc::Global;
@@ -41,11 +42,13 @@ impl Player for Shorts {
         match line.word() {
             "let" => self.keep(line),
             "read" => self.read(line.text(), 0, &mut script.told),
+            "advise" => self.advise(line.text(), &mut script.told),
             "long" => {
                 let letters = line.count();
                 self.read(line.text(), letters, &mut script.told)
             }
             "bytes" => tell_read(self.alloc, &mut script.told, &line.bytes(self.alloc)?),
+            "advise_bytes" => tell_advice(self.alloc, &mut script.told, &line.bytes(self.alloc)?),
             "choose" => tell_chosen(self.alloc, &mut script.told, line.text()),
             _ => Err(Failure::Script),
         }
@@ -71,6 +74,16 @@ impl Shorts {
             Err(Failure::NoMemory)
         } else {
             tell_read(self.alloc, told, text.as_str().as_bytes())
+        }
+    }
+
+    /// Prints what to do about the configuration of these lines.
+    fn advise(&self, lines: &str, told: &mut Told) -> Result<(), Failure> {
+        let text = self.text_of(lines, 0);
+        if text.is_lost() {
+            Err(Failure::NoMemory)
+        } else {
+            tell_advice(self.alloc, told, text.as_str().as_bytes())
         }
     }
 
