@@ -99,7 +99,7 @@ fn reason_of(text: &[u8]) -> &'static str {
     if is_plain(text) {
         "a quote is not closed"
     } else {
-        "a character is not printable ASCII; near it, other letters are written as in the manual page, Servers"
+        "a character is not printable ASCII"
     }
 }
 
