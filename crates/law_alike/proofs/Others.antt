@@ -1,5 +1,5 @@
 -- Messages that others added are left to the next run.
-use Rattle.std.proofs.Common.{◌≡◌, ◌≢◌, ◌<◌, ◌≤◌, inl, inr, ℕ, zero, suc, true, false, lt-ltb, List, [], ◌∷◌, ◌++◌, length, map, refl, sym, ap, ◌∙◌, subst, arith}
+use Rattle.std.proofs.Common.{◌≡◌, ◌≢◌, ◌<◌, ◌≤◌, inl, inr, ℕ, zero, suc, true, false, lt-ltb, List, [], ◌∷◌, ◌++◌, Bool, length, map, refl, sym, ap, ◌∙◌, subst, arith}
 use Rattle.std.specs.Prelude.{All, AllPairs, Contains, flat_map, nat_lt}
 use Rattle.std.specs.List.{list_any}
 use Rattle.std.proofs.lemmas.Bool.{both_ways, cases_lt, or_left}
@@ -12,6 +12,7 @@ use Rattle.mailcore.specs.declared.side.Side.{Side}
 use Rattle.mailcore.specs.declared.side.Side.TheVariants.{Far, Near}
 use Rattle.mailcore.specs.Listed.{item_of}
 use Rattle.mailcore.specs.Sides.{source, target, towards}
+use Rattle.mailcore.specs.Stores.{IsStore}
 use Rattle.rules.specs.declared.entry.Entry.{Entry}
 use Rattle.rules.specs.declared.options.Options.{Options}
 use Rattle.rules.specs.Admission.{admission_uids, admitted, next_admitted, numbered_under}
@@ -30,16 +31,18 @@ use Rattle.law_outcome.proofs.Admission.{admitted_sound, turn_admits}
 use Rattle.law_outcome.proofs.Named.{highest_below}
 use Rattle.law_outcome.proofs.Worlds.{kept_below}
 use Rattle.law_steps.specs.OwnLaws.{bears, is_own}
-use Rattle.outside.specs.Devices.{Named}
+use Rattle.outside.specs.Devices.{Device, Named}
 use Rattle.outside.specs.Sparing.{AreOthers}
 use Rattle.outside.proofs.Sparing.{others_last}
+use Rattle.run_states.specs.Conditions.{IsOver}
 use Rattle.run_states.specs.Endings.{DoneAt}
-use Rattle.run_states.specs.Openings.{world_at}
+use Rattle.run_states.specs.Openings.{Opening, world_at}
 use Rattle.run_states.specs.Plans.{names_of}
 use Rattle.run_states.proofs.Naming.{all_before}
 use Rattle.run_states.proofs.Spared.{since_is}
 use Rattle.law_alike.proofs.CalledNext.{called_new}
-use Rattle.law_alike.specs.Others.{IsLeft, IsOthers, OthersAreLeft, OthersAreSpared, OthersStay, OthersAreCopiedNext}
+use Rattle.law_alike.proofs.Runs.{held_pairs}
+use Rattle.law_alike.specs.Others.{BegunHasOrder, HasOrder, IsLeft, IsOthers, OthersAreLeft, OthersAreSpared, OthersStay, OthersAreCopiedNext, OverIsInOrder}
 
 -- ---- messages that rise are told apart by their UIDs
 
@@ -193,8 +196,22 @@ others_stay ours alone opening d d' named here on over side m there other =
     let spared : AreOthers (s.since ++ named) side m.uid = subst (λ (names : List Named). AreOthers names side m.uid) (sym same) (others_spared ours alone opening d' over side m other) in
     s.messages side m there (others_last s.since named side m.uid spared)
 
-pub others_left : OthersAreLeft
-others_left ours alone opening d over order side m others = by_side side others
+pub by_sides : (d : Device) → IsStore d.far → IsStore d.near.store → HasOrder d
+by_sides d far near Far = far
+by_sides d far near Near = near
+
+pub begun_order : BegunHasOrder
+begun_order ours alone opening d begun = let order = begun.grows.in_order in by_sides d order.far order.near
+
+pub over_in_order : OverIsInOrder
+over_in_order ours alone opening d d' order on over =
+    let x = over.holds in
+    let keeps = on.spares.order in
+    record { far = keeps Far (order Far); near = keeps Near (order Near); pairs = held_pairs d' x.state x.pending x.files }
+
+left_in_order : (ours : List ℕ → Bool) (alone : Bool) (opening : Opening ours alone) (d : Device) (over : IsOver opening d) → IsInOrder (world_at d over.holds.state)
+    → (side : Side) (m : Message) → IsOthers over.world over.holds.marks side (admitted (world_at d over.holds.state)) m → IsLeft side m.uid over.holds.state
+left_in_order ours alone opening d over order side m others = by_side side others
   where
     done : DoneAt ours alone opening.named over.world opening.options d
     done = over.holds
@@ -209,7 +226,10 @@ others_left ours alone opening d over order side m others = by_side side others
     by_side Far o = far_left over.world opening.options done.marks (own_world over.world done.marks now) (admitted now) over.grows.in_order over.below done.alike.alike (own_there over.world done.marks now) in_order m o.is_there o.is_no_own
     by_side Near o = near_left over.world opening.options done.marks (own_world over.world done.marks now) (admitted now) over.grows.in_order over.below done.alike.alike (own_there over.world done.marks now) in_order m o.is_there o.is_no_own
 
+pub others_left : OthersAreLeft
+others_left ours alone opening d d' order on over side m others = left_in_order ours alone opening d' over (over_in_order ours alone opening d d' order on over) side m others
+
 pub others_copied_next : OthersAreCopiedNext
-others_copied_next ours alone opening d over order options direction m others on is_fit stays =
-    let left = others_left ours alone opening d over order (source direction) m others in
-    called_new (admitted (world_at d over.holds.state)) options direction m others.is_there left.above left.unnamed on is_fit stays
+others_copied_next ours alone opening d d' order on over options direction m others is_new is_fit stays =
+    let left = others_left ours alone opening d d' order on over (source direction) m others in
+    called_new (admitted (world_at d' over.holds.state)) options direction m others.is_there left.above left.unnamed is_new is_fit stays

@@ -101,7 +101,7 @@ file_pairs : (file : Option (List ℕ)) (s : SyncState) → HoldsState file s �
 file_pairs None s h = subst (λ (es : List Entry). ArePairs es) (sym h.entries) no_pairs
 file_pairs (Some text) s h = let f = h.is_text.fits in f.pairs
 
-held_pairs : (d : Device) (s : SyncState) (p : Pending) → Holds d.files s p → ArePairs s.entries
+pub held_pairs : (d : Device) (s : SyncState) (p : Pending) → Holds d.files s p → ArePairs s.entries
 held_pairs d s p h =
     let one : IsProp (ArePairs s.entries) = hlevel props in
     ∥∥₁_elim h one (λ (held : Held d.files s p). file_pairs d.files.state s held.state_file)

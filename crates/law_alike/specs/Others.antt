@@ -6,6 +6,7 @@ use Rattle.mailcore.specs.declared.side.Side.{Side}
 use Rattle.mailcore.specs.Content.{fit}
 use Rattle.mailcore.specs.FlagSet.{DELETED, has}
 use Rattle.mailcore.specs.Sides.{source}
+use Rattle.mailcore.specs.Stores.{IsStore}
 use Rattle.rules.specs.declared.options.Options.{Options}
 use Rattle.rules.specs.declared.state.SyncState.{SyncState}
 use Rattle.rules.specs.Admission.{admitted}
@@ -20,7 +21,7 @@ use Rattle.outside.specs.Devices.{Device, Named, box}
 use Rattle.outside.specs.GoingOn.{GoesOn}
 use Rattle.outside.specs.Sparing.{AreOthers}
 use Rattle.run_states.specs.Conditions.{IsOver}
-use Rattle.run_states.specs.Openings.{Opening, world_at}
+use Rattle.run_states.specs.Openings.{Opening, Unplanned, world_at}
 
 -- the world that the next plan is made on: what waits has its UIDs
 abbrev pub next_world : Device → SyncState → World
@@ -36,12 +37,29 @@ pub record IsLeft (side : Side) (uid : ℕ) (state : SyncState) : Type 0 where
   pub above : taken_over side state < uid
   pub unnamed : All (λ e. uid_of side e ≢ uid) state.entries
 
--- behind a run that is over each message that others added is left, where the UIDs of both mailboxes stand in order
-abbrev pub OthersAreLeft : Type 0
-OthersAreLeft =
-    (ours : List ℕ → Bool) (alone : Bool) (opening : Opening ours alone) (d : Device) (over : IsOver opening d) →
-    IsInOrder (world_at d over.holds.state) → (side : Side) (m : Message) →
+-- the UIDs of both mailboxes rise and are below the next ones
+abbrev pub HasOrder : Device → Type 0
+HasOrder d = (side : Side) → IsStore (box d side)
+
+-- each message that others added, on a device on which the run is over, is left
+abbrev pub OthersLeft : {ours : List ℕ → Bool} {alone : Bool} → Opening ours alone → Device → Type 0
+OthersLeft opening d =
+    (over : IsOver opening d) (side : Side) (m : Message) →
     IsOthers over.world over.holds.marks side (next_world d over.holds.state) m → IsLeft side m.uid over.holds.state
+
+-- A run that has no plan yet began with mailboxes in order, and a device goes on so. Of the state whose text the files hold the entries are
+-- pairs.
+abbrev pub BegunHasOrder : Type 0
+BegunHasOrder = (ours : List ℕ → Bool) (alone : Bool) (opening : Opening ours alone) (d : Device) → Unplanned opening d → HasOrder d
+
+abbrev pub OverIsInOrder : Type 0
+OverIsInOrder =
+    (ours : List ℕ → Bool) (alone : Bool) (opening : Opening ours alone) (d d' : Device) → HasOrder d → GoesOn d d' →
+    (over : IsOver opening d') → IsInOrder (world_at d' over.holds.state)
+
+-- so after a run that is over each message that others added is left
+abbrev pub OthersAreLeft : Type 0
+OthersAreLeft = (ours : List ℕ → Bool) (alone : Bool) (opening : Opening ours alone) (d d' : Device) → HasOrder d → GoesOn d d' → OthersLeft opening d'
 
 -- what calls have named since the opening stands in the steps that the rules call for, and those name no message that others added after the
 -- listings
@@ -57,12 +75,12 @@ OthersStay =
     (ours : List ℕ → Bool) (alone : Bool) (opening : Opening ours alone) (d d' : Device) (named : List Named) → d.named ≡ named ++ opening.named → GoesOn d d' → (over : IsOver opening d') (side : Side) (m : Message) →
     Contains (box d side).messages m → is_own over.world over.holds.marks side m.uid m.bytes ≡ false → Contains (box d' side).messages m
 
--- so the next plan copies each that is fit, where its direction copies new messages, unless it is marked as deleted and Expunge covers its side
+-- and the next plan copies each that is fit, where its direction copies new messages, unless it is marked as deleted and Expunge covers its side
 abbrev pub OthersAreCopiedNext : Type 0
 OthersAreCopiedNext =
-    (ours : List ℕ → Bool) (alone : Bool) (opening : Opening ours alone) (d : Device) (over : IsOver opening d) →
-    IsInOrder (world_at d over.holds.state) → (options : Options) (direction : Direction) (m : Message) →
-    IsOthers over.world over.holds.marks (source direction) (next_world d over.holds.state) m →
+    (ours : List ℕ → Bool) (alone : Bool) (opening : Opening ours alone) (d d' : Device) → HasOrder d → GoesOn d d' →
+    (over : IsOver opening d') (options : Options) (direction : Direction) (m : Message) →
+    IsOthers over.world over.holds.marks (source direction) (next_world d' over.holds.state) m →
     goes options.cells.new direction ≡ true → fit (source direction) m.bytes ≡ true →
     (has m.flags DELETED && covers options.expunge (source direction)) ≡ false →
-    called (scene_of (next_world d over.holds.state) options) (New direction m.uid) ≡ true
+    called (scene_of (next_world d' over.holds.state) options) (New direction m.uid) ≡ true

@@ -38,8 +38,11 @@ pub fn done_begins_the_next_run()
 
 /// A message that others added while a run was at work, after its listings, is left to the next one. Calls name only what a step of the
 /// plan is to change or to remove, and that was there before, so it stands as it came. It is in no entry, and above the highest UID taken
-/// over, so the next plan copies it, if it is fit, its direction copies new messages, and it is not to be expunged.
+/// over, so the next plan copies it, if it is fit, its direction copies new messages, and it is not to be expunged. The mailboxes have to be in
+/// order where the run began, as those of a world are that a run may begin with; each call keeps them so.
 pub fn others_are_left_to_the_next_run()
+    ensures begun { other.BegunHasOrder }
+    ensures order { other.OverIsInOrder }
     ensures spared { other.OthersAreSpared }
     ensures stay { other.OthersStay }
     ensures left { other.OthersAreLeft }

@@ -19,9 +19,10 @@ use Rattle.outside.specs.declared.outside.Carried.TheVariants.{Absent, Unfit, Ma
 use Rattle.outside.specs.BookCalls.{LeavesUnread, OfBook, ReadsBook}
 use Rattle.outside.specs.BoxCalls.{Admits, AdmitsPart, Carry, SetsAside, with_copy}
 use Rattle.outside.specs.Calls.{LeavesBy}
-use Rattle.outside.specs.Devices.{Device}
+use Rattle.outside.specs.Devices.{Device, box}
 use Rattle.outside.specs.Opened.{Opened}
 use Rattle.outside.specs.Sparing.{Spares}
+use Rattle.outside.proofs.Order.{store_copied, store_raised}
 use Rattle.outside.proofs.Sparing.{admission_spares, copy_keeps, keeping_spares, nothing_named, same_boxes, spares_after}
 
 -- an effect that spares what it does not name
@@ -67,10 +68,10 @@ carrying_spares direction uid flags mark Unfit d d' t = nothing_named d d' t.0
 carrying_spares direction uid flags mark (Made told) d d' t =
     let m = t.makes in
     let copy : Message = copy_of (target direction) m.copy flags mark m.bytes in
-    keeping_spares (target direction) (with_copy copy m.next) d d' (copy_keeps copy m.next) m.now
+    keeping_spares (target direction) (with_copy copy m.next) d d' (copy_keeps copy m.next) (λ is. store_copied (box d (target direction)) copy m.next m.least m.below is) m.now
 
 pub aside_spares : (side : Side) → IsSparing (SetsAside side)
-aside_spares side d d' t = keeping_spares side (λ s. record s { next = t.next }) d d' (λ s m c. c) t.now
+aside_spares side d d' t = keeping_spares side (λ s. record s { next = t.next }) d d' (λ s m c. c) (λ is. store_raised (box d side) t.next t.least is) t.now
 
 pub admitting_spares : (alone : Bool) → IsSparing (Admits alone)
 admitting_spares alone d d' t = let n = t.near in admission_spares alone (length n.read) n.read n.left d d' n.reading t.far t.named n.now

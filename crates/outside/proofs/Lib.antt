@@ -1,3 +1,4 @@
+pub mod Order
 pub mod Sparing
 pub mod GoingOn
 pub mod CallsSpare

@@ -1,5 +1,5 @@
 -- What no call names stays, over each change and several.
-use Rattle.std.proofs.Common.{◌≡◌, ◌≢◌, ◌⊎◌, ◌+◌, inl, inr, refl, sym, ◌∙◌, ap, subst, ℕ, Bool, true, false, not, List, [], ◌∷◌, ◌++◌, All, map, filter, take, drop, length, Option, Result, Ok, Err, arith, append_assoc}
+use Rattle.std.proofs.Common.{◌≡◌, ◌≢◌, ◌⊎◌, ◌+◌, inl, inr, refl, sym, ◌∙◌, ap, subst, ℕ, Bool, true, false, not, List, [], ◌∷◌, ◌++◌, All, map, filter, take, drop, length, Option, Result, Ok, Err, ◌≤◌, arith, append_assoc, length-append}
 use Rattle.std.specs.Prelude.{Contains, IsPermutation, ◌&&◌, ◌==◌}
 use Rattle.std.proofs.lemmas.Bool.{both_ways, eqb-true}
 use Rattle.std.proofs.lemmas.List.{take-append-drop}
@@ -12,13 +12,15 @@ use Rattle.mailcore.specs.declared.side.Side.TheVariants.{Far, Near}
 use Rattle.mailcore.specs.FlagSet.{DELETED, has}
 use Rattle.mailcore.specs.Mailboxes.{Mailbox}
 use Rattle.mailcore.specs.Operations.{flagged, flags_added, flags_removed, with_flags, with_messages}
-use Rattle.mailcore.specs.Stores.{Store, Waiting, numbered}
+use Rattle.mailcore.specs.Stores.{IsStore, Store, Waiting, numbered}
+use Rattle.mailcore.proofs.OperationLemmas.{is_store-flagged, is_store-numbered}
 use Rattle.rules.proofs.Walks.{All-from_contains, Contains-cases, Contains-filter, Contains-first, Contains-map, Contains-none, Contains-rest}
 use Rattle.mailbox.specs.Operations.{IsReading, read_admitted, removed}
 use Rattle.outside.specs.Arrivals.{Arrives}
 use Rattle.outside.specs.BoxCalls.{Names, Turns, with_copy}
 use Rattle.outside.specs.Devices.{Device, Named, box, naming, on_box}
 use Rattle.outside.specs.Sparing.{AreOthers, IsAdmitted, Spares, StaysBut}
+use Rattle.outside.proofs.Order.{store_copied, store_more, store_raised, store_removed}
 
 -- ---- nothing is named
 
@@ -29,11 +31,16 @@ same_boxes d d' far near named = record {
   named = named;
   messages = λ side m c _. there side m c;
   waiting = λ f c. inl (subst (λ (n : Mailbox). Contains n.waiting f) (sym near) c);
+  order = order;
 }
   where
     there : (side : Side) (m : Message) → Contains (box d side).messages m → Contains (box d' side).messages m
     there Far m c = subst (λ (s : Store). Contains s.messages m) (sym far) c
     there Near m c = subst (λ (n : Mailbox). Contains n.store.messages m) (sym near) c
+
+    order : (side : Side) → IsStore (box d side) → IsStore (box d' side)
+    order Far is = subst (λ (s : Store). IsStore s) (sym far) is
+    order Near is = subst (λ (n : Mailbox). IsStore n.store) (sym near) is
 
 pub nothing_named : (d d' : Device) → d' ≡ d → Spares d d'
 nothing_named d d' same = same_boxes d d' (ap (λ (x : Device). x.far) same) (ap (λ (x : Device). x.near) same) (ap (λ (x : Device). x.named) same)
@@ -52,6 +59,7 @@ spares_after a b c m n = record {
   named = n.named ∙ ap (λ (l : List Named). n.since ++ l) m.named ∙ sym (append_assoc n.since m.since a.named);
   messages = λ side x there others. n.messages side x (m.messages side x there (others_first n.since m.since side x.uid others)) (others_last n.since m.since side x.uid others);
   waiting = λ f there. by_first f (m.waiting f there);
+  order = λ side is. n.order side (m.order side is);
 }
   where
     by_last : (f : Waiting) → Contains c.near.waiting f ⊎ IsAdmitted n.since f c → Contains c.near.waiting f ⊎ IsAdmitted (n.since ++ m.since) f c
@@ -75,31 +83,43 @@ arrivals_spare ours alone d m a =
       named = refl;
       messages = λ side x c _. there side x c;
       waiting = λ f c. inl (Contains-permutation (d.near.waiting ++ a.files) a.waiting f a.gathered (Contains-append_left d.near.waiting a.files f c));
+      order = order;
     })
   where
+    order : (side : Side) → IsStore (box d side) → IsStore (box (record d { far = record d.far { next = a.next; messages = d.far.messages ++ a.messages }; near = record d.near { waiting = a.waiting } }) side)
+    order Far is = store_more d.far.validity d.far.next a.next d.far.messages a.messages is a.rise
+    order Near is = is
+
     there : (side : Side) (x : Message) → Contains (box d side).messages x → Contains (box (record d { far = record d.far { next = a.next; messages = d.far.messages ++ a.messages }; near = record d.near { waiting = a.waiting } }) side).messages x
     there Far x c = Contains-append_left d.far.messages a.messages x c
     there Near x c = c
 
 -- ---- a message is named
 
--- a change of one message of a store leaves each other one
-abbrev pub ChangesOne : (uid : ℕ) → (Store → Store) → Type 0
-ChangesOne uid change = (s : Store) (m : Message) → (m.uid ≡ uid → ⊥) → Contains s.messages m → Contains (change s).messages m
+-- a change of one message of a store leaves each other one, and their order
+pub record ChangesOne (uid : ℕ) (change : Store → Store) : Type 0 where
+  pub messages : (s : Store) (m : Message) → (m.uid ≡ uid → ⊥) → Contains s.messages m → Contains (change s).messages m
+  pub order : (s : Store) → IsStore s → IsStore (change s)
 
-pub flags_change_one : (uid : ℕ) (change : ℕ → ℕ) → ChangesOne uid (flagged change uid)
-flags_change_one uid change s m other c = Contains-map (with_flags change uid) s.messages m m c (by_test (m.uid == uid) refl)
+flags_leave : (uid : ℕ) (change : ℕ → ℕ) (s : Store) (m : Message) → (m.uid ≡ uid → ⊥) → Contains s.messages m → Contains (flagged change uid s).messages m
+flags_leave uid change s m other c = Contains-map (with_flags change uid) s.messages m m c (by_test (m.uid == uid) refl)
   where
     by_test : (b : Bool) → (m.uid == uid) ≡ b → with_flags change uid m ≡ m
     by_test true e = absurd (other (eqb-true m.uid uid e))
     by_test false e = rw e refl
 
-pub removal_changes_one : (uid : ℕ) → ChangesOne uid (removed uid)
-removal_changes_one uid s m other c = Contains-filter (λ x. not (x.uid == uid && has x.flags DELETED)) s.messages m c (by_test (m.uid == uid) refl)
+pub flags_change_one : (uid : ℕ) (change : ℕ → ℕ) → ChangesOne uid (flagged change uid)
+flags_change_one uid change = record { messages = flags_leave uid change; order = λ s is. is_store-flagged s change uid is }
+
+removal_leaves : (uid : ℕ) (s : Store) (m : Message) → (m.uid ≡ uid → ⊥) → Contains s.messages m → Contains (removed uid s).messages m
+removal_leaves uid s m other c = Contains-filter (λ x. not (x.uid == uid && has x.flags DELETED)) s.messages m c (by_test (m.uid == uid) refl)
   where
     by_test : (b : Bool) → (m.uid == uid) ≡ b → not (m.uid == uid && has m.flags DELETED) ≡ true
     by_test true e = absurd (other (eqb-true m.uid uid e))
     by_test false e = rw e refl
+
+pub removal_changes_one : (uid : ℕ) → ChangesOne uid (removed uid)
+removal_changes_one uid = record { messages = removal_leaves uid; order = λ s is. store_removed s uid is }
 
 one_named : (side : Side) (uid : ℕ) (at : Side) (m : ℕ) → AreOthers (record { side = side; uid = uid } ∷ []) at m → side ≡ at → uid ≢ m
 one_named side uid at m h = All-head (λ n. n.side ≡ at → n.uid ≢ m) (record { side = side; uid = uid }) [] h
@@ -110,21 +130,31 @@ turned_to Far uid change d one = record {
   named = refl;
   messages = there;
   waiting = λ f c. inl c;
+  order = order;
 }
   where
+    order : (at : Side) → IsStore (box d at) → IsStore (box (naming Far uid (on_box Far change d)) at)
+    order Far is = one.order d.far is
+    order Near is = is
+
     there : (at : Side) (m : Message) → Contains (box d at).messages m → StaysBut (record { side = Far; uid = uid } ∷ []) at m (naming Far uid (on_box Far change d))
-    there Far m c others = one d.far m (λ e. one_named Far uid Far m.uid others refl (sym e)) c
+    there Far m c others = one.messages d.far m (λ e. one_named Far uid Far m.uid others refl (sym e)) c
     there Near m c others = c
 turned_to Near uid change d one = record {
   since = record { side = Near; uid = uid } ∷ [];
   named = refl;
   messages = there;
   waiting = λ f c. inl c;
+  order = order;
 }
   where
+    order : (at : Side) → IsStore (box d at) → IsStore (box (naming Near uid (on_box Near change d)) at)
+    order Far is = is
+    order Near is = one.order d.near.store is
+
     there : (at : Side) (m : Message) → Contains (box d at).messages m → StaysBut (record { side = Near; uid = uid } ∷ []) at m (naming Near uid (on_box Near change d))
     there Far m c others = c
-    there Near m c others = one d.near.store m (λ e. one_named Near uid Near m.uid others refl (sym e)) c
+    there Near m c others = one.messages d.near.store m (λ e. one_named Near uid Near m.uid others refl (sym e)) c
 
 pub turns_spare : (side : Side) (uid : ℕ) (change : Store → Store) (d d' : Device) → ChangesOne uid change → Turns side uid change d d' → Spares d d'
 turns_spare side uid change d d' one is = subst (λ (x : Device). Spares d x) (sym is) (turned_to side uid change d one)
@@ -135,8 +165,13 @@ named_to side uid d = record {
   named = refl;
   messages = there;
   waiting = λ f c. inl c;
+  order = order;
 }
   where
+    order : (at : Side) → IsStore (box d at) → IsStore (box (naming side uid d) at)
+    order Far is = is
+    order Near is = is
+
     there : (at : Side) (m : Message) → Contains (box d at).messages m → StaysBut (record { side = side; uid = uid } ∷ []) at m (naming side uid d)
     there Far m c others = c
     there Near m c others = c
@@ -150,20 +185,28 @@ names_spare side uid d d' is = subst (λ (x : Device). Spares d x) (sym is) (nam
 abbrev pub KeepsMessages : (Store → Store) → Type 0
 KeepsMessages change = (s : Store) (m : Message) → Contains s.messages m → Contains (change s).messages m
 
-kept_to : (side : Side) (change : Store → Store) (d : Device) → KeepsMessages change → Spares d (on_box side change d)
-kept_to Far change d keeps = record { since = []; named = refl; messages = there; waiting = λ f c. inl c }
+kept_to : (side : Side) (change : Store → Store) (d : Device) → KeepsMessages change → (IsStore (box d side) → IsStore (change (box d side))) → Spares d (on_box side change d)
+kept_to Far change d keeps orders = record { since = []; named = refl; messages = there; waiting = λ f c. inl c; order = order }
   where
+    order : (at : Side) → IsStore (box d at) → IsStore (box (on_box Far change d) at)
+    order Far is = orders is
+    order Near is = is
+
     there : (at : Side) (m : Message) → Contains (box d at).messages m → StaysBut [] at m (on_box Far change d)
     there Far m c others = keeps d.far m c
     there Near m c others = c
-kept_to Near change d keeps = record { since = []; named = refl; messages = there; waiting = λ f c. inl c }
+kept_to Near change d keeps orders = record { since = []; named = refl; messages = there; waiting = λ f c. inl c; order = order }
   where
+    order : (at : Side) → IsStore (box d at) → IsStore (box (on_box Near change d) at)
+    order Far is = is
+    order Near is = orders is
+
     there : (at : Side) (m : Message) → Contains (box d at).messages m → StaysBut [] at m (on_box Near change d)
     there Far m c others = c
     there Near m c others = keeps d.near.store m c
 
-pub keeping_spares : (side : Side) (change : Store → Store) (d d' : Device) → KeepsMessages change → d' ≡ on_box side change d → Spares d d'
-keeping_spares side change d d' keeps is = subst (λ (x : Device). Spares d x) (sym is) (kept_to side change d keeps)
+pub keeping_spares : (side : Side) (change : Store → Store) (d d' : Device) → KeepsMessages change → (IsStore (box d side) → IsStore (change (box d side))) → d' ≡ on_box side change d → Spares d d'
+keeping_spares side change d d' keeps orders is = subst (λ (x : Device). Spares d x) (sym is) (kept_to side change d keeps orders)
 
 pub copy_keeps : (copy : Message) (next : ℕ) → KeepsMessages (with_copy copy next)
 copy_keeps copy next s m c = Contains-append_left s.messages (copy ∷ []) m c
@@ -183,10 +226,18 @@ admission_spares alone count read left d d' reading far named near = record {
   named = named;
   messages = λ side m c _. there side m c;
   waiting = λ f c. became f (Contains-append_cases read left f (Contains-permutation d.near.waiting (read ++ left) f (IsPermutation-sym (read ++ left) d.near.waiting reading.parts) c));
+  order = order;
 }
   where
     first : List Waiting
     first = take count read
+
+    few : length first ≤ length read
+    few = let e = ap (λ (l : List Waiting). length l) (take-append-drop count read) in omega (arith, e, length-append {A = Waiting} first (drop count read))
+
+    order : (side : Side) → IsStore (box d side) → IsStore (box d' side)
+    order Far is = subst (λ (s : Store). IsStore s) (sym far) is
+    order Near is = subst (λ (n : Mailbox). IsStore n.store) (sym near) (is_store-numbered d.near.store first (d.near.store.next + length read) (omega (arith, few)) is)
 
     there : (side : Side) (m : Message) → Contains (box d side).messages m → Contains (box d' side).messages m
     there Far m c = subst (λ (s : Store). Contains s.messages m) (sym far) c

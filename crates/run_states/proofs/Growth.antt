@@ -1,14 +1,11 @@
 -- What others add to a device, before there is a plan.
-use Rattle.std.proofs.Common.{◌≡◌, ◌<◌, ◌+◌, ℕ, Bool, true, false, List, [], ◌∷◌, ◌++◌, map, refl, sym, ◌∙◌, ap, subst, arith, append-nil, append_assoc}
+use Rattle.std.proofs.Common.{◌≡◌, ℕ, Bool, true, false, List, ◌++◌, map, refl, sym, ◌∙◌, ap, subst, arith, append_assoc}
 use Rattle.std.proofs.lemmas.Bool.{both_ways}
-use Rattle.std.proofs.lemmas.List.Elements.{All-append, All-cons, All-nil}
 use Rattle.std.specs.Prelude.{IsPermutation}
 use Rattle.std.proofs.lemmas.List.Sorted.{IsPermutation-append_left, IsPermutation-append_right, IsPermutation-trans}
-use Rattle.std.proofs.lemmas.List.Quantifiers.{all_pairs_push}
 use Rattle.mailcore.specs.declared.mailbox.Message.{Message}
 use Rattle.mailcore.specs.declared.side.Side.TheVariants.{Far, Near as NearSide}
-use Rattle.mailcore.specs.Rise.{Rise}
-use Rattle.mailcore.specs.Stores.{IsStore, Waiting}
+use Rattle.mailcore.specs.Stores.{Waiting}
 use Rattle.mailcore.proofs.RiseLemmas.{rise-ends}
 use Rattle.rules.specs.declared.state.SyncState.{SyncState}
 use Rattle.rules.specs.World.{World, store}
@@ -16,18 +13,9 @@ use Rattle.book.specs.declared.book.Pending.{Pending}
 use Rattle.book.specs.Books.{Holds}
 use Rattle.outside.specs.Arrivals.{Arrives}
 use Rattle.outside.specs.Devices.{Device}
+use Rattle.outside.proofs.Order.{store_more}
 use Rattle.run_states.specs.Openings.{Opening, Grows, IsIdle, Since, Unplanned, world_at}
 use Rattle.run_states.proofs.Foreign.{two}
-
--- messages that rise behind a store's
-store_more : (validity next bound : ℕ) (xs ys : List Message) → IsStore (record { validity = validity; next = next; messages = xs }) → Rise next (map (λ m. m.uid) ys) bound → IsStore (record { validity = validity; next = bound; messages = xs ++ ys })
-store_more validity next bound xs [] s r = rw append-nil (record { rising = s.rising; below = λ i d lt. let k = s.below i d lt in omega (arith, r) })
-store_more validity next bound xs (y ∷ ys) s r =
-    let one : IsStore (record { validity = validity; next = y.uid + 1; messages = xs ++ y ∷ [] }) = record {
-      rising = all_pairs_push (λ (a b : Message). a.uid < b.uid) xs y s.rising (λ k d lt. let h = s.below k d lt in let j = r.0 in omega arith);
-      below = All-append (λ (m : Message). m.uid < y.uid + 1) xs (y ∷ []) (λ i d lt. let h = s.below i d lt in let j = r.0 in omega arith) (All-cons (λ (m : Message). m.uid < y.uid + 1) y [] (omega arith) (All-nil (λ (m : Message). m.uid < y.uid + 1)));
-    } in
-    subst (λ (l : List Message). IsStore (record { validity = validity; next = bound; messages = l })) (append_assoc xs (y ∷ []) ys) (store_more validity (y.uid + 1) bound (xs ++ y ∷ []) ys one r.1)
 
 -- files come behind those that have come, some of which have their UIDs
 gathered_more : (ws arrived named waiting files now : List Waiting) → IsPermutation (ws ++ arrived) (named ++ waiting) → IsPermutation (waiting ++ files) now → IsPermutation (ws ++ (arrived ++ files)) (named ++ now)

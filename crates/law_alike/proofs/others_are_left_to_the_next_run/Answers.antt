@@ -1,5 +1,11 @@
-use Rattle.law_alike.proofs.Others.{others_copied_next, others_left, others_spared, others_stay}
+use Rattle.law_alike.proofs.Others.{begun_order, others_copied_next, others_left, others_spared, others_stay, over_in_order}
 use Rattle.law_alike.proofs.others_are_left_to_the_next_run.Goals as goal
+
+pub returns-clause-begun : goal.returns-clause-begun
+returns-clause-begun c = begun_order
+
+pub returns-clause-order : goal.returns-clause-order
+returns-clause-order c = over_in_order
 
 pub returns-clause-spared : goal.returns-clause-spared
 returns-clause-spared c = others_spared
