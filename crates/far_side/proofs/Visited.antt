@@ -1,8 +1,10 @@
 -- A server to whose mailboxes others added messages.
-use Rattle.std.proofs.Common.{◌≡◌, ◌≤◌, ◌<◌, ◌+◌, ◌^◌, ℕ, suc, true, false, List, [], ◌∷◌, ◌++◌, Option, None, Some, arith, refl, sym, ◌∙◌, ap, subst}
-use Rattle.std.specs.Prelude.{All, map, nat_eq, ◌&&◌}
+use Rattle.std.proofs.Common.{◌≡◌, ◌≤◌, ◌<◌, ◌+◌, ◌^◌, ℕ, zero, suc, true, false, List, [], ◌∷◌, ◌++◌, get_or, not, Option, None, Some, arith, refl, sym, ◌∙◌, ap, subst}
+use Rattle.std.specs.Prelude.{All, map, nat_eq, ◌&&◌, ◌==◌}
+use Rattle.std.specs.List.{list_all}
 use Rattle.std.specs.Cmp.Lexicographic.{pointwise}
 use Rattle.imap_client.specs.Logins.{is_known}
+use Rattle.std.proofs.lemmas.Bool.{and_parts}
 use Rattle.std.proofs.lemmas.List.{append-nil}
 use Rattle.std.proofs.lemmas.List.Elements.{All-append, All-cons, All-map, All-nil, All-weaker}
 use Rattle.std.proofs.lemmas.List.Kept.{AllPairs-cons}
@@ -15,10 +17,12 @@ use Rattle.mailcore.specs.Listed.{AreRising, AreBelow}
 use Rattle.mailcore.specs.Mailboxes.{Mailbox}
 use Rattle.mailcore.specs.Ranges.{AreInRange}
 use Rattle.mailcore.specs.Rise.{Rise}
+use Rattle.mailcore.proofs.KnownFlags.{kept-lt}
 use Rattle.mailcore.proofs.RiseLemmas.{rise-ends}
 use Rattle.mailcore.specs.Stores.{Store, IsStore}
 use Rattle.visitors.specs.Visitors.{IsForeign, Visitors}
-use Rattle.mailbox.specs.Arrivals.{Arrives}
+use Rattle.mailbox.specs.Arrivals.{Arrives, IsFarMessage}
+use Rattle.wire_reader.specs.Literal.{is_octet}
 use Rattle.imap_session.specs.Mailboxes.{FarMailbox, mailbox_at}
 use Rattle.imap_session.specs.Servers.{Server}
 use Rattle.imap_session.specs.Visits.{AllGain, Gains, Visits}
@@ -122,12 +126,26 @@ module _ (v : Visitors) where
 
   -- ---- it is what others may do to a mailbox
 
+  positive : (b : ℕ) → is_octet b ≡ true → 0 < b
+  positive zero h = absurd (cc)
+  positive (suc n) h = omega arith
+
+  no_nul : (bytes : List ℕ) → list_all is_octet bytes ≡ true → All (λ b. 0 < b) bytes
+  no_nul [] h = All-nil (λ b. 0 < b)
+  no_nul (b ∷ bs) h = let p = and_parts (is_octet b) (list_all is_octet bs) h in All-cons (λ x. 0 < x) b bs (positive b p.0) (no_nul bs p.1)
+
+  come_sound : (keywords : List Keyword) (s t : Store) (g : Gains v s t) → All IsFarMessage (map (seen_message keywords) g.more)
+  come_sound keywords s t g = All-map IsFarMessage (seen_message keywords) g.more (λ i d within.
+      let m : Message = get_or g.more i d in
+      record { uid = g.range.uids i d within; in_set = kept-lt keywords m.flags; bytes = no_nul m.bytes (g.bodies i d within).each })
+
   pub arrives_none : (b : Mailbox) → Arrives Far v.ours v.alone b b
   arrives_none b = record {
     comes = record {
       messages = [];
       next = b.store.next;
       rise = omega arith;
+      sound = All-nil _;
       foreign = All-nil _;
       now = ap (λ (ms : List Message). let n : Mailbox = record b { store = record b.store { messages = ms } } in n) (sym (append-nil b.store.messages));
     };
@@ -144,6 +162,7 @@ module _ (v : Visitors) where
         messages = map (seen_message keywords) g.more;
         next = t.next;
         rise = subst (λ (uids : List ℕ). Rise s.next uids t.next) (sym (uids_seen keywords g.more)) g.rise;
+        sound = come_sound keywords s t g;
         foreign = All-map (λ (m : Message). IsForeign v.ours (mark_of m.bytes)) (seen_message keywords) g.more g.foreign;
         now =
             ap (λ (n : ℕ). let x : Store = record t { validity = n } in shown x) g.validity

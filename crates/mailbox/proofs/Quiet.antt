@@ -20,12 +20,13 @@ quiet Far ours alone b = record {
     messages = [];
     next = b.store.next;
     rise = omega arith;
+    sound = All-nil _;
     foreign = All-nil _;
     now = ap (λ (ms : List Message). record b { store = record b.store { messages = ms } }) (sym (append-nil b.store.messages));
   };
   nobody = λ _. refl;
 }
 quiet Near ours alone b = record {
-  comes = record { files = []; waiting = b.waiting; gathered = none_come b.waiting; foreign = All-nil _; now = refl };
+  comes = record { files = []; waiting = b.waiting; gathered = none_come b.waiting; sound = All-nil _; foreign = All-nil _; now = refl };
   nobody = λ _. refl;
 }

@@ -1,10 +1,11 @@
 -- What others add to the folder of a mailbox arrives in the mailbox.
-use Rattle.std.proofs.Common.{◌≡◌, ℕ, Bool, true, List, ◌++◌, filter, map, ap, subst, ◌∙◌}
+use Rattle.std.proofs.Common.{◌≡◌, ◌<◌, ◌^◌, ℕ, Bool, true, List, ◌++◌, filter, get_or, map, ap, subst, ◌∙◌}
 use Rattle.std.specs.List.Sorted.{IsPermutation}
 use Rattle.std.proofs.lemmas.List.{map-append}
 use Rattle.std.proofs.lemmas.List.Elements.{All-map, All-weaker, filter-append}
 use Rattle.std.proofs.lemmas.List.Sorted.{IsPermutation-append_left, IsPermutation-map, IsPermutation-sym, IsPermutation-trans}
 use Rattle.mailcore.specs.Content.{mark_of}
+use Rattle.mailcore.specs.FlagSet.{FLAGS}
 use Rattle.mailcore.specs.Mailboxes.{Mailbox}
 use Rattle.mailcore.specs.Stores.{Store, Waiting}
 use Rattle.mailcore.specs.declared.side.Side.TheVariants as side
@@ -19,6 +20,7 @@ use Rattle.maildir.proofs.PermutedLemmas.{passing_in_any_order}
 use Rattle.near_box.specs.Mailboxes.{IsMailbox, is_before, near_of, waiting_files, waiting_of}
 use Rattle.near_box.proofs.GainedLemmas.{store_added, store_gained}
 use Rattle.near_box.proofs.KeptLemmas.{filter_all}
+use Rattle.near_box.proofs.RangeLemmas.{flags_by_name-lt}
 use Rattle.near_box.proofs.SortingLemmas.{sorted_permutes}
 
 abbrev waits : File → Bool
@@ -46,6 +48,7 @@ arrives_beside v fresh keywords s s' same gains = record {
     waiting = map (waiting_of keywords) (waiting_files s'.files);
     gathered = subst (λ (l : List Waiting). IsPermutation l (map (waiting_of keywords) (waiting_files s'.files))) (map-append (waiting_of keywords) (waiting_files s.files) gains.more)
         (IsPermutation-map (waiting_of keywords) (waiting_files s.files ++ gains.more) (waiting_files s'.files) (waiting_gathered v s s' gains));
+    sound = All-map (λ w. w.flags < 2 ^ FLAGS) (waiting_of keywords) gains.more (λ i d within. flags_by_name-lt keywords (get_or gains.more i d).name);
     foreign = All-map (λ w. IsForeign v.ours (mark_of w.bytes)) (waiting_of keywords) gains.more
         (All-weaker (IsArrival v.ours s.files) (λ y. IsForeign v.ours (mark_of (waiting_of keywords y).bytes)) (λ y a. a.foreign) gains.more gains.arrivals);
     now = ap (λ (store : Store). let b : Mailbox = record { store = store; waiting = map (waiting_of keywords) (waiting_files s'.files) } in b) same;

@@ -29,6 +29,8 @@ quiet ours alone d = record {
   waiting = d.near.waiting;
   rise = omega arith;
   gathered = none_come d.near.waiting;
+  far_sound = All-nil _;
+  near_sound = All-nil _;
   far_foreign = All-nil _;
   near_foreign = All-nil _;
   now = same_far d;
@@ -72,6 +74,8 @@ module _ (ours ours' : List ℕ → Bool) (alone alone' : Bool) (less : IsLess o
     waiting = d.near.waiting;
     rise = a.comes.rise;
     gathered = none_come d.near.waiting;
+    far_sound = a.comes.sound;
+    near_sound = All-nil _;
     far_foreign = All-weaker _ _ (λ m. is_foreign ours ours' less (mark_of m.bytes)) a.comes.messages a.comes.foreign;
     near_foreign = All-nil _;
     now = ap (λ (x : Mailbox). put sides.Far x d) a.comes.now;
@@ -84,6 +88,8 @@ module _ (ours ours' : List ℕ → Bool) (alone alone' : Bool) (less : IsLess o
     waiting = a.comes.waiting;
     rise = omega arith;
     gathered = a.comes.gathered;
+    far_sound = All-nil _;
+    near_sound = a.comes.sound;
     far_foreign = All-nil _;
     near_foreign = All-weaker _ _ (λ f. is_foreign ours ours' less (mark_of f.bytes)) a.comes.files a.comes.foreign;
     now = ap (λ (x : Mailbox). put sides.Near x d) a.comes.now ∙ same_far (put sides.Near (record b { waiting = a.comes.waiting }) d);

@@ -42,6 +42,8 @@ module _ (a b ours : List ℕ → Bool) (a1 b1 alone : Bool) (la : IsLess a ours
     waiting = y.comes.waiting;
     rise = x.comes.rise;
     gathered = y.comes.gathered;
+    far_sound = x.comes.sound;
+    near_sound = y.comes.sound;
     far_foreign = All-weaker _ _ (λ k. is_foreign a ours la (mark_of k.bytes)) x.comes.messages x.comes.foreign;
     near_foreign = All-weaker _ _ (λ k. is_foreign b ours lb (mark_of k.bytes)) y.comes.files y.comes.foreign;
     now = ap (λ (z : Mailbox). with_two Pull z n' d) x.comes.now ∙ ap (λ (z : Mailbox). with_two Pull (record m { store = record m.store { next = x.comes.next; messages = m.store.messages ++ x.comes.messages } }) z d) y.comes.now;
@@ -54,6 +56,8 @@ module _ (a b ours : List ℕ → Bool) (a1 b1 alone : Bool) (la : IsLess a ours
     waiting = x.comes.waiting;
     rise = y.comes.rise;
     gathered = x.comes.gathered;
+    far_sound = y.comes.sound;
+    near_sound = x.comes.sound;
     far_foreign = All-weaker _ _ (λ k. is_foreign b ours lb (mark_of k.bytes)) y.comes.messages y.comes.foreign;
     near_foreign = All-weaker _ _ (λ k. is_foreign a ours la (mark_of k.bytes)) x.comes.files x.comes.foreign;
     now = ap (λ (z : Mailbox). with_two Push z n' d) x.comes.now ∙ ap (λ (z : Mailbox). with_two Push (record m { waiting = x.comes.waiting }) z d) y.comes.now;
