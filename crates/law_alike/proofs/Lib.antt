@@ -8,3 +8,4 @@ pub mod Beginnings
 pub mod GivenUp
 pub mod CalledNext
 pub mod Others
+pub mod Among

@@ -3,3 +3,4 @@ pub mod Runs
 pub mod Beginnings
 pub mod GivenUp
 pub mod Others
+pub mod Among

@@ -3,6 +3,7 @@
 //! others add during a run is left to the next one.
 #![tactic(auto)]
 
+ghost use Rattle.law_alike.specs.Among as among;
 ghost use Rattle.law_alike.specs.Beginnings as beginning;
 ghost use Rattle.law_alike.specs.GivenUp as given_up;
 ghost use Rattle.law_alike.specs.Others as other;
@@ -47,6 +48,12 @@ pub fn others_are_left_to_the_next_run()
     ensures stay { other.OthersStay }
     ensures left { other.OthersAreLeft }
     ensures copied { other.OthersAreCopiedNext }
+{}
+
+/// Where others add messages, a run that is done has left, without these, both mailboxes and the state alike to the outcome of the world that was
+/// listed.
+pub fn done_is_alike_among_others()
+    ensures { among.DoneIsAlikeAmong }
 {}
 
 /// Where a device holds a world that a run may begin with, and no journal, that run is underway: it has no plan yet.

@@ -15,9 +15,9 @@ use Rattle.law_outcome.specs.CommitLaws.{result_of, results_of}
 use Rattle.law_steps.proofs.Whole.{plan_reaches}
 use Rattle.law_steps.proofs.Given.{each_given}
 use Rattle.law_outcome.proofs.Committed.{commit_reaches}
-use Rattle.law_outcome.specs.AlikeLaws.{AlikeWithoutWaiting, StepsAreAlike, FinishedIsAlike, own_world, FinishedAmongOthers}
-use Rattle.law_outcome.proofs.Admission.{admitted_sound}
-use Rattle.law_outcome.proofs.Whole.{alike_by_lists, alike_under_admission}
+use Rattle.law_outcome.specs.AlikeLaws.{AlikeInOrder, AlikeWithoutWaiting, StepsAreAlike, FinishedIsAlike, own_world, FinishedAmongOthers}
+use Rattle.law_outcome.proofs.Admission.{admitted_sound, opening_names}
+use Rattle.law_outcome.proofs.Whole.{alike_in_turn, alike_under_admission}
 use Rattle.law_outcome.proofs.InTurn.{numbered_from}
 
 pub steps_are_alike : StepsAreAlike
@@ -83,7 +83,10 @@ nothing_waits w e =
     ∙ ap (λ ms. record { far = w.far; near = record { validity = w.near.validity; next = w.near.next; messages = ms }; waiting = []; state = w.state }) (append-nil w.near.messages)
     ∙ ap (λ fs. record { far = w.far; near = w.near; waiting = fs; state = w.state }) (sym e)
 
-pub alike_without_waiting : AlikeWithoutWaiting
-alike_without_waiting opening options outcome_marks found h e =
+pub alike_in_order : AlikeInOrder
+alike_in_order opening options outcome_marks found sound names e =
     subst (λ x. AreCopyMarks x options outcome_marks → AlikeBy x options found → Alike opening (outcome x options outcome_marks) found) (nothing_waits opening e)
-    (alike_by_lists opening options outcome_marks found h)
+    (alike_in_turn opening options outcome_marks found sound names)
+
+pub alike_without_waiting : AlikeWithoutWaiting
+alike_without_waiting opening options outcome_marks found h e = alike_in_order opening options outcome_marks found h.world.in_order (opening_names opening h) e

@@ -23,7 +23,6 @@ use Rattle.rules.specs.World.{World, IsInOrder, NamesBelow, store, scene_of}
 use Rattle.rules.specs.WorldAfter.{new_messages, staying, outcome, marks_to}
 use Rattle.rules.specs.Admission.{admitted, numbered_under, admitted_under, AreAdmission, admission_uids, next_admitted}
 use Rattle.rules.specs.Copies.{copies_under, pairs_under}
-use Rattle.rules.specs.Opening.{IsOpening}
 use Rattle.rules.specs.Renaming.{IsRenaming, entry_under}
 use Rattle.rules.specs.Alike.{IsFoundAs, Alike, copies_from, marks_from}
 use Rattle.rules.specs.AlikeBy.{AlikeBy, AreCopyMarks}
@@ -54,7 +53,7 @@ stays_below w options h side =
     below Far = h.far.below
     below Near = h.near.below
 
-module _ (opening : World) (options : Options) (adm : List ℕ) (next : ℕ) (found : World) (h : IsOpening opening) (ad : AreAdmission opening adm next) (b : AlikeBy (admitted_under adm next opening) options found) where
+module _ (opening : World) (options : Options) (adm : List ℕ) (next : ℕ) (found : World) (sound : IsInOrder opening) (names : NamesBelow opening) (ad : AreAdmission opening adm next) (b : AlikeBy (admitted_under adm next opening) options found) where
   abbrev a : World
   a = admitted opening
 
@@ -88,18 +87,15 @@ module _ (opening : World) (options : Options) (adm : List ℕ) (next : ℕ) (fo
   is_sent = record { messages = messages; validity = validity; state = refl }
     where
       messages : (side : Side) → (store w side).messages ≡ map (sent (to side)) (store a side).messages
-      messages Far = fixed opening.far.next (to Far) (renames Far) opening.far.messages h.world.in_order.far.below
+      messages Far = fixed opening.far.next (to Far) (renames Far) opening.far.messages sound.far.below
       messages Near =
-          ap (λ ms. ms ++ numbered_under adm opening.waiting) (fixed opening.near.next (to Near) (renames Near) opening.near.messages h.world.in_order.near.below)
+          ap (λ ms. ms ++ numbered_under adm opening.waiting) (fixed opening.near.next (to Near) (renames Near) opening.near.messages sound.near.below)
           ∙ ap (λ ms. map (sent (to Near)) opening.near.messages ++ ms) (numbered_sent (to Near) opening.near.next adm opening.waiting ad.each near_follows.0)
           ∙ sym (map-append (sent (to Near)) opening.near.messages (numbered_from opening.near.next opening.waiting))
 
       validity : (side : Side) → (store w side).validity ≡ (store a side).validity
       validity Far = refl
       validity Near = refl
-
-  names : NamesBelow opening
-  names = opening_names opening h
 
   named : (side : Side) → All (λ e. uid_of side e < (store opening side).next) opening.state.entries
   named Far = names.far
@@ -140,7 +136,7 @@ module _ (opening : World) (options : Options) (adm : List ℕ) (next : ℕ) (fo
       subst (λ ms. AllZip (IsFoundAs (to side) (copies_from opening side)) (staying a options side ++ copies side (store a side).next theirs (new_messages a options (towards side))) ms) (sym (messages_are side))
       (zip_append (IsFoundAs (to side) (copies_from opening side)) (staying a options side) (copies side (store a side).next theirs (new_messages a options (towards side)))
       (map (sent (to side)) (staying a options side)) (copies_under side (b.uids side) (marks_to w options side b.marks) (map (sent (to (source (towards side)))) (new_messages a options (towards side))))
-      (zip_stay (to side) (store a side).next (staying a options side) (stays_below a options (sound_in_turn opening h.world.in_order) side))
+      (zip_stay (to side) (store a side).next (staying a options side) (stays_below a options (sound_in_turn opening sound) side))
       (zip_copies side (to side) (to (source (towards side))) (store a side).next (store a side).next (b.uids side) theirs (marks_to w options side b.marks) (new_messages a options (towards side))
       (omega arith) (follows side) (uids_counted side) l marks_l are (marks_to_are side)))
 
@@ -162,7 +158,7 @@ module _ (opening : World) (options : Options) (adm : List ℕ) (next : ℕ) (fo
       subst (λ ms. All (λ (m : Message). m.uid < to side (store a side).next) ms) (sym (staying_sent to a w options is_sent keeps side))
       (All-map (λ (m : Message). m.uid < to side (store a side).next) (sent (to side)) (staying a options side)
       (All-weaker (λ (m : Message). m.uid < (store a side).next) (λ m. to side m.uid < to side (store a side).next) (λ m l. mono (store opening side).next (to side) (renames side) m.uid (store a side).next l)
-      (staying a options side) (stays_below a options (sound_in_turn opening h.world.in_order) side)))
+      (staying a options side) (stays_below a options (sound_in_turn opening sound) side)))
 
   marks_found : (side : Side) → marks_from (to side (copies_from opening side)) (store found side).messages ≡ map (λ mark. Some mark) (marks_to w options side b.marks)
   marks_found side =
@@ -195,7 +191,7 @@ module _ (opening : World) (options : Options) (adm : List ℕ) (next : ℕ) (fo
     waiting = b.waiting;
     marks = subst (λ ms. AllPairs (λ x y. x ≢ y) ms) (sym all_marks) (marks_apart b.marks b.are_marks.differ);
     next = λ side. rise-ends (store opening side).next (all_uids side) (store found side).next (rises side);
-    below = names_below w options found (admitted_sound opening adm next h.world.in_order ad) (admitted_names opening adm next names ad) b;
+    below = names_below w options found (admitted_sound opening adm next sound ad) (admitted_names opening adm next names ad) b;
   }
     where
       messages : (side : Side) → AllZip (IsFoundAs (to side) (copies_from opening side)) (store (outcome a options outcome_marks) side).messages (store found side).messages
@@ -207,8 +203,13 @@ module _ (opening : World) (options : Options) (adm : List ℕ) (next : ℕ) (fo
       validity Near = b.validity Near
 
 pub alike_under_admission : AlikeUnderAdmission
-alike_under_admission opening options uids next outcome_marks found h ad m b = is_alike opening options uids next found h ad b outcome_marks m
+alike_under_admission opening options uids next outcome_marks found h ad m b = is_alike opening options uids next found h.world.in_order (opening_names opening h) ad b outcome_marks m
+
+pub alike_in_turn : (opening : World) (options : Options) (outcome_marks : List (List ℕ)) (found : World) → IsInOrder opening → NamesBelow opening → AreCopyMarks (admitted opening) options outcome_marks
+    → AlikeBy (admitted opening) options found → Alike opening (outcome (admitted opening) options outcome_marks) found
+alike_in_turn opening options outcome_marks found sound names m b =
+    is_alike opening options (admission_uids opening) (next_admitted opening) found sound names (turn_admits opening) b outcome_marks m
 
 pub alike_by_lists : AlikeByLists
 alike_by_lists opening options outcome_marks found h m b =
-    is_alike opening options (admission_uids opening) (next_admitted opening) found h (turn_admits opening) b outcome_marks m
+    alike_in_turn opening options outcome_marks found h.world.in_order (opening_names opening h) m b

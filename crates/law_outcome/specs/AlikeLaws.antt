@@ -46,6 +46,14 @@ AlikeWithoutWaiting =
     AlikeBy opening options found →
     Alike opening (outcome opening options outcome_marks) found
 
+-- so it is of any world in order, whether or not a run may begin with it
+abbrev pub AlikeInOrder : Type 0
+AlikeInOrder =
+    (w : World) (options : Options) (outcome_marks : List (List ℕ)) (found : World) →
+    IsInOrder w → NamesBelow w → w.waiting ≡ [] → AreCopyMarks w options outcome_marks →
+    AlikeBy w options found →
+    Alike w (outcome w options outcome_marks) found
+
 -- ---- what a renaming says of an opening and its outcome
 
 -- it is the identity on 0 and on every UID that the opening names

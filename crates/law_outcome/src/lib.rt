@@ -40,6 +40,7 @@ pub fn lists_are_maps()
     ensures lists { law.AlikeByLists }
     ensures admission { law.AlikeUnderAdmission }
     ensures without_waiting { law.AlikeWithoutWaiting }
+    ensures in_order { law.AlikeInOrder }
 {}
 
 /// The maps leave 0 and each UID that the opening names as it is; what else the outcome names is new.
