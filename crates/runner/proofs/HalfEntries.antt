@@ -1,12 +1,13 @@
 -- Which entries lose a side: by both listings, and by both mailboxes.
 use Rattle.std.proofs.Common.{◌≡◌, ◌∙◌, ◌≤◌, ◌<◌, ◌+◌, ◌++◌, inl, inr, ℕ, Bool, false, cond, List, [], ◌∷◌, get_or, length, map, take, Option, None, Some, Result, Ok, Err, IfErr, IfOk, ap, ap₂, refl, subst, sym, arith}
-use Rattle.std.specs.Prelude.{◌&&◌, AllPairs, filter, is_none}
-use Rattle.std.specs.List.{list_any}
-use Rattle.std.specs.List.Sorted.{IsNonDecreasing}
-use Rattle.std.proofs.lemmas.Bool.{and_right, cases_lt, or_from, or_parts, true≢false}
+use Rattle.std.specs.Prelude.{◌&&◌, ◌==◌, AllPairs, filter, is_none}
+use Rattle.std.specs.List.{cons_option, filter_map, list_any}
+use Rattle.std.specs.List.Sorted.{IsNonDecreasing, IsPermutation}
+use Rattle.std.proofs.lemmas.Bool.{and_right, cases_lt, or_parts, true≢false}
 use Rattle.std.proofs.lemmas.List.{map-append, take_all, take_more}
 use Rattle.std.proofs.lemmas.List.Elements.{filter-append, filter_agree}
 use Rattle.std.proofs.lemmas.List.Kept.{AllPairs-filter}
+use Rattle.std.proofs.lemmas.List.Sorted.{list_any-IsPermutation}
 use Rattle.mailcore.specs.declared.listing.Item.{Item}
 use Rattle.mailcore.specs.declared.side.Side.{Side}
 use Rattle.mailcore.specs.declared.side.Side.TheVariants.{Far, Near}
@@ -30,7 +31,7 @@ use Rattle.runner.specs.declared.fault.RunFault.TheVariants as run
 use Rattle.runner.specs.Faults.{IsCaused}
 use Rattle.runner.specs.Parts.{Passed, Unstepped}
 use Rattle.runner.specs.GivingUp.{Counted, KeepsAll, KeepsBoxes, LosesBy, LosesListed, Nowhere, RemovesSome}
-use Rattle.runner.specs.HalfEntries.{far_items, has_removed, is_expunge, is_gone, lacks_mark, logged, loses, lost_among, lost_between, near_items, removes, removes_some, tells_gone, tried}
+use Rattle.runner.specs.HalfEntries.{expunged_on, far_items, gone_on, is_expunge, is_gone, lacks_mark, logged, loses, lost_among, lost_between, near_items, removed_on, removes_some, tried}
 use Rattle.runner.proofs.KeptBoxes.{boxes_none}
 use Rattle.runner.proofs.PartCalls.{left_here}
 
@@ -42,46 +43,64 @@ steady xs p i j d le within = elim (cases_lt i j) [
   | inr upto ↦ let same : i ≡ j = omega (arith, upto, le) in subst (λ (k : ℕ). get_or xs i d ≤ get_or xs k d) same (omega arith)
 ]
 
-pub lost_rise : (j : Journal) (side : Side) (own others : List Item) (es : List Entry) → ArePairs es → IsNonDecreasing (lost_among j side own others es)
-lost_rise j side own others es pairs =
-    let test : Entry → Bool = loses j side own others in
-    steady (lost_among j side own others es)
+pub lost_rise : (removed : List ℕ) (side : Side) (own others : List Item) (es : List Entry) → ArePairs es → IsNonDecreasing (lost_among removed side own others es)
+lost_rise removed side own others es pairs =
+    let test : Entry → Bool = loses removed side own others in
+    steady (lost_among removed side own others es)
     (AllPairs-map (λ a b. a ≤ b) (uid_of Far) (filter test es)
     (AllPairs-filter (λ a b. uid_of Far a ≤ uid_of Far b) test es (λ i j d less within. (pairs.ordered i j d less within).0)))
 
 -- ---- where the plan has removed no message, and found none removed, none is lost
 
-none_of : (p q : Step → Bool) (steps : List Step) → ((s : Step) → p s ≡ false → q s ≡ false) → list_any p steps ≡ false → list_any q steps ≡ false
-none_of p q [] weaker h = refl
-none_of p q (s ∷ steps) weaker h =
+none_of : (p : Step → Bool) (f : Step → Option ℕ) (steps : List Step) → ((s : Step) → p s ≡ false → f s ≡ None) → list_any p steps ≡ false → filter_map f steps ≡ []
+none_of p f [] weaker h = refl
+none_of p f (s ∷ steps) weaker h =
     let parts = or_parts (p s) (list_any p steps) h in
-    or_from (q s) (list_any q steps) (weaker s parts.0) (none_of p q steps weaker parts.1)
+    ap₂ (λ (o : Option ℕ) (l : List ℕ). cons_option o l) (weaker s parts.0) (none_of p f steps weaker parts.1)
 
-no_expunge : (side : Side) (e : Entry) (s : Step) → is_expunge s ≡ false → removes side e s ≡ false
-no_expunge side e (step.New direction source flags mark) h = refl
-no_expunge side e (step.Gone direction far near) h = refl
-no_expunge side e (step.Flags direction far near set cleared) h = refl
-no_expunge side e (step.Expunge at uid) h = absurd (true≢false h)
+no_expunge : (side : Side) (s : Step) → is_expunge s ≡ false → expunged_on side s ≡ None
+no_expunge Far (step.New direction source flags mark) h = refl
+no_expunge Far (step.Gone direction far near) h = refl
+no_expunge Far (step.Flags direction far near set cleared) h = refl
+no_expunge Far (step.Expunge at uid) h = absurd (true≢false h)
+no_expunge Near (step.New direction source flags mark) h = refl
+no_expunge Near (step.Gone direction far near) h = refl
+no_expunge Near (step.Flags direction far near set cleared) h = refl
+no_expunge Near (step.Expunge at uid) h = absurd (true≢false h)
 
-no_gone : (side : Side) (e : Entry) (s : Step) → is_gone s ≡ false → tells_gone side e s ≡ false
-no_gone side e (step.New direction source flags mark) h = refl
-no_gone side e (step.Gone direction far near) h = absurd (true≢false h)
-no_gone side e (step.Flags direction far near set cleared) h = refl
-no_gone side e (step.Expunge at uid) h = refl
+no_gone : (side : Side) (s : Step) → is_gone s ≡ false → gone_on side s ≡ None
+no_gone Far (step.New direction source flags mark) h = refl
+no_gone Far (step.Gone direction far near) h = absurd (true≢false h)
+no_gone Far (step.Flags direction far near set cleared) h = refl
+no_gone Far (step.Expunge at uid) h = refl
+no_gone Near (step.New direction source flags mark) h = refl
+no_gone Near (step.Gone direction far near) h = absurd (true≢false h)
+no_gone Near (step.Flags direction far near set cleared) h = refl
+no_gone Near (step.Expunge at uid) h = refl
 
-none_removed : (j : Journal) (side : Side) (e : Entry) → removes_some j ≡ false → has_removed j side e ≡ false
-none_removed j side e h =
+none_removed : (j : Journal) (side : Side) → removes_some j ≡ false → removed_on j side ≡ []
+none_removed j side h =
     let parts = or_parts (list_any is_expunge (tried j)) (list_any is_gone (logged j)) h in
-    or_from (list_any (removes side e) (tried j)) (list_any (tells_gone side e) (logged j))
-    (none_of is_expunge (removes side e) (tried j) (no_expunge side e) parts.0) (none_of is_gone (tells_gone side e) (logged j) (no_gone side e) parts.1)
+    ap₂ (λ (xs ys : List ℕ). xs ++ ys) (none_of is_expunge (expunged_on side) (tried j) (no_expunge side) parts.0) (none_of is_gone (gone_on side) (logged j) (no_gone side) parts.1)
 
-pub no_lost : (j : Journal) (side : Side) (own others : List Item) (es : List Entry) → removes_some j ≡ false → lost_among j side own others es ≡ []
-no_lost j side own others [] h = refl
-no_lost j side own others (e ∷ es) h =
-    let test : Entry → Bool = loses j side own others in
+lost_of_none : (side : Side) (own others : List Item) (es : List Entry) → lost_among [] side own others es ≡ []
+lost_of_none side own others [] = refl
+lost_of_none side own others (e ∷ es) =
+    let test : Entry → Bool = loses [] side own others in
     let stays : test e ≡ false =
-    and_right (is_full e && is_none (flags_at own (uid_of side e)) && lacks_mark (flags_at others (uid_of (other side) e))) (has_removed j side e) (none_removed j side e h) in
-    ap (λ (b : Bool). map (uid_of Far) (cond b (e ∷ filter test es) (filter test es))) stays ∙ no_lost j side own others es h
+    and_right (is_full e && is_none (flags_at own (uid_of side e)) && lacks_mark (flags_at others (uid_of (other side) e))) false refl in
+    ap (λ (b : Bool). map (uid_of Far) (cond b (e ∷ filter test es) (filter test es))) stays ∙ lost_of_none side own others es
+
+pub no_lost : (j : Journal) (side : Side) (own others : List Item) (es : List Entry) → removes_some j ≡ false → lost_among (removed_on j side) side own others es ≡ []
+no_lost j side own others es h = ap (λ (removed : List ℕ). lost_among removed side own others es) (none_removed j side h) ∙ lost_of_none side own others es
+
+-- ---- the order of what was removed does not matter
+
+pub lost_permuted : (removed removed' : List ℕ) (side : Side) (own others : List Item) (es : List Entry) → IsPermutation removed removed'
+    → lost_among removed' side own others es ≡ lost_among removed side own others es
+lost_permuted removed removed' side own others es same = ap (λ (l : List Entry). map (uid_of Far) l) (filter_agree (loses removed' side own others) (loses removed side own others)
+    (λ e. ap (λ (b : Bool). is_full e && is_none (flags_at own (uid_of side e)) && lacks_mark (flags_at others (uid_of (other side) e)) && b)
+    (sym (list_any-IsPermutation (λ u. u == uid_of side e) removed removed' same))) es)
 
 -- ---- by listings, and by mailboxes
 
@@ -89,14 +108,14 @@ abbrev pub ListsSame : (is is' : List Item) → Type 0
 ListsSame is is' = (u : ℕ) → flags_at is u ≡ flags_at is' u
 
 -- what is listed of flags alone matters
-pub lost_same : (j : Journal) (side : Side) (own own' others others' : List Item) (es : List Entry) → ListsSame own own' → ListsSame others others'
-    → lost_among j side own others es ≡ lost_among j side own' others' es
-lost_same j side own own' others others' es same same' = ap (λ (l : List Entry). map (uid_of Far) l) (filter_agree (loses j side own others) (loses j side own' others')
-    (λ e. ap₂ (λ (o p : Option ℕ). is_full e && is_none o && lacks_mark p && has_removed j side e) (same (uid_of side e)) (same' (uid_of (other side) e))) es)
+pub lost_same : (removed : List ℕ) (side : Side) (own own' others others' : List Item) (es : List Entry) → ListsSame own own' → ListsSame others others'
+    → lost_among removed side own others es ≡ lost_among removed side own' others' es
+lost_same removed side own own' others others' es same same' = ap (λ (l : List Entry). map (uid_of Far) l) (filter_agree (loses removed side own others) (loses removed side own' others')
+    (λ e. ap₂ (λ (o p : Option ℕ). is_full e && is_none o && lacks_mark p && list_any (λ u. u == uid_of side e) removed) (same (uid_of side e)) (same' (uid_of (other side) e))) es)
 
 between_same : (j : Journal) (far far' near near' : List Item) (es : List Entry) → ListsSame far far' → ListsSame near near' → lost_between j far near es ≡ lost_between j far' near' es
 between_same j far far' near near' es same same' =
-    ap₂ (λ (xs ys : List ℕ). lost_of xs ys) (lost_same j Far far far' near near' es same same') (lost_same j Near near near' far far' es same' same)
+    ap₂ (λ (xs ys : List ℕ). lost_of xs ys) (lost_same (removed_on j Far) Far far far' near near' es same same') (lost_same (removed_on j Near) Near near near' far far' es same' same)
 
 -- the far listing came first
 pub loses_listed : (ours : List ℕ → Bool) (alone : Bool) (opened : Option Opened) (far near : List Item) (d m d' : Device) (lost : Lost) → KeepsBoxes ours alone d m → KeepsBoxes ours alone m d' → far ≡ far_items m
@@ -148,18 +167,18 @@ never_none opened j none is = absurd (let e = none ∙ is in cc)
 
 -- ---- one entry after another
 
-pub lost_more : (j : Journal) (side : Side) (own others : List Item) (es : List Entry) (i : ℕ) (e : Entry) (b : Bool) → i < length es → e ≡ get_or es i e → loses j side own others e ≡ b
-    → lost_among j side own others (take (i + 1) es) ≡ lost_among j side own others (take i es) ++ map (uid_of Far) (cond b (e ∷ []) [])
-lost_more j side own others es i e b below is tested =
-    let test : Entry → Bool = loses j side own others in
-    ap (λ (l : List Entry). lost_among j side own others l) (take_more es i e below ∙ ap (λ (x : Entry). take i es ++ x ∷ []) (sym is))
+pub lost_more : (removed : List ℕ) (side : Side) (own others : List Item) (es : List Entry) (i : ℕ) (e : Entry) (b : Bool) → i < length es → e ≡ get_or es i e → loses removed side own others e ≡ b
+    → lost_among removed side own others (take (i + 1) es) ≡ lost_among removed side own others (take i es) ++ map (uid_of Far) (cond b (e ∷ []) [])
+lost_more removed side own others es i e b below is tested =
+    let test : Entry → Bool = loses removed side own others in
+    ap (λ (l : List Entry). lost_among removed side own others l) (take_more es i e below ∙ ap (λ (x : Entry). take i es ++ x ∷ []) (sym is))
     ∙ ap (λ (l : List Entry). map (uid_of Far) l) (filter-append test (take i es) (e ∷ []))
     ∙ map-append (uid_of Far) (filter test (take i es)) (filter test (e ∷ []))
     ∙ ap (λ (c : Bool). map (uid_of Far) (filter test (take i es)) ++ map (uid_of Far) (cond c (e ∷ []) [])) tested
 
-pub lost_rise_taken : (j : Journal) (side : Side) (own others : List Item) (es : List Entry) (i : ℕ) (lost : List ℕ) → length es ≤ i → ArePairs es → lost ≡ lost_among j side own others (take i es) → IsNonDecreasing lost
-lost_rise_taken j side own others es i lost past pairs is =
-    subst (λ (l : List ℕ). IsNonDecreasing l) (sym (is ∙ ap (λ (l : List Entry). lost_among j side own others l) (take_all i es past))) (lost_rise j side own others es pairs)
+pub lost_rise_taken : (removed : List ℕ) (side : Side) (own others : List Item) (es : List Entry) (i : ℕ) (lost : List ℕ) → length es ≤ i → ArePairs es → lost ≡ lost_among removed side own others (take i es) → IsNonDecreasing lost
+lost_rise_taken removed side own others es i lost past pairs is =
+    subst (λ (l : List ℕ). IsNonDecreasing l) (sym (is ∙ ap (λ (l : List Entry). lost_among removed side own others l) (take_all i es past))) (lost_rise removed side own others es pairs)
 
 -- ---- on both sides
 

@@ -1,13 +1,14 @@
 -- Which entries of a plan that is given up lose a side: the plan has removed the message of that side, or found it removed, and the other one
 -- was undeleted since. A plan that is made anew would take such an entry for one whose message somebody removed.
-use Rattle.std.specs.Prelude.{◌&&◌, ◌||◌, ◌+◌, ◌==◌, ℕ, Bool, false, true, not, List, filter, is_none, length, map, take, Option, None, Some}
-use Rattle.std.specs.List.{list_any}
+use Rattle.std.specs.Prelude.{◌&&◌, ◌||◌, ◌+◌, ◌++◌, ◌==◌, ℕ, Bool, false, true, not, List, filter, is_none, length, map, take, Option, None, Some}
+use Rattle.std.specs.List.{filter_map, list_any}
 use Rattle.mailcore.specs.declared.listing.Item.{Item}
+use Rattle.mailcore.specs.declared.side.Direction.TheVariants.{Pull, Push}
 use Rattle.mailcore.specs.declared.side.Side.{Side}
 use Rattle.mailcore.specs.declared.side.Side.TheVariants.{Far, Near}
 use Rattle.mailcore.specs.FlagSet.{DELETED, has}
 use Rattle.mailcore.specs.Listed.{item_of}
-use Rattle.mailcore.specs.Sides.{other, source}
+use Rattle.mailcore.specs.Sides.{other}
 use Rattle.rules.specs.declared.entry.Entry.{Entry}
 use Rattle.rules.specs.declared.plan.Step.{Step}
 use Rattle.rules.specs.declared.plan.Step.TheVariants as step
@@ -27,12 +28,6 @@ logged j = take (length j.log) j.plan.steps
 abbrev pub tried : Journal → List Step
 tried j = take (length j.log + 1) j.plan.steps
 
-abbrev pub is_side : Side → Side → Bool
-is_side Far Far = true
-is_side Far Near = false
-is_side Near Far = false
-is_side Near Near = true
-
 abbrev pub is_expunge : Step → Bool
 is_expunge (step.New direction uid flags mark) = false
 is_expunge (step.Gone direction far near) = false
@@ -45,24 +40,22 @@ is_gone (step.Gone direction far near) = true
 is_gone (step.Flags direction far near set cleared) = false
 is_gone (step.Expunge side uid) = false
 
--- the step removes the entry's message of this side
-abbrev pub removes : Side → Entry → Step → Bool
-removes side e (step.New direction uid flags mark) = false
-removes side e (step.Gone direction far near) = false
-removes side e (step.Flags direction far near set cleared) = false
-removes side e (step.Expunge at uid) = is_side at side && uid == uid_of side e
+-- the message of this side that a step removes
+abbrev pub expunged_on : Side → Step → Option ℕ
+expunged_on Far (step.Expunge Far uid) = Some uid
+expunged_on Near (step.Expunge Near uid) = Some uid
+expunged_on side other = None
 
--- the step was called for since the entry's message of this side had gone
-abbrev pub tells_gone : Side → Entry → Step → Bool
-tells_gone side e (step.New direction uid flags mark) = false
-tells_gone side e (step.Gone direction far near) = is_side (source direction) side && far == uid_of Far e && near == uid_of Near e
-tells_gone side e (step.Flags direction far near set cleared) = false
-tells_gone side e (step.Expunge at uid) = false
+-- the message of this side that had gone, since which a step was called for
+abbrev pub gone_on : Side → Step → Option ℕ
+gone_on Far (step.Gone Pull far near) = Some far
+gone_on Near (step.Gone Push far near) = Some near
+gone_on side other = None
 
--- The plan has removed the entry's message of this side, or found it removed. A step after the log that tells it gone does not count: where it
+-- The messages of this side that the plan has removed, or found removed. A step after the log that reports one gone does not count: where it
 -- is not done, the other message stays as it was, and the next plan calls for it again.
-abbrev pub has_removed : Journal → Side → Entry → Bool
-has_removed j side e = list_any (removes side e) (tried j) || list_any (tells_gone side e) (logged j)
+abbrev pub removed_on : Journal → Side → List ℕ
+removed_on j side = filter_map (expunged_on side) (tried j) ++ filter_map (gone_on side) (logged j)
 
 -- the plan has removed a message, or found one removed
 abbrev pub removes_some : Journal → Bool
@@ -75,18 +68,18 @@ abbrev pub lacks_mark : Option ℕ → Bool
 lacks_mark None = false
 lacks_mark (Some flags) = not (has flags DELETED)
 
--- The plan has removed the entry's message of this side, or found it removed. It is not among what is listed of its side, and the other one is
--- among what is listed of the other side, and is not marked as deleted.
-abbrev pub loses : Journal → (side : Side) → (own others : List Item) → Entry → Bool
-loses j side own others e = is_full e && is_none (flags_at own (uid_of side e)) && lacks_mark (flags_at others (uid_of (other side) e)) && has_removed j side e
+-- The entry's message of this side is among those that the plan has removed, or found removed. It is not among what is listed of its side, and
+-- the other one is among what is listed of the other side, and is not marked as deleted.
+abbrev pub loses : (removed : List ℕ) → (side : Side) → (own others : List Item) → Entry → Bool
+loses removed side own others e = is_full e && is_none (flags_at own (uid_of side e)) && lacks_mark (flags_at others (uid_of (other side) e)) && list_any (λ u. u == uid_of side e) removed
 
 -- the far UIDs of those that lose this side
-abbrev pub lost_among : Journal → (side : Side) → (own others : List Item) → List Entry → List ℕ
-lost_among j side own others entries = map (uid_of Far) (filter (loses j side own others) entries)
+abbrev pub lost_among : (removed : List ℕ) → (side : Side) → (own others : List Item) → List Entry → List ℕ
+lost_among removed side own others entries = map (uid_of Far) (filter (loses removed side own others) entries)
 
 -- those that lose a side, by what is listed of both
 abbrev pub lost_between : Journal → (far near : List Item) → List Entry → Lost
-lost_between j far near entries = lost_of (lost_among j Far far near entries) (lost_among j Near near far entries)
+lost_between j far near entries = lost_of (lost_among (removed_on j Far) Far far near entries) (lost_among (removed_on j Near) Near near far entries)
 
 -- ---- by both mailboxes
 

@@ -1,23 +1,23 @@
 //! Which entries of a plan that is given up lose a side: the plan has removed their message there, or found it removed, and their other one
 //! was undeleted since.
 
-ghost use Rattle.std.specs.Prelude.{◌≡◌, ℕ, IfErr, IfOk, false};
+ghost use Rattle.std.specs.Prelude.{◌≡◌, ◌==◌, ℕ, IfErr, IfOk, false};
 ghost use Rattle.std.specs.List.{list_any};
-ghost use Rattle.std.specs.List.Sorted.{IsNonDecreasing};
+ghost use Rattle.std.specs.List.Sorted.{IsNonDecreasing, IsPermutation};
 ghost use Rattle.mailcore.specs.Listed.{IsRising};
 ghost use Rattle.rules.specs.Scene.{flags_at};
 ghost use Rattle.book.specs.LostSides.{AreRising};
 ghost use Rattle.runner.specs.Before.{HasPlan};
 ghost use Rattle.runner.specs.GivingUp.{Counted, KeepsAll, LosesBy, LosesListed, RemovesSome};
 ghost use Rattle.runner.specs.Going.{AreOpen};
-ghost use Rattle.runner.specs.HalfEntries.{far_items, has_removed, is_expunge, is_gone, is_side, lacks_mark, logged, loses, lost_among, lost_between, near_items, removes, removes_some, tells_gone, tried};
+ghost use Rattle.runner.specs.HalfEntries.{expunged_on, far_items, gone_on, is_expunge, is_gone, lacks_mark, logged, loses, lost_among, lost_between, near_items, removed_on, removes_some, tried};
 ghost use Rattle.runner.specs.Parts.{Unstepped};
 
 use crate::fault::{RunFault, call_fault};
 use book::lost_sides::LostSides;
 use mailcore::flags::Flag;
 use mailcore::listing::{Item, Listing};
-use mailcore::side::Side;
+use mailcore::side::{Direction, Side};
 use mailcore::spared::Spared;
 use outside::outside::Outside;
 use planner::searches::item_with;
@@ -26,13 +26,6 @@ use rules::plan::Step;
 use rules::state::SyncState;
 use std::alloc::{AllocError, Global};
 use sync_state::journal::Journal;
-
-/// Whether two sides are one.
-fn is_side(at: Side, side: Side) -> bool
-    ensures { result ≡ is_side at side }
-{
-    at == side
-}
 
 /// Whether a step removes a message.
 fn is_expunge(step: &Step) -> bool
@@ -54,31 +47,49 @@ fn is_gone(step: &Step) -> bool
     }
 }
 
-/// Whether a step removes the entry's message of this side.
-fn removes(step: &Step, side: Side, entry: &Entry) -> bool
-    ensures { result ≡ removes side entry.now step.now }
+/// The message of this side that a step removes.
+fn expunged_on(side: Side, step: &Step) -> Option<u32>
+    ensures { result ≡ expunged_on side step.now }
 {
-    match *step {
-        Step::Expunge { side: at, uid } => is_side(at, side) && uid.get() == entry.number(side),
-        Step::New { .. } | Step::Gone { .. } | Step::Flags { .. } => false,
+    match side {
+        Side::Far => match *step {
+            Step::Expunge {
+                side: Side::Far,
+                uid,
+            } => Some(uid.get()),
+            _ => None,
+        },
+        Side::Near => match *step {
+            Step::Expunge {
+                side: Side::Near,
+                uid,
+            } => Some(uid.get()),
+            _ => None,
+        },
     }
 }
 
-/// Whether a step was called for since the entry's message of this side had gone.
-fn tells_gone(step: &Step, side: Side, entry: &Entry) -> bool
-    ensures { result ≡ tells_gone side entry.now step.now }
+/// The message of this side that had gone, since which a step was called for.
+fn gone_on(side: Side, step: &Step) -> Option<u32>
+    ensures { result ≡ gone_on side step.now }
 {
-    match *step {
-        Step::Gone {
-            direction,
-            far,
-            near,
-        } => {
-            is_side(direction.source(), side)
-                && far.get() == entry.number(Side::Far)
-                && near.get() == entry.number(Side::Near)
-        }
-        Step::New { .. } | Step::Flags { .. } | Step::Expunge { .. } => false,
+    match side {
+        Side::Far => match *step {
+            Step::Gone {
+                direction: Direction::Pull,
+                far,
+                ..
+            } => Some(far.get()),
+            _ => None,
+        },
+        Side::Near => match *step {
+            Step::Gone {
+                direction: Direction::Push,
+                near,
+                ..
+            } => Some(near.get()),
+            _ => None,
+        },
     }
 }
 
@@ -107,35 +118,31 @@ fn removes_some(journal: &Journal) -> bool
     tries_expunge(journal) || logs_gone(journal)
 }
 
-/// Whether a step that is logged, or the one after them, removes the entry's message of this side.
-fn tries_to_remove(journal: &Journal, side: Side, entry: &Entry) -> bool
-    ensures { result ≡ list_any (removes side entry.now) (tried journal.now) }
+/// The messages of this side that the plan has removed, or found removed, in the order of its steps.
+fn removed_unsorted(alloc: Global, journal: &Journal, side: Side) -> Result<Vec<u32>, AllocError>
+    ensures { IfOk result (λ removed. removed.items ≡ removed_on journal.now side) }
 {
-    let count = journal.log.as_slice().len() + 1;
     let steps = journal.plan.steps.as_slice();
-    steps
+    let logged = journal.log.as_slice().len();
+    let expunged = steps
         .iter()
-        .take(count)
-        .any(|step| removes(step, side, entry))
+        .take(logged + 1)
+        .filter_map(|step| expunged_on(side, step));
+    let gone = steps
+        .iter()
+        .take(logged)
+        .filter_map(|step| gone_on(side, step));
+    expunged.chain(gone).collect(alloc)
 }
 
-/// Whether a step that is logged was called for since the entry's message of this side had gone.
-fn logs_as_gone(journal: &Journal, side: Side, entry: &Entry) -> bool
-    ensures { result ≡ list_any (tells_gone side entry.now) (logged journal.now) }
+/// The messages of this side that the plan has removed, or found removed, by rising UIDs.
+fn removed_on(alloc: Global, journal: &Journal, side: Side) -> Result<Vec<u32>, AllocError>
+    ensures same { IfOk result (λ removed. IsPermutation (removed_on journal.now side) removed.items) }
+    ensures in_order { IfOk result (λ removed. IsNonDecreasing removed.items) }
 {
-    let count = journal.log.as_slice().len();
-    let steps = journal.plan.steps.as_slice();
-    steps
-        .iter()
-        .take(count)
-        .any(|step| tells_gone(step, side, entry))
-}
-
-/// Whether the plan has removed the entry's message of this side, or found it removed.
-fn has_removed(journal: &Journal, side: Side, entry: &Entry) -> bool
-    ensures { result ≡ has_removed journal.now side entry.now }
-{
-    tries_to_remove(journal, side, entry) || logs_as_gone(journal, side, entry)
+    let mut removed = removed_unsorted(alloc, journal, side)?;
+    removed.sort_unstable();
+    Ok(removed)
 }
 
 /// Whether a message is listed, and not marked as deleted.
@@ -149,21 +156,54 @@ fn lacks_mark(items: &[Item], uid: u32) -> bool
     }
 }
 
-/// Whether an entry loses this side: the plan has removed its message there, or found it removed, that message is not listed, and the other
-/// one is listed, and was undeleted.
-fn loses(journal: &Journal, side: Side, own: &[Item], others: &[Item], entry: &Entry) -> bool
+/// Whether a UID is one of these, which rise.
+fn is_among(uids: &[u32], uid: u32) -> bool
+    requires { IsNonDecreasing uids.now }
+    ensures { result ≡ list_any (λ u. u == uid) uids.now }
+{
+    uids.binary_search(&uid).is_ok()
+}
+
+/// Whether an entry loses this side: its message there is one of those that the plan has removed, or found removed, it is not listed, and the
+/// other one is listed, and was undeleted.
+fn loses(removed: &[u32], side: Side, own: &[Item], others: &[Item], entry: &Entry) -> bool
+    requires removed { IsNonDecreasing removed.now }
     requires own { IsRising own.now }
     requires others { IsRising others.now }
-    ensures { result ≡ loses journal.now side own.now others.now entry.now }
+    ensures { result ≡ loses removed.now side own.now others.now entry.now }
 {
     entry.is_full()
         && item_with(own, entry.number(side)).is_none()
         && lacks_mark(others, entry.number(side.other()))
-        && has_removed(journal, side, entry)
+        && is_among(removed, entry.number(side))
+}
+
+/// The far UIDs of the entries that lose this side, by what the plan has removed there, and by the listing of this side and that of the
+/// other one.
+fn lost_among(
+    alloc: Global,
+    state: &SyncState,
+    removed: &[u32],
+    side: Side,
+    own: &Listing,
+    others: &Listing,
+) -> Result<Vec<u32>, AllocError>
+    requires removed { IsNonDecreasing removed.now }
+    ensures lost { IfOk result (λ lost. lost.items ≡ lost_among removed.now side own.now.items others.now.items state.now.entries) }
+    ensures rising { IfOk result (λ lost. IsNonDecreasing lost.items) }
+{
+    let (own, others) = (own.items.as_slice(), others.items.as_slice());
+    let mut lost = Vec::new(alloc);
+    for entry in state.entries.as_slice() {
+        if loses(removed, side, own, others, entry) {
+            lost.push(entry.number(Side::Far))?;
+        }
+    }
+    Ok(lost)
 }
 
 /// The far UIDs of the entries that lose this side, by the listing of this side and that of the other one.
-fn lost_among(
+fn lost_on(
     alloc: Global,
     state: &SyncState,
     journal: &Journal,
@@ -171,17 +211,12 @@ fn lost_among(
     own: &Listing,
     others: &Listing,
 ) -> Result<Vec<u32>, AllocError>
-    ensures lost { IfOk result (λ lost. lost.items ≡ lost_among journal.now side own.now.items others.now.items state.now.entries) }
+    ensures lost { IfOk result (λ lost. lost.items
+        ≡ lost_among (removed_on journal.now side) side own.now.items others.now.items state.now.entries) }
     ensures rising { IfOk result (λ lost. IsNonDecreasing lost.items) }
 {
-    let (own, others) = (own.items.as_slice(), others.items.as_slice());
-    let mut lost = Vec::new(alloc);
-    for entry in state.entries.as_slice() {
-        if loses(journal, side, own, others, entry) {
-            lost.push(entry.number(Side::Far))?;
-        }
-    }
-    Ok(lost)
+    let removed = removed_on(alloc, journal, side)?;
+    lost_among(alloc, state, &removed, side, own, others)
 }
 
 /// Lists the far mailbox.
@@ -229,8 +264,8 @@ fn lost_between(
     ensures lost { IfOk result (λ lost. lost ≡ lost_between journal.now far.now.items near.now.items state.now.entries) }
     ensures rising { IfOk result AreRising }
 {
-    let lost_far = lost_among(alloc, state, journal, Side::Far, far, near)?;
-    let lost_near = lost_among(alloc, state, journal, Side::Near, near, far)?;
+    let lost_far = lost_on(alloc, state, journal, Side::Far, far, near)?;
+    let lost_near = lost_on(alloc, state, journal, Side::Near, near, far)?;
     Ok(LostSides::new(lost_far, lost_near))
 }
 
