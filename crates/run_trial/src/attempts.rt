@@ -40,8 +40,8 @@ pub fn settle_trial<O: Outside>(
     ensures results { IfOk result (λ settled. O.honest outside.new → HasResults settled.last (O.seen outside.new).device) }
 
     // A fault that is no stop has its reason, and behind the greatest run number there is no other.
-    ensures caused { IfErr result (λ fault. (after : Stream) × HasReason (O.honest outside.new) opening options.now trial_stream
-        after fault (O.seen outside.old) (O.seen outside.new)) }
+    ensures caused { IfErr result (λ fault. (after : Stream) × HasReason (O.opened outside.new) (O.honest outside.new) opening options.now
+        trial_stream after fault (O.seen outside.old) (O.seen outside.new)) }
     ensures greatest { HasNoNext (O.honest outside.new) O.alone (O.seen outside.old).device (O.seen outside.new).device result }
 
     // Each attempt but the last met one stop, and each of all where a stop is answered.

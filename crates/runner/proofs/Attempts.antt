@@ -27,13 +27,13 @@ use Rattle.mailcore.specs.declared.side.Side.{Side}
 use Rattle.runner.specs.declared.fault.RunFault.{RunFault}
 use Rattle.runner.specs.declared.pass.Pass.{Pass}
 use Rattle.runner.specs.declared.fault.RunFault.TheVariants as run
-use Rattle.runner.specs.Faults.{IsBeyond, IsCaused, IsLastRun, Reasons, because, call_fault, or_beyond, or_keywords, or_refused, or_unread, stops_met}
+use Rattle.runner.specs.Faults.{IsBeyond, IsCaused, IsLastRun, ReadsLastRun, Reasons, call_fault, stops_met}
 use Rattle.runner.specs.ChangedMaps.{TellsOtherMap}
 use Rattle.runner.specs.Parts.{IsStuck, Left, TellsMore}
 use Rattle.runner.specs.Answers.{Answers, Inputs, Moves, as_read, run_of}
 use Rattle.runner.specs.Attempts.{AnswersAt, AtOpening, HasNoNext, HasReached, IsReached, MetBefore, MetStops, Reopens, TellsNoNext, AttemptAt, failed_before, found_by}
 use Rattle.runner.specs.Validities.{IsKept, TellsChanged}
-use Rattle.runner.proofs.PartCalls.{TellsNoBook, broken_or_whole, caused_after, caused_told, more_after, more_none}
+use Rattle.runner.proofs.PartCalls.{AreReasons, TellsNoBook, broken_or_whole, caused_after, caused_told, more_after, more_none}
 use Rattle.runner.proofs.Passes.{planned_state, run_of_state, unplanned_state}
 use Rattle.runner.proofs.Readings.{no_line, unread_left}
 use Rattle.runner.proofs.Validities.{changed_before, kept_arrives, kept_next, kept_read}
@@ -117,8 +117,8 @@ attempt_changed alone h1 h2 a b c side honest kept told = λ h s p held.
     let t = told h s p (subst (λ (f : Files). Holds f s p) (sym k.files) held) in
     (changed_before (as_read s p) side a b k.validities t.0, kept_next alone a b c k t.1)
 
-pub attempt_map : (alone : Bool) (h1 h2 : Type 0) (keywords : List Keyword) (a b c : Device) → (h2 → h1) → (h1 → IsKept alone a b) → TellsOtherMap h2 alone keywords b c → TellsOtherMap h2 alone keywords a c
-attempt_map alone h1 h2 keywords a b c honest kept told = λ h. let t = told h in (t.0, kept_next alone a b c (kept (honest h)) t.1)
+pub attempt_map : (now : Option Opened) (alone : Bool) (h1 h2 : Type 0) (keywords : List Keyword) (a b c : Device) → (h2 → h1) → (h1 → IsKept alone a b) → TellsOtherMap now h2 alone keywords b c → TellsOtherMap now h2 alone keywords a c
+attempt_map now alone h1 h2 keywords a b c honest kept told = (told.0, λ h. let t = told.1 h in (t.0, kept_next alone a b c (kept (honest h)) t.1))
 
 pub attempt_answers : {ours : List ℕ → Bool} {alone : Bool} (opening : Opening ours alone) (h1 h2 : Type 0) (options : Options) (stream : Stream) (fixed : Option ℕ) (number : ℕ) (a b : Device) (before : Option ℕ) (r : Result Pass RunFault) → fixed ≡ Some number → (h2 → h1) → (h1 → IsKept alone a b)
     → (h1 → AttemptAt opening before a → AttemptAt opening fixed b)
@@ -148,17 +148,20 @@ no_next (out.BadJournal line) k t = t
 no_next out.NoMemory k t = tt
 
 -- a reading that shows it
-pub last_run : (opened : Option Opened) (last : SyncState) (m d' : Device) → state_of opened ≡ Some last → d' ≡ m → IsHeld opened m → last.run + 1 ≡ 2 ^ 64 → IsLastRun d'.files (out.BadState 2)
+pub last_run : (opened : Option Opened) (last : SyncState) (m d' : Device) → state_of opened ≡ Some last → d' ≡ m → IsHeld opened m → last.run + 1 ≡ 2 ^ 64 → IsLastRun d'.files
 last_run None last m d' e is held n = absurd held
 last_run (Some o) last m d' e is held n =
     let same : o.state ≡ last = cc in
     record {
-      line = refl;
       state = o.state;
       pending = o.pending;
       held = subst (λ (d : Device). Holds d.files o.state o.pending) (sym is) held;
       greatest = ap (λ (s : SyncState). s.run + 1) same ∙ n;
     }
+
+pub reads_last : (opened : Option Opened) (last : SyncState) → state_of opened ≡ Some last → last.run + 1 ≡ 2 ^ 64 → ReadsLastRun opened
+reads_last None last e n = cc
+reads_last (Some o) last e n = let same : o.state ≡ last = cc in ap (λ (s : SyncState). s.run + 1) same ∙ n
 
 pub last_read : (opened : Option Opened) (last s : SyncState) (p : Pending) (d : Device) → state_of opened ≡ Some last → IsHeld opened d → Holds d.files s p → last.run ≡ s.run
 last_read None last s p d e held k = absurd held
@@ -294,11 +297,8 @@ pub more_found : (n : ℕ) (start now s1 : Seen) → TellsMore start now → s1 
 more_found n start now s1 p e = more_after start now s1 p (more_none now s1 (ap (λ (s : Seen). s.told) e))
 
 -- a fault that is told in one attempt is told in all
-pub caused_since : {c : Reasons} (h : Type 0) (a u : Device → Type 0) (keywords repeats beyond : Type 0) (unread : OutsideFault → Type 0) (f : RunFault) (s0 s1 s2 : Seen) → TellsMore s0 s1 → s0.appends ≤ s1.appends → (f ≡ run.Stopped → ⊥) → Left c h a u f s1 s2 → (c.keywords → keywords) → (c.repeats → repeats) → (c.beyond → beyond) → ((e : OutsideFault) → c.unread e → unread e)
-    → IsCaused (or_unread unread (or_refused (λ step. Unit {0}) (or_beyond beyond (or_keywords keywords (because (λ side. Unit {0}) repeats))))) f s0 s2
-caused_since {c} h a u keywords repeats beyond unread f s0 s1 s2 more appends other l m g b k =
-    caused_told c (or_unread unread (or_refused (λ step. Unit {0}) (or_beyond beyond (or_keywords keywords (because (λ side. Unit {0}) repeats))))) f s0 s2 (record { changed = λ side t. tt; keywords = m; repeats = g; beyond = b; unread = k; refused = λ step t. tt; unstepped = λ t. tt })
-    (caused_after c f s0 s1 s2 (λ is. absurd (other is)) more appends l.caused)
+pub caused_since : {c : Reasons} (c' : Reasons) (h : Type 0) (a u : Device → Type 0) (f : RunFault) (s0 s1 s2 : Seen) → TellsMore s0 s1 → s0.appends ≤ s1.appends → (f ≡ run.Stopped → ⊥) → Left c h a u f s1 s2 → AreReasons c c' → IsCaused c' f s0 s2
+caused_since {c} c' h a u f s0 s1 s2 more appends other l k = caused_told c c' f s0 s2 k (caused_after c f s0 s1 s2 (λ is. absurd (other is)) more appends l.caused)
 
 -- ---- a run that is fixed is not beyond the next one
 

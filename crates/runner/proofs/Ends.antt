@@ -1,5 +1,5 @@
 -- How several attempts end, by the last of them.
-use Rattle.std.proofs.Common.{◌≡◌, ◌<◌, ◌+◌, ◌⊎◌, ℕ, All, Bool, List, [], ◌∷◌, ◌++◌, sym, subst}
+use Rattle.std.proofs.Common.{◌≡◌, ◌<◌, ◌+◌, ◌⊎◌, ℕ, All, Bool, List, [], ◌∷◌, ◌++◌, Option, sym, subst}
 use Rattle.std.proofs.lemmas.List.Elements.{All-append, All-cons, All-contains, All-nil, All-weaker}
 use Rattle.rand_core.specs.Stream.{Stream}
 use Rattle.mailcore.specs.declared.keywords.Keyword.{Keyword}
@@ -10,6 +10,7 @@ use Rattle.book.specs.Books.{Holds}
 use Rattle.outside.specs.Calls.{Seen}
 use Rattle.outside.specs.Devices.{Device, Named}
 use Rattle.outside.specs.GoingOn.{GoesOn}
+use Rattle.outside.specs.Opened.{Opened}
 use Rattle.outside.proofs.GoingOn.{goes_after}
 use Rattle.run_states.specs.Conditions.{IsOver, IsPending, Underway}
 use Rattle.run_states.specs.Openings.{Opening, Unplanned}
@@ -85,8 +86,8 @@ module _ {ours : List ℕ → Bool} {alone : Bool} (opening : Opening ours alone
       }
 
   -- since the map of keywords has
-  pub kept_last : {reasons : Reasons} (h : Type 0) (a u : Device → Type 0) (n tries : ℕ) (keywords : List Keyword) (f : RunFault) → LastAttemptAt opening n start s1 s2 stream drawn → n < tries → f ≡ run.KeywordsChanged → h
-      → Left reasons h a u f s1 s2 → (reasons.keywords → TellsOtherMap h alone keywords s1.device s2.device) → KeptLast opening tries start s2 stream
-  kept_last {reasons} h a u n tries keywords f b few is honest l tells =
-      let told : TellsOtherMap h alone keywords s1.device s2.device = tells (subst (λ (x : RunFault). IsCaused reasons x s1 s2) is l.caused) in
-      record { earlier = n; few = few; began = b.began; kept = subst (λ (d : Device). IsKept alone d s2.device) (sym b.at) (told honest).1 }
+  pub kept_last : {reasons : Reasons} (h : Type 0) (a u : Device → Type 0) (n tries : ℕ) (now : Option Opened) (keywords : List Keyword) (f : RunFault) → LastAttemptAt opening n start s1 s2 stream drawn → n < tries → f ≡ run.KeywordsChanged → h
+      → Left reasons h a u f s1 s2 → (reasons.keywords → TellsOtherMap now h alone keywords s1.device s2.device) → KeptLast opening tries start s2 stream
+  kept_last {reasons} h a u n tries now keywords f b few is honest l tells =
+      let told : TellsOtherMap now h alone keywords s1.device s2.device = tells (subst (λ (x : RunFault). IsCaused reasons x s1 s2) is l.caused) in
+      record { earlier = n; few = few; began = b.began; kept = subst (λ (d : Device). IsKept alone d s2.device) (sym b.at) (told.1 honest).1 }

@@ -36,6 +36,10 @@ fits_at [] log logged h = h
 fits_at (s ∷ ss) [] logged h = h
 fits_at (s ∷ ss) (r ∷ rs) logged h = fits_at ss rs logged h
 
+-- logging a step is never refused
+pub never_refused : (opened : Option Opened) (logged : Logged) (e : OutsideFault) → FromLog opened logged e → e ≡ out.Refused → ⊥
+never_refused opened logged e told is = subst (λ (x : OutsideFault). FromLog opened logged x) is told
+
 pub takes_log : (opened : Option Opened) (number : ℕ) (logged : Logged) → HasUntorn opened → number ≡ number_at opened → FitsNext (next_at opened) logged → TakesLog opened number logged
 takes_log None number logged g n f = g
 takes_log (Some o) number logged g n f = of_pending o.pending number logged g n f

@@ -16,7 +16,7 @@ use Rattle.runner.specs.declared.fault.RunFault.{RunFault}
 use Rattle.runner.specs.declared.fault.RunFault.TheVariants as run
 use Rattle.runner.specs.Going.{number_at}
 use Rattle.runner.specs.Faults.{IsCaused, IsLost, IsRefusal, LeavesRun, Reasons, RefusedAt, call_fault, step_fault, stops_met}
-use Rattle.runner.specs.Parts.{InStep, Left, NoLess, PartOr, Passed, TellsMore}
+use Rattle.runner.specs.Parts.{InStep, Left, Never, NoLess, PartOr, Passed, TellsMore}
 
 -- ---- a bad line of the state or the journal
 
@@ -93,10 +93,10 @@ caused_after reasons (run.StoreFault side code) s0 s1 s2 stop p a (inl h) = inl 
 caused_after reasons (run.StoreFault side code) s0 s1 s2 stop p a (inr (inl h)) = inr (inl (record { far = h.far; protocol = h.protocol; copied = let k = h.copied in omega (arith, a, k) }))
 caused_after reasons (run.StoreFault side code) s0 s1 s2 stop p a (inr (inr h)) = inr (inr (h.0, refusal_after side code s0 s1 s2 p h.1))
 caused_after reasons (run.ValidityChanged side) s0 s1 s2 stop p a h = h
-caused_after reasons (run.BadState line) s0 s1 s2 stop p a (inl (z, inl b)) = inl (z, inl b)
-caused_after reasons (run.BadState line) s0 s1 s2 stop p a (inl (z, inr l)) = inl (z, inr (last_after (out.BadState line) s0 s1 s2 p l))
-caused_after reasons (run.BadState line) s0 s1 s2 stop p a (inr h) = inr h
-caused_after reasons (run.BadJournal line) s0 s1 s2 stop p a h = h
+caused_after reasons (run.BadState line) s0 s1 s2 stop p a (inl b) = inl b
+caused_after reasons (run.BadState line) s0 s1 s2 stop p a (inr (inl g)) = inr (inl g)
+caused_after reasons (run.BadState line) s0 s1 s2 stop p a (inr (inr h)) = inr (inr (last_after (out.BadState line) s0 s1 s2 p h.0, h.1))
+caused_after reasons (run.BadJournal line) s0 s1 s2 stop p a h = (last_after (out.BadJournal line) s0 s1 s2 p h.0, h.1)
 caused_after reasons run.MarksRepeat s0 s1 s2 stop p a h = h
 caused_after reasons run.NoMemory s0 s1 s2 stop p a h = tt
 caused_after reasons run.KeywordsChanged s0 s1 s2 stop p a h = h
@@ -122,16 +122,12 @@ StopCount e old new = e ≡ out.Stopped → (old.is_broken ≡ true) ⊎ (old.st
 abbrev IsNoted : OutsideFault → Seen → Seen → Type 0
 IsNoted e old new = (e ≡ out.Stopped → ⊥) → IsLast e old new
 
-bad_line : (reasons : Reasons) (line : ℕ) (s0 s1 : Seen) → IsLast (out.BadState line) s0 s1 → (line ≡ 0) ⊎ reasons.unread (out.BadState line) → IsCaused reasons (run.BadState line) s0 s1
-bad_line reasons line s0 s1 l (inl z) = inl (z, inr l)
-bad_line reasons line s0 s1 l (inr u) = inr u
-
 caused_by : (reasons : Reasons) (e : OutsideFault) (number : ℕ) (s0 s1 : Seen) → StopCount e s0 s1 → IsNoted e s0 s1 → HasLine reasons e → (e ≡ out.Refused → reasons.refused number) → IsCaused reasons (step_fault e number) s0 s1
 caused_by reasons out.Stopped number s0 s1 stop h t r = stop refl
 caused_by reasons out.Refused number s0 s1 stop h t r = (r refl, h (λ e. cc))
 caused_by reasons (out.Box side code) number s0 s1 stop h t r = inl (h (λ e. cc))
-caused_by reasons (out.BadState line) number s0 s1 stop h t r = bad_line reasons line s0 s1 (h (λ e. cc)) (t.state line refl)
-caused_by reasons (out.BadJournal line) number s0 s1 stop h t r = t.journal line refl
+caused_by reasons (out.BadState line) number s0 s1 stop h t r = inr (inr (h (λ e. cc), t.state line refl))
+caused_by reasons (out.BadJournal line) number s0 s1 stop h t r = (h (λ e. cc), t.journal line refl)
 caused_by reasons out.NoMemory number s0 s1 stop h t r = tt
 
 refusal : (s0 s1 : Seen) → IsLast out.Refused s0 s1 → IsRefusal Far 2 s0 s1
@@ -141,8 +137,8 @@ called_by : (reasons : Reasons) (e : OutsideFault) (s0 s1 : Seen) → StopCount 
 called_by reasons out.Stopped s0 s1 stop h t u = stop refl
 called_by reasons out.Refused s0 s1 stop h t u = inr (inr (u, refusal s0 s1 (h (λ e. cc))))
 called_by reasons (out.Box side code) s0 s1 stop h t u = inl (h (λ e. cc))
-called_by reasons (out.BadState line) s0 s1 stop h t u = bad_line reasons line s0 s1 (h (λ e. cc)) (t.state line refl)
-called_by reasons (out.BadJournal line) s0 s1 stop h t u = t.journal line refl
+called_by reasons (out.BadState line) s0 s1 stop h t u = inr (inr (h (λ e. cc), t.state line refl))
+called_by reasons (out.BadJournal line) s0 s1 stop h t u = (h (λ e. cc), t.journal line refl)
 called_by reasons out.NoMemory s0 s1 stop h t u = tt
 
 -- ---- how many stops it tells
@@ -260,6 +256,20 @@ module _ {T : Type 0} (honest : Type 0) (from : Device → Type 0) (others : Eff
       let refused : e ≡ out.Refused → honest → from s0.device → RefusedAt (number_at opened) s1.device = (λ is h at. let k = a.left h in held k.mid at k.before (subst (λ (x : OutsideFault). leaves x k.mid s1.device) is k.behind)) in
       record {
         caused = caused_by _ e number s0 s1 a.counted (noted e c) (line n.told) (λ is. (refl, refused is));
+        no_less = no_less e c;
+        stops = λ whole. n.stopped whole ∙ ap (λ (k : ℕ). s0.stops + k) (sym (step_stops e number));
+        goes_on = c.goes_on;
+        left = λ h at. let k = a.left h in let r = f k.mid at k.before k.behind n.told in after_step underway e number s0 s1 (noted e c) r.0 r.1;
+      }
+
+  -- that is never refused, and had a fault while a step was performed
+  pub left_unrefused : (underway : Device → Type 0) (number : ℕ) (e : OutsideFault) → Call honest others copies tells does leaves s0 s1 (Err e) → (tells e → HasLine Never e) → (tells e → e ≡ out.Refused → ⊥)
+      → ((m : Device) → from s0.device → others s0.device m → leaves e m s1.device → tells e → TellsNoBook e × underway s1.device) → Left Never honest from underway (step_fault e number) s0 s1
+  left_unrefused underway number e c line never f =
+      let a = c.acts in
+      let n = c.counts in
+      record {
+        caused = caused_by Never e number s0 s1 a.counted (noted e c) (line n.told) (never n.told);
         no_less = no_less e c;
         stops = λ whole. n.stopped whole ∙ ap (λ (k : ℕ). s0.stops + k) (sym (step_stops e number));
         goes_on = c.goes_on;
@@ -394,6 +404,7 @@ pub record AreReasons (c c' : Reasons) : Type 0 where
   pub keywords : c.keywords → c'.keywords
   pub repeats : c.repeats → c'.repeats
   pub beyond : c.beyond → c'.beyond
+  pub greatest : c.greatest → c'.greatest
   pub unread : (e : OutsideFault) → c.unread e → c'.unread e
   pub refused : (step : ℕ) → c.refused step → c'.refused step
   pub unstepped : c.unstepped → c'.unstepped
@@ -402,10 +413,11 @@ pub caused_told : (c c' : Reasons) (f : RunFault) (s0 s1 : Seen) → AreReasons 
 caused_told c c' run.Stopped s0 s1 k h = h
 caused_told c c' (run.Refused step) s0 s1 k h = (k.refused step h.0, h.1)
 caused_told c c' (run.ValidityChanged side) s0 s1 k h = k.changed side h
-caused_told c c' (run.BadState line) s0 s1 k (inl (z, inl b)) = inl (z, inl (k.beyond b))
-caused_told c c' (run.BadState line) s0 s1 k (inl (z, inr l)) = inl (z, inr l)
-caused_told c c' (run.BadState line) s0 s1 k (inr h) = inr (k.unread (out.BadState line) h)
-caused_told c c' (run.BadJournal line) s0 s1 k h = k.unread (out.BadJournal line) h
+caused_told c c' (run.BadState line) s0 s1 k (inl (z, b)) = inl (z, k.beyond b)
+caused_told c c' (run.BadState line) s0 s1 k (inr (inl (two, g))) = inr (inl (two, k.greatest g))
+caused_told c c' (run.BadState line) s0 s1 k (inr (inr (l, inl z))) = inr (inr (l, inl z))
+caused_told c c' (run.BadState line) s0 s1 k (inr (inr (l, inr u))) = inr (inr (l, inr (k.unread (out.BadState line) u)))
+caused_told c c' (run.BadJournal line) s0 s1 k h = (h.0, k.unread (out.BadJournal line) h.1)
 caused_told c c' (run.StoreFault side code) s0 s1 k (inl h) = inl h
 caused_told c c' (run.StoreFault side code) s0 s1 k (inr (inl h)) = inr (inl h)
 caused_told c c' (run.StoreFault side code) s0 s1 k (inr (inr h)) = inr (inr (k.unstepped h.0, h.1))

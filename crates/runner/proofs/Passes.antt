@@ -44,7 +44,7 @@ use Rattle.runner.specs.declared.fault.RunFault.TheVariants as run
 use Rattle.runner.specs.declared.pass.Pass.{Pass}
 use Rattle.runner.specs.declared.pass.Pass.TheVariants.{Already, Ran, Finished}
 use Rattle.runner.specs.declared.performed.Performed.{Performed}
-use Rattle.runner.specs.Faults.{IsBeyond, IsCaused, LeavesRun, Reasons}
+use Rattle.runner.specs.Faults.{IsBeyond, IsCaused, LeavesRun, ReadsBeyond, Reasons}
 use Rattle.runner.specs.Answers.{Answers, AnswersTo, AreUnfit, RunEnd, HasRepeats, Inputs, IsDrawn, PassStart, IsPlanFault, IsRest, IsRestOf, IsRun, PassEnd, RepeatsIn, RunsBy, as_read, made_in, run_of}
 use Rattle.runner.specs.Maps.{HasMap, HasMapIn, HasOtherMapIn}
 use Rattle.runner.specs.Before.{AreShown, BothListed, HasNoPlan, HasNone, HasPlan, IsEmptied, ReadUnderway, IsMade, Resumed}
@@ -239,7 +239,15 @@ read_run None d s p held now = absurd held
 read_run (Some o) d s p held now = let e = book_known d.files o.state s o.pending p held now in ap (λ (x : SyncState). x.run) e.0
 
 -- a run beyond the next one
-pub beyond_read : (opened : Option Opened) (d : Device) (run : ℕ) → IsHeld opened d → run_of opened + 1 < run → IsBeyond run d
+pub reads_beyond : (opened : Option Opened) (run : ℕ) → IsRead opened → run_of opened + 1 < run → ReadsBeyond opened run
+reads_beyond None run read more = absurd read
+reads_beyond (Some o) run read more = more
+
+pub beyond_is_read : (opened : Option Opened) (run : ℕ) → ReadsBeyond opened run → IsRead opened
+beyond_is_read None run more = more
+beyond_is_read (Some o) run more = tt
+
+pub beyond_read : (opened : Option Opened) (d : Device) (run : ℕ) → IsHeld opened d → ReadsBeyond opened run → IsBeyond run d
 beyond_read None d run held more = absurd held
 beyond_read (Some o) d run held more = record { state = o.state; pending = o.pending; held = held; beyond = more }
 

@@ -214,20 +214,23 @@ files_changed alone h0 h1 opened a b c side honest held kept told = λ h s p hol
         same_book o s p Far e f h = rw (sym e, sym f) h
         same_book o s p Near e f h = rw (sym e, sym f) h
 
-pub files_map : (alone : Bool) (h0 h1 : Type 0) (keywords : List Keyword) (opened : Option Opened) (a b c : Device) → (h1 → h0) → (h0 → IsHeld opened a) → (h0 → IsKept alone a b) → TellsMap h1 alone opened keywords b c → TellsOtherMap h1 alone keywords a c
-files_map alone h0 h1 keywords None a b c honest held kept told = λ h. absurd told.0
-files_map alone h0 h1 keywords (Some o) a b c honest held kept told = λ h.
-    let t = told.1 h in
-    let k = kept_next alone a b c (kept (honest h)) t.1 in (
-      record {
-        state = o.state;
-        pending = o.pending;
-        held = subst (λ (f : Files). Holds f o.state o.pending) (sym k.files) (held (honest h));
-        other = told.0;
-        same = of_side t.0;
-      },
-      k,
-    )
+pub files_map : (alone : Bool) (h0 h1 : Type 0) (keywords : List Keyword) (opened now : Option Opened) (a b c : Device) → (h1 → h0) → (h0 → IsHeld opened a) → (h0 → IsKept alone a b) → TellsMap h1 alone opened now keywords b c → TellsOtherMap now h1 alone keywords a c
+files_map alone h0 h1 keywords None now a b c honest held kept told = absurd told.0
+files_map alone h0 h1 keywords (Some o) now a b c honest held kept told = (
+  told.1.0,
+  λ h.
+      let t = told.1.1 h in
+      let k = kept_next alone a b c (kept (honest h)) t.1 in (
+        record {
+          state = o.state;
+          pending = o.pending;
+          held = subst (λ (f : Files). Holds f o.state o.pending) (sym k.files) (held (honest h));
+          other = told.0;
+          same = of_side t.0;
+        },
+        k,
+      ),
+)
   where
     of_side : BothSame (Some o) c → (side : Side) → HasSame (Some o) side c
     of_side both Far = both.0

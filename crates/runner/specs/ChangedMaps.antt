@@ -18,10 +18,10 @@ pub record HoldsOtherMap (keywords : List Keyword) (d : Device) : Type 0 where
   pub other : HasOtherMap keywords pending
   pub same : (side : Side) → IsSame (recorded state pending side) (box d side).validity
 
--- only of such a plan, and nothing has changed
-abbrev pub TellsOtherMap : (honest : Type 0) → (alone : Bool) → List Keyword → (d d' : Device) → Type 0
-TellsOtherMap honest alone keywords d d' = honest → HoldsOtherMap keywords d' × IsKept alone d d'
+-- Only of such a plan, which was read. Where the outside behaves as specified, the files hold it, and nothing has changed.
+abbrev pub TellsOtherMap : (now : Option Opened) → (honest : Type 0) → (alone : Bool) → List Keyword → (d d' : Device) → Type 0
+TellsOtherMap now honest alone keywords d d' = HasOtherMapIn keywords now × (honest → HoldsOtherMap keywords d' × IsKept alone d d')
 
--- the same by what was read
-abbrev pub TellsMap : (honest : Type 0) → (alone : Bool) → Option Opened → List Keyword → (d d' : Device) → Type 0
-TellsMap honest alone opened keywords d d' = HasOtherMapIn keywords opened × (honest → BothSame opened d' × IsKept alone d d')
+-- the same by what had been read before
+abbrev pub TellsMap : (honest : Type 0) → (alone : Bool) → (opened now : Option Opened) → List Keyword → (d d' : Device) → Type 0
+TellsMap honest alone opened now keywords d d' = HasOtherMapIn keywords opened × (HasOtherMapIn keywords now × (honest → BothSame opened d' × IsKept alone d d'))

@@ -1,8 +1,9 @@
 -- How the faults of the outside are told by a run, and what a fault of a run says.
-use Rattle.std.specs.Prelude.{◌≡◌, ◌<◌, ◌⊎◌, ◌+◌, ◌^◌, ℕ, true, length}
+use Rattle.std.specs.Prelude.{◌≡◌, ◌<◌, ◌⊎◌, ◌+◌, ◌^◌, ℕ, true, length, Option, None, Some}
 use Rattle.mailcore.specs.declared.side.Side.{Side}
 use Rattle.mailcore.specs.declared.side.Side.TheVariants.{Far}
 use Rattle.rules.specs.declared.state.SyncState.{SyncState}
+use Rattle.sync_state.specs.declared.journal.Journal.{Journal}
 use Rattle.sync_state.specs.declared.journal.WrittenJournal.{WrittenJournal}
 use Rattle.book.specs.declared.book.Pending.{Pending}
 use Rattle.book.specs.declared.book.Pending.TheVariants.{Planned}
@@ -13,6 +14,7 @@ use Rattle.outside.specs.declared.fault.OutsideFault.TheVariants as out
 use Rattle.outside.specs.BookCalls.{TellsFiles}
 use Rattle.outside.specs.Calls.{IsLast, Seen}
 use Rattle.outside.specs.Devices.{Device}
+use Rattle.outside.specs.Opened.{Opened, journal_of}
 use Rattle.runner.specs.declared.fault.RunFault.{RunFault}
 use Rattle.runner.specs.declared.fault.RunFault.TheVariants as run
 
@@ -67,25 +69,36 @@ pub record RefusedAt (step : ℕ) (d : Device) : Type 0 where
   pub held : Holds d.files state (Planned written)
   pub next : step ≡ length written.journal.log + 1
 
--- a step is told as refused only where it is the next one of the plan that the files hold
-abbrev pub TellsRefused : (honest from : Type 0) → Device → (step : ℕ) → Type 0
-TellsRefused honest from d step = honest → from → RefusedAt step d
+-- this step is the one after the last that is logged, of the plan that is pending
+pub record IsNextOf (opened : Option Opened) (step : ℕ) : Type 0 where
+  pub journal : Journal
+  pub pending : journal_of opened ≡ Some journal
+  pub next : step ≡ length journal.log + 1
+
+-- A step is reported as refused only where it is the next one of the plan that is pending then. Where the outside behaves as specified, the
+-- files hold that plan.
+abbrev pub TellsRefused : (now : Option Opened) → (honest from : Type 0) → Device → (step : ℕ) → Type 0
+TellsRefused now honest from d step = IsNextOf now step × (honest → from → RefusedAt step d)
 
 -- the files hold no book, and this is the first line that shows it
 abbrev pub TellsUnread : (honest : Type 0) → Device → OutsideFault → Type 0
 TellsUnread honest d fault = honest → TellsFiles fault d.files
 
--- the state's run has the greatest number, which is told of line 2
-pub record IsLastRun (files : Files) (fault : OutsideFault) : Type 0 where
-  pub line : fault ≡ out.BadState 2
+-- the state's run has the greatest number
+pub record IsLastRun (files : Files) : Type 0 where
   pub state : SyncState
   pub pending : Pending
   pub held : Holds files state pending
   pub greatest : state.run + 1 ≡ 2 ^ 64
 
--- no run comes behind what the files hold: they hold no book, or their state's run has the greatest number
-abbrev pub TellsNoRun : (honest : Type 0) → Device → OutsideFault → Type 0
-TellsNoRun honest d fault = honest → TellsFiles fault d.files ⊎ IsLastRun d.files fault
+-- the same of the state that was read
+abbrev pub ReadsLastRun : Option Opened → Type 0
+ReadsLastRun None = ⊥
+ReadsLastRun (Some o) = o.state.run + 1 ≡ 2 ^ 64
+
+-- no run comes after the state that was read. Where the outside behaves as specified, the files hold it.
+abbrev pub TellsLastRun : (now : Option Opened) → (honest : Type 0) → Device → Type 0
+TellsLastRun now honest d = ReadsLastRun now × (honest → IsLastRun d.files)
 
 -- the files hold a state, and this run is beyond the next one
 pub record IsBeyond (run : ℕ) (d : Device) : Type 0 where
@@ -94,28 +107,34 @@ pub record IsBeyond (run : ℕ) (d : Device) : Type 0 where
   pub held : Holds d.files state pending
   pub beyond : state.run + 1 < run
 
-abbrev pub TellsBeyond : (honest : Type 0) → (run : ℕ) → Device → Type 0
-TellsBeyond honest run d = honest → IsBeyond run d
+-- by the state that was read, this run is beyond the next one
+abbrev pub ReadsBeyond : Option Opened → (run : ℕ) → Type 0
+ReadsBeyond None run = ⊥
+ReadsBeyond (Some o) run = o.state.run + 1 < run
+
+abbrev pub TellsBeyond : (now : Option Opened) → (honest : Type 0) → (run : ℕ) → Device → Type 0
+TellsBeyond now honest run d = ReadsBeyond now run × (honest → IsBeyond run d)
 
 -- what stands behind faults of the run's own: that a side's UIDVALIDITY has changed, that the map of keywords has, that marks repeat, that
--- the run is beyond the next one, and that a line of the state or the journal is bad; and behind a refusal: that it is one of this step, or of a call by which no
--- step was performed
+-- the run is beyond the next one, that the state's run has the greatest number, and that the files hold no book where a line of the state or the
+-- journal is reported as bad; and behind a refusal: that it is one of this step, or of a call by which no step was performed
 pub record Reasons : Type 1 where
   pub changed : Side → Type 0
   pub keywords : Type 0
   pub repeats : Type 0
   pub beyond : Type 0
+  pub greatest : Type 0
   pub unread : OutsideFault → Type 0
   pub refused : (step : ℕ) → Type 0
   pub unstepped : Type 0
 
 -- while a step is performed: a refusal is one of it
 abbrev pub performing : (refused : (step : ℕ) → Type 0) → Reasons
-performing refused = record { changed = λ side. ⊥; keywords = ⊥; repeats = ⊥; beyond = ⊥; unread = λ fault. ⊥; refused = refused; unstepped = ⊥ }
+performing refused = record { changed = λ side. ⊥; keywords = ⊥; repeats = ⊥; beyond = ⊥; greatest = ⊥; unread = λ fault. ⊥; refused = refused; unstepped = ⊥ }
 
 -- while none is, once the shelf was read: no line of it is bad
 abbrev pub because : (changed : Side → Type 0) → (repeats : Type 0) → Reasons
-because changed repeats = record { changed = changed; keywords = ⊥; repeats = repeats; beyond = ⊥; unread = λ fault. ⊥; refused = λ step. ⊥; unstepped = Unit {0} }
+because changed repeats = record { changed = changed; keywords = ⊥; repeats = repeats; beyond = ⊥; greatest = ⊥; unread = λ fault. ⊥; refused = λ step. ⊥; unstepped = Unit {0} }
 
 -- where the map of keywords may have changed too
 abbrev pub or_keywords : (keywords : Type 0) → Reasons → Reasons
@@ -129,18 +148,23 @@ or_unread unread reasons = record reasons { unread = unread }
 abbrev pub or_beyond : (beyond : Type 0) → Reasons → Reasons
 or_beyond beyond reasons = record reasons { beyond = beyond }
 
+-- where the state's run may have the greatest number too
+abbrev pub or_greatest : (greatest : Type 0) → Reasons → Reasons
+or_greatest greatest reasons = record reasons { greatest = greatest }
+
 -- where steps are performed too
 abbrev pub or_refused : (refused : (step : ℕ) → Type 0) → Reasons → Reasons
 or_refused refused reasons = record reasons { refused = refused }
 
 -- A call stopped, was refused or had another fault, which is the last that was told; the faults of the run's own have their reasons.
--- Line 0 of the state: the run is beyond the next one, or the outside has told it so, of a copy whose UID is taken.
+-- Line 0 of the state: the run is beyond the next one. Line 2: its run has the greatest number. Any line of the state or the journal: the
+-- outside has reported it last, line 0 of a copy whose UID is taken, and each other one of files that hold no book.
 abbrev pub IsCaused : Reasons → RunFault → Seen → Seen → Type 0
 IsCaused reasons run.Stopped old new = (old.is_broken ≡ true) ⊎ (old.stops < new.stops)
 IsCaused reasons (run.Refused step) old new = reasons.refused step × IsLast out.Refused old new
 IsCaused reasons (run.ValidityChanged side) old new = reasons.changed side
-IsCaused reasons (run.BadState line) old new = ((line ≡ 0) × (reasons.beyond ⊎ IsLast (out.BadState line) old new)) ⊎ reasons.unread (out.BadState line)
-IsCaused reasons (run.BadJournal line) old new = reasons.unread (out.BadJournal line)
+IsCaused reasons (run.BadState line) old new = ((line ≡ 0) × reasons.beyond) ⊎ (((line ≡ 2) × reasons.greatest) ⊎ (IsLast (out.BadState line) old new × ((line ≡ 0) ⊎ reasons.unread (out.BadState line))))
+IsCaused reasons (run.BadJournal line) old new = IsLast (out.BadJournal line) old new × reasons.unread (out.BadJournal line)
 IsCaused reasons (run.StoreFault side number) old new = IsLast (out.Box side number) old new ⊎ (IsLost side number old new ⊎ (reasons.unstepped × IsRefusal side number old new))
 IsCaused reasons run.MarksRepeat old new = reasons.repeats
 IsCaused reasons run.NoMemory old new = Unit {0}

@@ -67,9 +67,9 @@ InStep number opened honest from d = performing (λ step. (step ≡ number) × (
 abbrev pub StepPart : {T : Type 0} → (number : ℕ) → Option Opened → (honest : Type 0) → (from underway : Device → Type 0) → (copies : T → ℕ) → (reaches : T → Device → Type 0) → Seen → Seen → Result T RunFault → Type 0
 StepPart number opened honest from underway copies reaches old new result = PartOr (InStep number opened honest (from old.device) new.device) honest from underway copies reaches old new result
 
--- a part that performs steps of the plan that the files hold, and may tell a fault of the run's own, for these reasons
-abbrev pub RunPart : {T : Type 0} → Reasons → (honest : Type 0) → (from underway : Device → Type 0) → (copies : T → ℕ) → (reaches : T → Device → Type 0) → Seen → Seen → Result T RunFault → Type 0
-RunPart reasons honest from underway copies reaches old new result = PartOr (or_refused (TellsRefused honest (from old.device) new.device) reasons) honest from underway copies reaches old new result
+-- a part that performs steps of the plan that is pending, and may tell a fault of the run's own, for these reasons
+abbrev pub RunPart : {T : Type 0} → Reasons → (now : Option Opened) → (honest : Type 0) → (from underway : Device → Type 0) → (copies : T → ℕ) → (reaches : T → Device → Type 0) → Seen → Seen → Result T RunFault → Type 0
+RunPart reasons now honest from underway copies reaches old new result = PartOr (or_refused (TellsRefused now honest (from old.device) new.device) reasons) honest from underway copies reaches old new result
 
 -- on an outside that had failed before, a part stops and changes nothing
 abbrev pub IsStuck : {T : Type 0} → (old new : Seen) → Result T RunFault → Type 0

@@ -1,5 +1,5 @@
 -- What one pass answers, leaves and may tell.
-use Rattle.std.specs.Prelude.{◌≡◌, ◌≤◌, ◌+◌, ℕ, Bool, true, List}
+use Rattle.std.specs.Prelude.{◌≡◌, ◌≤◌, ◌+◌, ℕ, Bool, true, List, Option}
 use Rattle.rand_core.specs.Stream.{Stream}
 use Rattle.rules.specs.declared.options.Options.{Options}
 use Rattle.rules.specs.declared.state.SyncState.{SyncState}
@@ -8,6 +8,7 @@ use Rattle.book.specs.declared.book.Pending.{Pending}
 use Rattle.book.specs.declared.book.Pending.TheVariants.{Missing}
 use Rattle.book.specs.Books.{Holds}
 use Rattle.outside.specs.Devices.{Device}
+use Rattle.outside.specs.Opened.{Opened}
 use Rattle.run_states.specs.Endings.{IsDone}
 use Rattle.run_states.specs.Openings.{IsIdle, Opening}
 use Rattle.runner.specs.declared.pass.Pass.{Pass}
@@ -40,9 +41,10 @@ pub record LeavesMade (honest : Type 0) (alone : Bool) (old new : Device) : Type
 -- Why a pass tells a fault. `ValidityChanged` comes only where that side's UIDVALIDITY is not the recorded one, far before near, and
 -- `KeywordsChanged` only where the files hold a plan by another map and both UIDVALIDITYs are those of the plan; nothing has changed then;
 -- `MarksRepeat` only where the generator's draws do, before there is a mark for each new message of some world since the
--- opening; a line of the state or the journal only where the files that stand there hold no book, but line 0 of the state: where the run is
--- beyond the next one, or the outside has told it last.
-abbrev pub pass_reasons : (honest : Type 0) → {ours : List ℕ → Bool} {alone : Bool} → Opening ours alone → (run : ℕ) → Options → Stream → (old new : Device) → Reasons
-pass_reasons honest {ours} {alone} opening run options stream old new =
-    or_unread (TellsUnread honest new) (or_beyond (TellsBeyond honest run old) (or_keywords (TellsOtherMap honest alone options.keywords old new)
+-- opening; a line of the state or the journal only where the outside has reported it last, and the files that stand there hold no book, but line 0
+-- of the state: where the run is beyond the next one, or the outside has reported it last. That a run is beyond the next one, and that a plan
+-- goes by another map, is so of what was read on each outside.
+abbrev pub pass_reasons : (now : Option Opened) → (honest : Type 0) → {ours : List ℕ → Bool} {alone : Bool} → Opening ours alone → (run : ℕ) → Options → Stream → (old new : Device) → Reasons
+pass_reasons now honest {ours} {alone} opening run options stream old new =
+    or_unread (TellsUnread honest new) (or_beyond (TellsBeyond now honest run old) (or_keywords (TellsOtherMap now honest alone options.keywords old new)
     (because (TellsChanged honest alone old new) (HasRepeats opening honest (PassStart opening run options stream old) options stream))))

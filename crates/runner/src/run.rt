@@ -4,7 +4,7 @@ ghost use Rattle.std.specs.Prelude.{◌≡◌, ◌<◌, ◌+◌, ◌^◌, [], No
 ghost use Rattle.outside.specs.Opened.{AreCommitted, IsBook, IsHeld, IsRead, TakesCommit};
 ghost use Rattle.run_states.specs.Conditions.{Underway};
 ghost use Rattle.run_states.specs.Openings.{Opening};
-ghost use Rattle.runner.specs.Faults.{because, or_beyond, or_keywords};
+ghost use Rattle.runner.specs.Faults.{ReadsBeyond, because, or_beyond, or_keywords};
 ghost use Rattle.runner.specs.Maps.{HasMapIn};
 ghost use Rattle.runner.specs.ChangedMaps.{TellsMap};
 ghost use Rattle.runner.specs.Parts.{IsStuck, Part, PartOr, RunPart, Unstepped};
@@ -119,7 +119,7 @@ fn begin<O: Outside, R: Rng, P: Progress>(
         → NamesBy opening (O.opened outside.old) pass (O.seen outside.old).device (O.seen outside.new).device) }
     ensures part { RunPart (because (TellsUnlessSame (O.honest outside.new) (O.opened outside.old) (O.seen outside.old).device)
         (HasRepeats opening (O.honest outside.new) (PlanStart opening (O.opened outside.old) options.now
-        (R.stream rng.old) (O.seen outside.old).device) options.now (R.stream rng.old))) (O.honest outside.new)
+        (R.stream rng.old) (O.seen outside.old).device) options.now (R.stream rng.old))) (O.opened outside.new) (O.honest outside.new)
         (PlanStart opening (O.opened outside.old) options.now (R.stream rng.old)) (Underway opening) made_in
         (λ _. RunEnd opening) (O.seen outside.old) (O.seen outside.new) result }
 {
@@ -153,7 +153,7 @@ fn resume<O: Outside, P: Progress>(
     ensures named { IfOk result (λ pass. O.honest outside.new → Resumed opening (O.opened outside.old)
         (O.seen outside.old).device
         → NamesBy opening (O.opened outside.old) pass (O.seen outside.old).device (O.seen outside.new).device) }
-    ensures part { RunPart Unstepped (O.honest outside.new) (Resumed opening (O.opened outside.old))
+    ensures part { RunPart Unstepped (O.opened outside.new) (O.honest outside.new) (Resumed opening (O.opened outside.old))
         (Underway opening) made_in (λ _. RunEnd opening) (O.seen outside.old) (O.seen outside.new) result }
 {
     untear(outside)?;
@@ -213,7 +213,7 @@ fn work<O: Outside, R: Rng, P: Progress>(
     ensures part { RunPart (because (TellsUnlessSame (O.honest outside.new) (O.opened outside.old) (O.seen outside.old).device)
         (HasRepeats opening (O.honest outside.new) (ReadPassStart opening (O.opened outside.old)
         (run_of (O.opened outside.old) + 1) options.now (R.stream rng.old) (O.seen outside.old).device) options.now (R.stream rng.old)))
-        (O.honest outside.new)
+        (O.opened outside.new) (O.honest outside.new)
         (ReadPassStart opening (O.opened outside.old) (run_of (O.opened outside.old) + 1) options.now (R.stream rng.old))
         (Underway opening) made_in (λ _. RunEnd opening) (O.seen outside.old) (O.seen outside.new) result }
 {
@@ -252,12 +252,12 @@ fn open_and_work<O: Outside, R: Rng, P: Progress>(
     ensures named { IfOk result (λ pass. O.honest outside.new → ReadPassStart opening (O.opened outside.old)
         (run_of (O.opened outside.old) + 1) options.now (R.stream rng.old) (O.seen outside.old).device
         → NamesBy opening (O.opened outside.old) pass (O.seen outside.old).device (O.seen outside.new).device) }
-    ensures part { RunPart (or_keywords (TellsMap (O.honest outside.new) O.alone (O.opened outside.old) options.now.keywords
-        (O.seen outside.old).device (O.seen outside.new).device)
+    ensures part { RunPart (or_keywords (TellsMap (O.honest outside.new) O.alone (O.opened outside.old) (O.opened outside.new)
+        options.now.keywords (O.seen outside.old).device (O.seen outside.new).device)
         (because (TellsChange (O.honest outside.new) O.alone (O.opened outside.old) (O.seen outside.old).device (O.seen outside.new).device)
         (HasRepeats opening (O.honest outside.new) (ReadPassStart opening (O.opened outside.old)
         (run_of (O.opened outside.old) + 1) options.now (R.stream rng.old) (O.seen outside.old).device) options.now (R.stream rng.old))))
-        (O.honest outside.new)
+        (O.opened outside.new) (O.honest outside.new)
         (ReadPassStart opening (O.opened outside.old) (run_of (O.opened outside.old) + 1) options.now (R.stream rng.old))
         (Underway opening) made_in (λ _. RunEnd opening) (O.seen outside.old) (O.seen outside.new) result }
 {
@@ -298,12 +298,12 @@ fn take_up<O: Outside, R: Rng, P: Progress>(
         run options.now (R.stream rng.old) (O.seen outside.old).device
         → NamesBy opening (O.opened outside.old) pass (O.seen outside.old).device (O.seen outside.new).device) }
     ensures beyond { run_of (O.opened outside.old) + 1 < run → IsErr result × (O.seen outside.new ≡ O.seen outside.old) }
-    ensures part { RunPart (or_beyond (run_of (O.opened outside.old) + 1 < run)
-        (or_keywords (TellsMap (O.honest outside.new) O.alone (O.opened outside.old) options.now.keywords (O.seen outside.old).device
-        (O.seen outside.new).device)
+    ensures part { RunPart (or_beyond (ReadsBeyond (O.opened outside.old) run × ReadsBeyond (O.opened outside.new) run)
+        (or_keywords (TellsMap (O.honest outside.new) O.alone (O.opened outside.old) (O.opened outside.new) options.now.keywords
+        (O.seen outside.old).device (O.seen outside.new).device)
         (because (TellsChange (O.honest outside.new) O.alone (O.opened outside.old) (O.seen outside.old).device (O.seen outside.new).device)
         (HasRepeats opening (O.honest outside.new) (ReadPassStart opening (O.opened outside.old) run options.now
-        (R.stream rng.old) (O.seen outside.old).device) options.now (R.stream rng.old))))) (O.honest outside.new)
+        (R.stream rng.old) (O.seen outside.old).device) options.now (R.stream rng.old))))) (O.opened outside.new) (O.honest outside.new)
         (ReadPassStart opening (O.opened outside.old) run options.now (R.stream rng.old)) (Underway opening)
         made_in (λ _. PassEnd opening run) (O.seen outside.old) (O.seen outside.new) result }
 {
@@ -355,10 +355,11 @@ pub fn pass<O: Outside, R: Rng, P: Progress>(
         → IsErr result × IsKept O.alone (O.seen outside.old).device (O.seen outside.new).device) }
     ensures stuck { IsStuck (O.seen outside.old) (O.seen outside.new) result }
 
-    // A run that is underway is over if this succeeds. After any error it is still underway, and the error has its cause.
-    ensures part { RunPart (pass_reasons (O.honest outside.new) opening run options.now (R.stream rng.old)
-        (O.seen outside.old).device (O.seen outside.new).device) (O.honest outside.new) (PassStart opening run options.now
-        (R.stream rng.old)) (Underway opening) made_in (λ _. PassEnd opening run) (O.seen outside.old)
+    // A run that is underway is over if this succeeds. After any error it is still underway, and the error has its cause. A step that is
+    // reported as refused is the one after the last that is logged.
+    ensures part { RunPart (pass_reasons (O.opened outside.new) (O.honest outside.new) opening run options.now (R.stream rng.old)
+        (O.seen outside.old).device (O.seen outside.new).device) (O.opened outside.new) (O.honest outside.new) (PassStart opening run
+        options.now (R.stream rng.old)) (Underway opening) made_in (λ _. PassEnd opening run) (O.seen outside.old)
         (O.seen outside.new) result }
 {
     recall(outside)?;

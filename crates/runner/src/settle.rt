@@ -1,11 +1,12 @@
 //! A run in several attempts, each after one that met a stop.
 
 ghost use Rattle.std.specs.Prelude.{◌≡◌, ◌≤◌, ◌+◌, ◌^◌, None, Some, OnOk, OnErr, IfOk, IfErr, false, ℕ};
+ghost use Rattle.outside.specs.Opened.{IsRead};
 ghost use Rattle.run_states.specs.Conditions.{IsOver};
 ghost use Rattle.run_states.specs.Openings.{Opening};
 ghost use Rattle.runner.specs.Answers.{HasRepeats, Moves, OfFiles, made_in};
 ghost use Rattle.runner.specs.Attempts.{AnswersAt, AtOpening, FromOpening, HasNoNext, HasReached, IsReached, AttemptStart, AttemptAt, found_by};
-ghost use Rattle.runner.specs.Faults.{TellsNoRun, because, or_beyond, or_keywords, or_unread};
+ghost use Rattle.runner.specs.Faults.{TellsLastRun, TellsUnread, because, or_beyond, or_greatest, or_keywords, or_unread};
 ghost use Rattle.runner.specs.Finding.{FindsAt, FindsSame};
 ghost use Rattle.runner.specs.Naming.{NamesAt};
 ghost use Rattle.runner.specs.ChangedMaps.{TellsOtherMap};
@@ -33,8 +34,9 @@ fn next_run<O: Outside>(outside: &mut O) -> Result<u64, RunFault>
     ensures greatest { HasNoNext (O.honest outside.new) O.alone (O.seen outside.old).device (O.seen outside.new).device result }
     ensures same { OnOk result (O.honest outside.new → FindsSame O.ours (O.seen outside.old).device (O.seen outside.new).device) }
     ensures stuck { IsStuck (O.seen outside.old) (O.seen outside.new) result }
-    ensures part { PartOr (or_unread (TellsNoRun (O.honest outside.new) (O.seen outside.new).device) Unstepped) (O.honest outside.new)
-        (AtOpening opening) (AtOpening opening)
+    ensures part { PartOr (or_unread (TellsUnread (O.honest outside.new) (O.seen outside.new).device)
+        (or_greatest (TellsLastRun (O.opened outside.new) (O.honest outside.new) (O.seen outside.new).device) Unstepped))
+        (O.honest outside.new) (AtOpening opening) (AtOpening opening)
         (λ _. 0) (λ number d. (number ≡ opening.world.state.run + 1) × AtOpening opening d) (O.seen outside.old)
         (O.seen outside.new) result }
 {
@@ -64,8 +66,9 @@ fn fix_run<O: Outside>(outside: &mut O, run: &mut Option<u64>) -> Result<u64, Ru
     ensures greatest { run.old ≡ None → HasNoNext (O.honest outside.new) O.alone (O.seen outside.old).device (O.seen outside.new).device result }
     ensures same { OnOk result (O.honest outside.new → FindsSame O.ours (O.seen outside.old).device (O.seen outside.new).device) }
     ensures stuck { IsStuck (O.seen outside.old) (O.seen outside.new) result }
-    ensures part { PartOr (or_unread (TellsNoRun (O.honest outside.new) (O.seen outside.new).device) Unstepped) (O.honest outside.new)
-        (AttemptAt opening run.old) (AttemptAt opening run.new)
+    ensures part { PartOr (or_unread (TellsUnread (O.honest outside.new) (O.seen outside.new).device)
+        (or_greatest (TellsLastRun (O.opened outside.new) (O.honest outside.new) (O.seen outside.new).device) Unstepped))
+        (O.honest outside.new) (AttemptAt opening run.old) (AttemptAt opening run.new)
         (λ _. 0) (λ _. AttemptAt opening run.new) (O.seen outside.old) (O.seen outside.new) result }
 {
     if let Some(number) = *run {
@@ -105,14 +108,15 @@ fn attempt<O: Outside, R: Rng, P: Progress>(
     ensures reached { O.honest outside.new → IsReached run.old (O.seen outside.old).device.files
         → IsReached run.new (O.seen outside.new).device.files }
     ensures stuck { IsStuck (O.seen outside.old) (O.seen outside.new) result }
-    ensures part { RunPart (or_unread (TellsNoRun (O.honest outside.new) (O.seen outside.new).device)
-        (or_beyond (O.honest outside.new → IsReached run.old (O.seen outside.old).device.files → ⊥)
-        (or_keywords (TellsOtherMap (O.honest outside.new) O.alone options.now.keywords (O.seen outside.old).device
+    ensures part { RunPart (or_unread (TellsUnread (O.honest outside.new) (O.seen outside.new).device)
+        (or_greatest (TellsLastRun (O.opened outside.new) (O.honest outside.new) (O.seen outside.new).device)
+        (or_beyond (IsRead (O.opened outside.new) × (O.honest outside.new → IsReached run.old (O.seen outside.old).device.files → ⊥))
+        (or_keywords (TellsOtherMap (O.opened outside.new) (O.honest outside.new) O.alone options.now.keywords (O.seen outside.old).device
         (O.seen outside.new).device)
         (because (TellsChanged (O.honest outside.new) O.alone (O.seen outside.old).device (O.seen outside.new).device)
         (HasRepeats opening (O.honest outside.new) (AttemptStart opening options.now (R.stream rng.old) run.old
-        (O.seen outside.old).device) options.now (R.stream rng.old))))))
-        (O.honest outside.new) (AttemptStart opening options.now (R.stream rng.old) run.old)
+        (O.seen outside.old).device) options.now (R.stream rng.old)))))))
+        (O.opened outside.new) (O.honest outside.new) (AttemptStart opening options.now (R.stream rng.old) run.old)
         (AttemptStart opening options.now (R.stream rng.new) run.new)
         made_in (λ _. IsOver opening) (O.seen outside.old) (O.seen outside.new) result }
 {
@@ -160,11 +164,12 @@ pub fn settle<O: Outside, R: Rng, P: Progress>(
     ensures results { IfOk result (λ settled. O.honest outside.new → HasResults settled.last (O.seen outside.new).device) }
 
     // Each error but `Stopped` has its cause. After the run with the greatest number there is no other.
-    ensures caused { IfErr result (λ fault. HasReason (O.honest outside.new) opening options.now (R.stream rng.old)
+    ensures caused { IfErr result (λ fault. HasReason (O.opened outside.new) (O.honest outside.new) opening options.now (R.stream rng.old)
         (R.stream rng.new) fault (O.seen outside.old) (O.seen outside.new)) }
     ensures greatest { HasNoNext (O.honest outside.new) O.alone (O.seen outside.old).device (O.seen outside.new).device result }
 
-    // Each attempt but the last was interrupted once; if the answer is `Stopped`, the last was too. Marks are drawn as pairs of words.
+    // Each attempt but the last was interrupted once; if the answer is `Stopped`, the last was too. A copy that is reported as found was not
+    // made again by the last one. Marks are drawn as pairs of words.
     ensures counts { CountsAttempts tries (O.seen outside.old) (O.seen outside.new) result }
     ensures stuck { tries ≤ 1 → IsStuck (O.seen outside.old) (O.seen outside.new) result }
     ensures moved { Moves (R.stream rng.old) (R.stream rng.new) }

@@ -9,7 +9,7 @@ ghost use Rattle.outside.specs.BookCalls.{FromLog, OfBook};
 ghost use Rattle.outside.specs.Opened.{TakesLog, turned};
 ghost use Rattle.run_states.specs.Conditions.{Underway};
 ghost use Rattle.run_states.specs.Openings.{Opening};
-ghost use Rattle.runner.specs.Parts.{Never, RunPart, StepPart};
+ghost use Rattle.runner.specs.Parts.{Never, PartOr, RunPart, StepPart};
 ghost use Rattle.runner.specs.Going.{IsGoing, AfterStep, BeforeStep, FitsNext, HasLogged, log_at, logged_of, logs_of, made, made_by, next_at, number_at, plan_at, steps_of};
 ghost use Rattle.runner.specs.Finding.{AreFoundSo, IsFoundSo, OfSame, copy_at, told_found};
 ghost use Rattle.outside.specs.Calls.{Writes};
@@ -118,7 +118,7 @@ fn log<O: Outside>(outside: &mut O, number: usize, became: &StepResult) -> Resul
     ensures was_honest { O.honest outside.new → O.honest outside.old }
     ensures keywords { O.keywords outside.new ≡ O.keywords outside.old }
     ensures opened { OnOk result (HasLogged (O.opened outside.old) (O.opened outside.new) (logged_of became.now ∷ [])) }
-    ensures part { StepPart number (O.opened outside.old) (O.honest outside.new)
+    ensures part { PartOr Never (O.honest outside.new)
         (AfterStep opening (O.opened outside.old) (logged_of became.now)) (Underway opening) (λ _. 0)
         (λ _. BeforeStep opening (O.opened outside.new) false) (O.seen outside.old) (O.seen outside.new) result }
 {
@@ -148,7 +148,7 @@ fn advance<O: Outside>(
     ensures fits { IfOk result (λ p. FitsStep p.step (logged_of p.result)) }
     ensures found { IfOk result (λ p. O.honest outside.new → BeforeStep opening (O.opened outside.old) is_taken_up
         (O.seen outside.old).device → OfSame O.ours (O.seen outside.old).device (λ d. IsFoundSo (plan_at (O.opened outside.old)) d p)) }
-    ensures part { StepPart number (O.opened outside.old) (O.honest outside.new)
+    ensures part { RunPart Never (O.opened outside.new) (O.honest outside.new)
         (BeforeStep opening (O.opened outside.old) is_taken_up) (Underway opening) (λ p. made_by p.result)
         (λ _. BeforeStep opening (O.opened outside.new) false) (O.seen outside.old) (O.seen outside.new) result }
 {
@@ -179,7 +179,7 @@ pub(crate) fn carry_out<O: Outside, P: Progress>(
     ensures found { IfOk result (λ performed. O.honest outside.new → BeforeStep opening (O.opened outside.old) is_taken_up
         (O.seen outside.old).device → OfSame O.ours (O.seen outside.old).device (λ d. AreFoundSo (plan_at (O.opened outside.old)) d
         performed.items)) }
-    ensures part { RunPart Never (O.honest outside.new) (BeforeStep opening (O.opened outside.old) is_taken_up)
+    ensures part { RunPart Never (O.opened outside.new) (O.honest outside.new) (BeforeStep opening (O.opened outside.old) is_taken_up)
         (Underway opening) (λ performed. made performed.items)
         (λ _. BeforeStep opening (O.opened outside.new) is_taken_up) (O.seen outside.old) (O.seen outside.new) result }
 {

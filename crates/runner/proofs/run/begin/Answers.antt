@@ -4,7 +4,7 @@ use Rattle.rules.specs.declared.plan.Step.{Step}
 use Rattle.run_states.specs.Plans.{NamedBy}
 use Rattle.runner.specs.Answers.{PlanStart}
 use Rattle.runner.specs.Going.{logs_of, made}
-use Rattle.runner.proofs.StepParts.{left_unstepped, steps_told, unrefused_told}
+use Rattle.runner.proofs.StepParts.{left_unstepped, refused_from, steps_told, unrefused_told}
 use Rattle.runner.proofs.PartCalls.{left_after, left_told, passed_after, passed_weaker}
 use Rattle.runner.proofs.Passes.{none_few, ran_answers, takes_commit, whole_steps}
 use Rattle.runner.proofs.Told.{named_last, told, told_whole}
@@ -39,7 +39,7 @@ returns-in_err-performed-clause-part g c =
     let s1 = g.O.Outside.seen c.propose.new.outside in
     let honest = c.in_err-performed.ensures.was_honest in
     let proposed = c.in_ok-unfit.ensures.part in
-    rw (e.1, e.2) (left_after _ _ _ _ _ _ _ _ s1 _ honest proposed (left_told _ _ _ _ _ _ _ _ (steps_told _ _ (λ step t h at. t h (proposed.reaches (honest h) at))) c.in_err-performed.ensures.part))
+    rw (e.1, e.2) (left_after _ _ _ _ _ _ _ _ s1 _ honest proposed (left_told _ _ _ _ _ _ _ _ (steps_told _ _ (refused_from _ _ _ _ _ (λ h at. proposed.reaches (honest h) at))) c.in_err-performed.ensures.part))
 
 pub returns-in_err-conclude-clause-part : goal.returns-in_err-conclude-clause-part
 returns-in_err-conclude-clause-part g c =

@@ -10,7 +10,7 @@ use Rattle.runner.specs.Maps.{HasOtherMapIn, by_map}
 use Rattle.runner.specs.Naming.{NamesBy}
 use Rattle.runner.specs.Results.{Report}
 use Rattle.runner.proofs.PartCalls.{left_here, left_told, left_weaker, part_after, part_by, part_told, passed_weaker, passed_with}
-use Rattle.runner.proofs.StepParts.{repeats_by}
+use Rattle.runner.proofs.StepParts.{refused_from, repeats_by}
 use Rattle.runner.proofs.Passes.{boxed_answers, boxed_book, boxed_other_map, boxed_run, boxed_runs, known_map}
 use Rattle.runner.proofs.PlanFacts.{moved_none}
 use Rattle.runner.proofs.Readings.{book_read, both_open}
@@ -48,7 +48,7 @@ work-requires g c κs within =
 pub returns-in_err-open_boxes-clause-part : goal.returns-in_err-open_boxes-clause-part
 returns-in_err-open_boxes-clause-part g c =
     let e = err_from_is_err_and c.from_residual.result c.from_residual.ensures.1 in
-    rw (e.1, e.2) (left_told _ _ _ _ _ _ _ _ (record { changed = λ side t. t; keywords = λ n. absurd n; repeats = λ n. absurd n; beyond = λ n. n; unread = λ e n. n; refused = λ step n. absurd n; unstepped = λ u. u }) (left_weaker _ _ _ _ _ _ _ (λ d k. k.known) c.in_err-open_boxes.ensures.part))
+    rw (e.1, e.2) (left_told _ _ _ _ _ _ _ _ (record { changed = λ side t. t; keywords = λ n. absurd n; repeats = λ n. absurd n; beyond = λ n. n; greatest = λ n. n; unread = λ e n. n; refused = λ step n. absurd n; unstepped = λ u. u }) (left_weaker _ _ _ _ _ _ _ (λ d k. k.known) c.in_err-open_boxes.ensures.part))
 
 pub returns-in_err-same_map-clause-part : goal.returns-in_err-same_map-clause-part
 returns-in_err-same_map-clause-part g c =
@@ -59,7 +59,7 @@ returns-in_err-same_map-clause-part g c =
     let told = c.in_err-same_map.ensures.other in
     let other : HasOtherMapIn c.args.options.now.keywords old = boxed_other_map c.args.options.now.keywords old (subst (HasOtherMapIn c.args.options.now.keywords) c.in_ok-open_boxes.ensures.opened told.1) in
     let ready = passed_weaker _ _ (ReadPassStart g.opening old (run_of old + 1) c.args.options.now (g.R.Rng.stream c.args.rng.now)) _ (Underway g.opening) _ 0 _ s1 refl (λ d k. k.known) (λ d k. k.underway) c.in_ok-open_boxes.ensures.part in
-    rw (e.1, e.2, told.0) (left_here _ _ (Underway g.opening) (Underway g.opening) 0 run.KeywordsChanged s0 s1 ready (other, c.in_ok-open_boxes.ensures.kept) (λ k. k))
+    rw (e.1, e.2, told.0) (left_here _ _ (Underway g.opening) (Underway g.opening) 0 run.KeywordsChanged s0 s1 ready (other, (told.1, c.in_ok-open_boxes.ensures.kept)) (λ k. k))
 
 pub returns-clause-answer : goal.returns-clause-answer
 returns-clause-answer g c =
@@ -95,8 +95,9 @@ returns-clause-part g c =
       keywords = λ n. absurd n;
       repeats = λ k. repeats_by here g.opening _ _ _ options stream (λ h at. let k = ready.reaches (c.work.ensures.was_honest h) at in (there h k, same h k)) k;
       beyond = λ n. n;
+      greatest = λ n. n;
       unread = λ e n. n;
-      refused = λ step t h at. t h (there h (ready.reaches (c.work.ensures.was_honest h) at));
+      refused = refused_from _ _ _ _ _ (λ h at. there h (ready.reaches (c.work.ensures.was_honest h) at));
       unstepped = λ u. u;
     })
     (part_by here g.opening _ _ (λ o. ReadPassStart o new run options stream) (λ o. Underway o) (λ o. RunEnd o) _ s1 _ same c.work.result (rw as_many at c.work.ensures.part)))

@@ -7,7 +7,7 @@ use Rattle.runner.specs.Going.{logs_of, made, plan_at}
 use Rattle.std.proofs.lemmas.Result.{err_from_is_err_and}
 use Rattle.book.specs.Books.{mended}
 use Rattle.outside.specs.Opened.{turned}
-use Rattle.runner.proofs.StepParts.{left_unstepped, steps_told}
+use Rattle.runner.proofs.StepParts.{left_unstepped, refused_from, steps_told}
 use Rattle.runner.proofs.PartCalls.{left_after, left_told, passed_after, passed_weaker}
 use Rattle.runner.proofs.Passes.{book_few, finished_answers, mended_book, mended_going, mended_rest, takes_commit}
 use Rattle.runner.proofs.Told.{named_last, told, told_rest}
@@ -42,7 +42,7 @@ returns-in_err-performed-clause-part g c =
     let s1 = g.O.Outside.seen c.untear.new.outside in
     let honest = c.in_err-performed.ensures.was_honest in
     let untorn = c.in_ok-untear.ensures.part in
-    rw (e.1, e.2) (left_after _ _ _ _ _ _ _ _ s1 _ honest untorn (left_told _ _ _ _ _ _ _ _ (steps_told _ _ (λ step t h at. t h (untorn.reaches (honest h) at))) c.in_err-performed.ensures.part))
+    rw (e.1, e.2) (left_after _ _ _ _ _ _ _ _ s1 _ honest untorn (left_told _ _ _ _ _ _ _ _ (steps_told _ _ (refused_from _ _ _ _ _ (λ h at. untorn.reaches (honest h) at))) c.in_err-performed.ensures.part))
 
 pub returns-in_err-conclude-clause-part : goal.returns-in_err-conclude-clause-part
 returns-in_err-conclude-clause-part g c =

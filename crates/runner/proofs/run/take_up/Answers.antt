@@ -2,7 +2,7 @@ use Rattle.std.proofs.Common.{◌≡◌, ◌≤◌, ◌+◌, inl, refl, arith, r
 use Rattle.runner.specs.Answers.{ReadPassStart, PassEnd, run_of}
 use Rattle.runner.proofs.StepParts.{part_unstepped, run_weaker}
 use Rattle.runner.proofs.PartCalls.{left_here, part_told, part_weaker, passed_none}
-use Rattle.runner.proofs.Passes.{end_reaches, known_least, run_of_state}
+use Rattle.runner.proofs.Passes.{end_reaches, known_least, reads_beyond, run_of_state}
 use Rattle.runner.proofs.PlanFacts.{moved_none}
 use Rattle.runner.proofs.Readings.{book_read}
 use Rattle.runner.proofs.Told.{told_from, told_none}
@@ -32,8 +32,8 @@ returns-clause-part g c =
     let stream = g.R.Rng.stream c.args.rng.now in
     let next = ReadPassStart g.opening opened (run_of opened + 1) options stream in
     let entry = ReadPassStart g.opening opened c.args.run options stream in
-    part_told _ _ _ _ _ _ _ _ _ _ (record { changed = λ side t. t; keywords = λ n. n; repeats = λ k. k; beyond = λ n. absurd n; unread = λ e n. n; refused = λ step t. t; unstepped = λ u. u })
-    (run_weaker g.opening options stream _ _ _ next entry _ _ _ (λ x. PassEnd g.opening c.args.run) _ _ _ (λ d k. record { most = let m = k.most in omega (arith, is, m); asked = k.asked; known = k.known }) (λ x d k. end_reaches g.opening c.args.run d k) c.open_and_work.ensures.part)
+    part_told _ _ _ _ _ _ _ _ _ _ (record { changed = λ side t. t; keywords = λ n. n; repeats = λ k. k; beyond = λ n. absurd n; greatest = λ n. absurd n; unread = λ e n. n; refused = λ step t. t; unstepped = λ u. u })
+    (run_weaker (g.O.Outside.opened c.open_and_work.new.outside) g.opening options stream _ _ _ next entry _ _ _ (λ x. PassEnd g.opening c.args.run) _ _ _ (λ d k. record { most = let m = k.most in omega (arith, is, m); asked = k.asked; known = k.known }) (λ x d k. end_reaches g.opening c.args.run d k) c.open_and_work.ensures.part)
 
 pub returns-then-run-last-gt1-clause-part : goal.returns-then-run-last-gt1-clause-part
 returns-then-run-last-gt1-clause-part g c =
@@ -41,7 +41,8 @@ returns-then-run-last-gt1-clause-part g c =
     let s = g.O.Outside.seen c.args.outside.now in
     let same = run_of_state opened c.state.result.now c.state.ensures.state in
     let entry = ReadPassStart g.opening opened c.args.run c.args.options.now (g.R.Rng.stream c.args.rng.now) in
-    left_here _ entry entry _ 0 _ s s (passed_none _ entry entry s c.requires.1.1.1.1.0 (λ k. k)) (inl (refl, inl (omega (arith, same, c.if-run-last.false, c.if-run-last-gt1.true)))) (λ k. let m = k.most in let l = known_least g.opening opened s.device k.known in omega (arith, same, m, l, c.if-run-last.false, c.if-run-last-gt1.true))
+    let beyond = reads_beyond opened c.args.run (book_read opened c.requires.1.1.1.0) (omega (arith, same, c.if-run-last.false, c.if-run-last-gt1.true)) in
+    left_here _ entry entry _ 0 _ s s (passed_none _ entry entry s c.requires.1.1.1.1.0 (λ k. k)) (inl (refl, (beyond, beyond))) (λ k. let m = k.most in let l = known_least g.opening opened s.device k.known in omega (arith, same, m, l, c.if-run-last.false, c.if-run-last-gt1.true))
 
 pub returns-then-run-last-clause-beyond : goal.returns-then-run-last-clause-beyond
 returns-then-run-last-clause-beyond g c = λ more.

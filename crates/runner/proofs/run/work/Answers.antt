@@ -3,7 +3,7 @@ use Rattle.std.proofs.lemmas.Grind.{common_steps}
 use Rattle.runner.specs.Answers.{RunEnd, PlanStart, ReadPassStart, run_of}
 use Rattle.runner.specs.Before.{HasNoPlan}
 use Rattle.runner.proofs.PartCalls.{part_told, part_weaker}
-use Rattle.runner.proofs.StepParts.{calls_told, run_weaker}
+use Rattle.runner.proofs.StepParts.{calls_told, refused_from, run_weaker}
 use Rattle.runner.proofs.Passes.{known_planned, known_unplanned}
 use Rattle.runner.proofs.PlanFacts.{moved_none}
 use Rattle.runner.proofs.Readings.{book_read, has_none, has_plan, none_of, some_of}
@@ -15,7 +15,7 @@ returns-then-is_some-clause-part g c =
     let opened = g.O.Outside.opened c.args.outside.now in
     let i : is_some c.pending.result ≡ true = grind (arith, common_steps) in
     let j = some_of _ c.pending.result _ c.pending.ensures i in
-    part_weaker _ _ _ _ _ _ _ (λ x. RunEnd g.opening) _ _ _ (λ d k. known_planned g.opening opened d (has_plan opened j.0 j.1) k.most k.known) (λ x d k. k) (part_told _ _ _ _ _ _ _ _ _ _ (calls_told _ _ (λ step t h k. t h (known_planned g.opening opened _ (has_plan opened j.0 j.1) k.most k.known)) tt) c.resume.ensures.part)
+    part_weaker _ _ _ _ _ _ _ (λ x. RunEnd g.opening) _ _ _ (λ d k. known_planned g.opening opened d (has_plan opened j.0 j.1) k.most k.known) (λ x d k. k) (part_told _ _ _ _ _ _ _ _ _ _ (calls_told _ _ (refused_from _ _ _ _ _ (λ h k. known_planned g.opening opened _ (has_plan opened j.0 j.1) k.most k.known)) tt) c.resume.ensures.part)
 
 pub returns-else-is_some-clause-part : goal.returns-else-is_some-clause-part
 returns-else-is_some-clause-part g c =
@@ -24,7 +24,7 @@ returns-else-is_some-clause-part g c =
     let none : HasNoPlan opened = has_none opened (book_read opened c.requires.1.1.1.0) (none_of _ c.pending.result _ c.pending.ensures i) in
     let options = c.args.options.now in
     let stream = g.R.Rng.stream c.args.rng.now in
-    run_weaker g.opening options stream _ ⊥ _ (PlanStart g.opening opened options stream) (ReadPassStart g.opening opened (run_of opened + 1) options stream) _ _ _ (λ x. RunEnd g.opening) _ _ _ (λ d k. record { asked = k.asked; none = known_unplanned g.opening opened d none k.most k.known }) (λ x d k. k) c.begin.ensures.part
+    run_weaker (g.O.Outside.opened c.begin.new.outside) g.opening options stream _ ⊥ _ (PlanStart g.opening opened options stream) (ReadPassStart g.opening opened (run_of opened + 1) options stream) _ _ _ (λ x. RunEnd g.opening) _ _ _ (λ d k. record { asked = k.asked; none = known_unplanned g.opening opened d none k.most k.known }) (λ x d k. k) c.begin.ensures.part
 
 pub returns-then-is_some-clause-moved : goal.returns-then-is_some-clause-moved
 returns-then-is_some-clause-moved g c = moved_none _

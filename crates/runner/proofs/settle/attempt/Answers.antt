@@ -1,12 +1,13 @@
-use Rattle.std.proofs.Common.{◌≡◌, ◌+◌, inl, refl, arith}
+use Rattle.std.proofs.Common.{◌≡◌, ◌+◌, refl, arith}
 use Rattle.std.proofs.lemmas.Result.{err_from_is_err_and}
 use Rattle.run_states.specs.Conditions.{IsOver}
 use Rattle.runner.specs.Answers.{Inputs, PassStart}
 use Rattle.runner.specs.Attempts.{AttemptStart}
 use Rattle.runner.proofs.Attempts.{asked_later, attempt_answers, attempt_changed, attempt_map, fixed_on, fixed_tried, never_beyond, none_reached, tried_fixed}
 use Rattle.runner.proofs.PartCalls.{goes_on, left_mapped, left_told, left_with, part_after, part_mapped, part_told, part_with, passed_weaker, passed_with}
+use Rattle.runner.proofs.Passes.{beyond_is_read}
 use Rattle.runner.proofs.PlanFacts.{moved_none}
-use Rattle.runner.proofs.StepParts.{repeats_from}
+use Rattle.runner.proofs.StepParts.{refused_from, repeats_from}
 use Rattle.runner.proofs.PassTells.{found_in, named_in, told_in}
 use Rattle.runner.proofs.Told.{told_from}
 use Rattle.runner.proofs.Finding.{finds_tried}
@@ -49,7 +50,7 @@ returns-clause-answer g c =
 pub returns-in_err-number-clause-part : goal.returns-in_err-number-clause-part
 returns-in_err-number-clause-part g c =
     let e = err_from_is_err_and c.from_residual.result c.from_residual.ensures.1 in
-    rw (e.1, e.2) (left_told _ _ _ _ _ _ _ _ (record { changed = λ side n. absurd n; keywords = λ n. absurd n; repeats = λ n. absurd n; beyond = λ n. absurd n; unread = λ e t. t; refused = λ step n. absurd n; unstepped = λ u. u }) (left_mapped _ _ _ _ _ _ _ _ (λ d k. (k.asked, k.tried)) (λ d k. record { asked = k.0; tried = k.1 }) (left_with (Inputs g.opening c.args.options.now (g.R.Rng.stream c.args.rng.now)) _ _ _ _ _ _ c.in_err-number.ensures.part)))
+    rw (e.1, e.2) (left_told _ _ _ _ _ _ _ _ (record { changed = λ side n. absurd n; keywords = λ n. absurd n; repeats = λ n. absurd n; beyond = λ n. absurd n; greatest = λ n. n; unread = λ e t. t; refused = λ step n. absurd n; unstepped = λ u. u }) (left_mapped _ _ _ _ _ _ _ _ (λ d k. (k.asked, k.tried)) (λ d k. record { asked = k.0; tried = k.1 }) (left_with (Inputs g.opening c.args.options.now (g.R.Rng.stream c.args.rng.now)) _ _ _ _ _ _ c.in_err-number.ensures.part)))
 
 pub returns-clause-part : goal.returns-clause-part
 returns-clause-part g c =
@@ -71,7 +72,7 @@ returns-clause-part g c =
     (part_mapped _ _ _ _ _ (AttemptStart g.opening options new run) _ _ (λ x d. IsOver g.opening d) _ _ _ (λ d k. k)
     (λ d k. record { asked = asked_later g.opening options old new c.pass.ensures.moved k.0.0; tried = fixed_tried g.opening run n d fixed (k.0.1, k.1) })
     (λ x d k. let r = k.1 in let e = k.0.1 in r.done (omega (arith, e)))
-    (part_with _ p _ _ _ _ _ _ _ _ (part_told _ _ _ _ _ _ _ _ _ _ (record { changed = λ side t. attempt_changed alone _ _ s0.device s1.device s2.device side c.pass.ensures.was_honest c.in_ok-number.ensures.kept t; keywords = λ t. attempt_map alone _ _ options.keywords s0.device s1.device s2.device c.pass.ensures.was_honest c.in_ok-number.ensures.kept t; repeats = λ k. repeats_from g.opening _ _ _ options old (λ h at. (ready.reaches (c.pass.ensures.was_honest h) at).1) k; beyond = λ b h at. never_beyond n s1.device (c.in_ok-number.ensures.number (c.pass.ensures.was_honest h) at) (b h); unread = λ e t h. inl (t h); refused = λ step t h at. t h (ready.reaches (c.pass.ensures.was_honest h) at).1; unstepped = λ u. u }) c.pass.ensures.part)))
+    (part_with _ p _ _ _ _ _ _ _ _ (part_told _ _ _ _ _ _ _ _ _ _ (record { changed = λ side t. attempt_changed alone _ _ s0.device s1.device s2.device side c.pass.ensures.was_honest c.in_ok-number.ensures.kept t; keywords = λ t. attempt_map (g.O.Outside.opened c.pass.new.outside) alone _ _ options.keywords s0.device s1.device s2.device c.pass.ensures.was_honest c.in_ok-number.ensures.kept t; repeats = λ k. repeats_from g.opening _ _ _ options old (λ h at. (ready.reaches (c.pass.ensures.was_honest h) at).1) k; beyond = λ b. (beyond_is_read _ n b.0, λ h at. never_beyond n s1.device (c.in_ok-number.ensures.number (c.pass.ensures.was_honest h) at) (b.1 h)); greatest = λ n. absurd n; unread = λ e t. t; refused = refused_from _ _ _ _ _ (λ h at. (ready.reaches (c.pass.ensures.was_honest h) at).1); unstepped = λ u. u }) c.pass.ensures.part)))
 
 pub returns-in_err-number-clause-reached : goal.returns-in_err-number-clause-reached
 returns-in_err-number-clause-reached g c = λ h at. none_reached c.fix_run.new.run _ c.in_err-number.ensures.unfixed.1

@@ -1,6 +1,6 @@
 use Rattle.std.proofs.Common.{◌≡◌, ◌+◌, inl, inr, refl, arith}
 use Rattle.runner.specs.Attempts.{AtOpening}
-use Rattle.runner.proofs.Attempts.{last_run, next_read, next_unread, opening_left, reached_read, run_read}
+use Rattle.runner.proofs.Attempts.{last_run, reads_last, next_read, next_unread, opening_left, reached_read, run_read}
 use Rattle.runner.proofs.PartCalls.{left_call, left_here, line_of_shelf, passed_call, stuck_call, whole_call}
 use Rattle.runner.proofs.Readings.{unread_files}
 use Rattle.runner.proofs.Validities.{kept_read}
@@ -12,7 +12,7 @@ returns-then-last-clause-part g c =
     let s1 = g.O.Outside.seen c.open_book.new.self in
     let last = c.state.result.now in
     left_here _ _ (λ d. (last.run + 1 ≡ g.opening.world.state.run + 1) × AtOpening g.opening d) _ 0 _ _ s1 (passed_call _ _ _ _ _ _ _ _ _ _ _ c.in-Ok.ensures.call (λ m at a own. run_read g.opening _ last _ m s1.device c.state.ensures.state at a own.0 own.1))
-    (inr (λ honest. let w = c.in-Ok.ensures.call in let acts = w.acts in let l = acts.effect honest in inr (last_run _ last l.mid s1.device c.state.ensures.state l.behind.0 l.behind.1 (omega (arith, c.if-last.true)))))
+    (inr (inl (refl, (reads_last _ last c.state.ensures.state (omega (arith, c.if-last.true)), λ honest. let w = c.in-Ok.ensures.call in let acts = w.acts in let l = acts.effect honest in last_run _ last l.mid s1.device c.state.ensures.state l.behind.0 l.behind.1 (omega (arith, c.if-last.true))))))
     (λ k. let o = k.1 in let r = o.room in omega (arith, k.0, r, c.if-last.true))
 
 pub returns-else-last-clause-part : goal.returns-else-last-clause-part
@@ -24,7 +24,7 @@ pub returns-in-Err-clause-part : goal.returns-in-Err-clause-part
 returns-in-Err-clause-part g c =
     let s1 = g.O.Outside.seen c.open_book.new.self in
     rw c.call_fault.ensures (left_call _ _ _ _ _ _ _ _ _ _ _ tt c.in-Err.ensures.call
-    (λ told. line_of_shelf _ (λ honest. let w = c.in-Err.ensures.call in let acts = w.acts in let l = acts.left honest in inl (unread_files c.in-Err.fault l.mid s1.device l.behind.0 l.behind.1)))
+    (λ told. line_of_shelf _ (λ honest. let w = c.in-Err.ensures.call in let acts = w.acts in let l = acts.left honest in unread_files c.in-Err.fault l.mid s1.device l.behind.0 l.behind.1))
     (λ m at a own told. opening_left g.opening c.in-Err.fault _ m s1.device at a own.0 own.1 told))
 
 pub returns-else-last-clause-number : goal.returns-else-last-clause-number

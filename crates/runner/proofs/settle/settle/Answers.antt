@@ -1,12 +1,12 @@
-use Rattle.std.proofs.Common.{◌≡◌, ◌≤◌, ◌∙◌, Ok, Err, refl, ap, subst, sym, rules, arith}
+use Rattle.std.proofs.Common.{◌≡◌, ◌≤◌, ◌+◌, ◌∙◌, ℕ, Ok, Err, refl, ap, subst, sym, rules, arith}
 use Rattle.outside.specs.Calls.{Seen}
 use Rattle.outside.specs.Devices.{Device}
 use Rattle.run_states.specs.Conditions.{Underway}
 use Rattle.runner.specs.declared.fault.RunFault.TheVariants as run
 use Rattle.runner.specs.declared.pass.Pass.{Pass}
-use Rattle.runner.specs.Attempts.{HaveRepeated, IsReached, AttemptStart}
-use Rattle.runner.specs.ChangedMaps.{HoldsOtherMap}
-use Rattle.runner.specs.Faults.{TellsNoRun}
+use Rattle.runner.specs.Answers.{made_in}
+use Rattle.runner.specs.Attempts.{IsReached, AttemptStart}
+use Rattle.runner.specs.Settled.{settle_reasons}
 use Rattle.runner.proofs.Attempts.{caused_since, failed_few, found_device, greatest_since, kept_none, met_before, more_found, moved_twice, refused_for, stops_kept, stops_more, stuck_first, stuck_more, tried_underway}
 use Rattle.runner.proofs.Ends.{changed_last, kept_last, settled_so}
 use Rattle.runner.proofs.Reopening.{attempted_more, attempted_none, began_at, reopens_more}
@@ -108,10 +108,15 @@ returns-in-Ok-clause-counts g c =
     let now = g.O.Outside.seen c.loop-tried.outside in
     let s1 = g.O.Outside.seen c.again.new.outside in
     let s2 = g.O.Outside.seen c.attempt.new.outside in
-    let p = c.in-Ok.ensures.part in (
+    let p = c.in-Ok.ensures.part in
+    let appended : s1.appends ≡ now.appends = ap (λ (s : Seen). s.appends) c.again.ensures.seen in (
       stops_kept tried s0 now s1 s2 i.stops c.again.ensures.seen p.stops,
       failed_few tried s0 now s1 s2 c.in-Ok.last i.first c.again.ensures.seen c.in-Ok.ensures.stuck,
       reopens_more g.opening _ tried s0 now s1 s2 i.first c.again.ensures.seen i.reopened p.reopened,
+      record {
+        least = let k = i.appends in let m = p.appends in omega (arith, k, m, appended);
+        alone = λ z. p.appends ∙ ap (λ (n : ℕ). n + made_in c.in-Ok.last) (appended ∙ ap (λ (s : Seen). s.appends) (i.first z));
+      },
     )
 
 pub returns-in-Ok-clause-stuck : goal.returns-in-Ok-clause-stuck
@@ -150,8 +155,8 @@ returns-in-Err-clause-left g c = λ h asked at.
       left = leaves_after (Underway g.opening) fault s0 s1 s2 (more_found tried s0 now s1 i.told e)
           (leaves_map after (Underway g.opening) fault s1 s2 (λ k. tried_underway g.opening c.attempt.new.run s2.device k.tried) (part.left h here));
       changed = λ side is. changed_last g.opening s0 s1 s2 stream drawn _ _ _ tried c.args.tries side fault began (omega arith) is h part (λ told. told);
-      keywords = λ is. kept_last g.opening s0 s1 s2 stream drawn _ _ _ tried c.args.tries options.keywords fault began (omega arith) is h part (λ told. told);
-      refused = λ step is. refused_for _ _ _ fault s1 s2 step is part h here;
+      keywords = λ is. kept_last g.opening s0 s1 s2 stream drawn _ _ _ tried c.args.tries _ options.keywords fault began (omega arith) is h part (λ told. told);
+      refused = λ step is. (refused_for _ _ _ fault s1 s2 step is part).1 h here;
     }
 
 pub returns-in-Err-clause-caused : goal.returns-in-Err-clause-caused
@@ -166,7 +171,17 @@ returns-in-Err-clause-caused g c = λ other.
     let start = g.R.Rng.stream c.args.rng.now in
     let before = AttemptStart g.opening c.args.options.now (g.R.Rng.stream c.loop-tried.rng) c.loop-tried.run in
     let device = found_device c.loop-tried.tried now s1 e in
-    caused_since _ _ _ (g.O.Outside.honest c.attempt.new.outside → HoldsOtherMap c.args.options.now.keywords s2.device) (HaveRepeated (g.O.Outside.honest c.attempt.new.outside) g.opening c.args.options.now start (g.R.Rng.stream c.attempt.new.rng) s0.device) (g.O.Outside.honest c.attempt.new.outside → ⊥) (TellsNoRun (g.O.Outside.honest c.attempt.new.outside) (g.O.Outside.seen c.attempt.new.outside).device) c.in-Err.fault s0 s1 s2 (more_found c.loop-tried.tried s0 now s1 i.told e) appends other c.in-Err.ensures.part (λ t h. (t h).0) (λ k. record { drawn = g.R.Rng.stream c.loop-tried.rng; moved = i.moved; on = c.attempt.ensures.moved; count = k.count; repeats = k.repeats; wanted = λ h asked at. k.wanted h (subst before (sym device) (i.left (c.again.ensures.was_honest (c.attempt.ensures.was_honest h)) asked at)) }) (λ b h. b h (subst (λ (d : Device). IsReached c.loop-tried.run d.files) (sym device) (i.reached (c.again.ensures.was_honest (c.attempt.ensures.was_honest h))))) (λ e t. t)
+    caused_since (settle_reasons (g.O.Outside.opened c.attempt.new.outside) (g.O.Outside.honest c.attempt.new.outside) g.opening c.args.options.now start (g.R.Rng.stream c.attempt.new.rng) s0.device s2.device) _ _ _ c.in-Err.fault s0 s1 s2
+    (more_found c.loop-tried.tried s0 now s1 i.told e) appends other c.in-Err.ensures.part (record {
+      changed = λ side t. tt;
+      keywords = λ t. (t.0, λ h. (t.1 h).0);
+      repeats = λ k. record { drawn = g.R.Rng.stream c.loop-tried.rng; moved = i.moved; on = c.attempt.ensures.moved; count = k.count; repeats = k.repeats; wanted = λ h asked at. k.wanted h (subst before (sym device) (i.left (c.again.ensures.was_honest (c.attempt.ensures.was_honest h)) asked at)) };
+      beyond = λ b. (b.0, λ h. b.1 h (subst (λ (d : Device). IsReached c.loop-tried.run d.files) (sym device) (i.reached (c.again.ensures.was_honest (c.attempt.ensures.was_honest h)))));
+      greatest = λ n. n;
+      unread = λ e t. t;
+      refused = λ step t. t.0;
+      unstepped = λ u. u;
+    })
 
 pub returns-in-Err-clause-counts : goal.returns-in-Err-clause-counts
 returns-in-Err-clause-counts g c =

@@ -1,8 +1,7 @@
 use Rattle.std.proofs.Common.{[], ◌∷◌}
 use Rattle.runner.specs.Going.{HasLogged, logged_of}
-use Rattle.runner.proofs.PartCalls.{left_step, line_of_log, passed_call}
-use Rattle.runner.proofs.Logging.{takes_log, has_logged, log_made, log_left}
-use Rattle.runner.proofs.Stages.{done_arrives, done_held}
+use Rattle.runner.proofs.PartCalls.{left_unrefused, line_of_log, passed_call}
+use Rattle.runner.proofs.Logging.{takes_log, has_logged, log_made, log_left, never_refused}
 use Rattle.runner.proofs.steps.log.Goals as goal
 
 pub write-requires : goal.write-requires
@@ -30,6 +29,5 @@ returns-in-Err-clause-part g c =
     let opened = g.O.Outside.opened c.args.outside.now in
     let s1 = g.O.Outside.seen c.write.new.outside in
     let logged = logged_of c.args.became.now in
-    rw c.step_fault.ensures (left_step _ _ _ _ _ _ _ _ _ _ c.args.number opened _ (rw c.logged_as.ensures at c.in-Err.ensures.call) (line_of_log opened logged _)
-    (λ m at a own. rw own (done_held g.opening opened logged m (done_arrives g.opening opened logged _ m a at)))
+    rw c.step_fault.ensures (left_unrefused _ _ _ _ _ _ _ _ _ _ c.args.number _ (rw c.logged_as.ensures at c.in-Err.ensures.call) (line_of_log opened logged _) (never_refused opened logged _)
     (λ m at a own told. log_left g.opening opened logged c.in-Err.fault _ m s1.device c.requires.1.0 a at told own))
