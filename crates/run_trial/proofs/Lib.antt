@@ -8,3 +8,4 @@ pub mod UnmarkedLemmas
 pub mod RunLemmas
 pub mod MemoryLemmas
 pub mod AmongLemmas
+pub mod AgainLemmas

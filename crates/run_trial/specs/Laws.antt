@@ -1,5 +1,5 @@
 -- The devices of a trial hold its world, in laws that the functions of `src/laws.rt` show.
-use Rattle.std.specs.Prelude.{◌≡◌, ◌+◌, ◌≤◌, ◌^◌, ℕ, List, length, None}
+use Rattle.std.specs.Prelude.{◌≡◌, ◌⊎◌, ◌+◌, ◌<◌, ◌≤◌, ◌^◌, ℕ, Bool, List, [], length, None}
 use Rattle.mailcore.specs.declared.keywords.Keyword.{Keyword}
 use Rattle.mailcore.specs.Ranges.{IsInRange}
 use Rattle.mailcore.specs.Stores.{IsStore, Store, Waiting}
@@ -8,7 +8,11 @@ use Rattle.rules.specs.World.{World}
 use Rattle.book.specs.declared.book.Pending.TheVariants.{Missing}
 use Rattle.book.specs.Books.{Holds}
 use Rattle.near_box.specs.Mailboxes.{near_of}
+use Rattle.outside.specs.Devices.{Device}
+use Rattle.run_states.specs.Conditions.{IsOver, Underway}
+use Rattle.run_states.specs.Openings.{Opening}
 use Rattle.run_trial.specs.Folders.{folder_of}
+use Rattle.run_trial.specs.Openings.{StandsAt}
 use Rattle.run_trial.specs.Shelves.{shelf_of}
 use Rattle.run_trial.specs.Worlds.{AreNamed, FitsWords}
 
@@ -21,3 +25,10 @@ FolderHolds =
 -- the shelf holds the state of a world that a run may begin with
 abbrev pub ShelfHolds : Type 0
 ShelfHolds = (w : World) → IsOpening w → FitsWords w → Holds (shelf_of w.state None) w.state Missing
+
+-- Devices on which a run is underway that began with no message named stand at its opening in another run, whose outside has named none yet; or the
+-- run is over.
+abbrev pub StandAgain : Type 0
+StandAgain =
+    (ours : List ℕ → Bool) (alone : Bool) (opening : Opening ours alone) (d : Device) → opening.named ≡ [] → opening.world.state.run + 1 < 2 ^ 64
+    → Underway opening d → StandsAt opening opening.called (record d { named = [] }) ⊎ IsOver opening d

@@ -6,7 +6,9 @@ use Rattle.mailcore.specs.Stores.{Store}
 use Rattle.rules.specs.declared.options.Options.{Options}
 use Rattle.rules.specs.declared.state.SyncState.{SyncState}
 use Rattle.worlds.specs.Trial.{trial_step}
+use Rattle.outside.specs.Devices.{Device}
 use Rattle.run_states.specs.Openings.{Opening}
+use Rattle.runner.specs.Attempts.{AtOpening}
 
 -- what the generator of a trial gives, from its first word on
 abbrev pub trial_stream : Stream
@@ -26,3 +28,8 @@ no_opening options =
 -- whatever the mark is, nobody else writes it
 abbrev pub AreOurs : (List ℕ → Bool) → Type 0
 AreOurs ours = (mark : List ℕ) → ours mark ≡ true
+
+-- A device stands at this opening of a run: it has no plan yet, or one is pending. The options of the call are these.
+pub record StandsAt {ours : List ℕ → Bool} {alone : Bool} (opening : Opening ours alone) (options : Options) (d : Device) : Type 0 where
+  pub called : opening.called ≡ options
+  pub at_opening : AtOpening opening d

@@ -134,10 +134,16 @@ pub struct Devices<L: TrialLink + Drop> {
 }
 
 impl<L: TrialLink + Drop> Devices<L> {
-    ghost use Rattle.maildir.specs.MemFolders.{stored_in};
+    ghost use Rattle.maildir.specs.MemFolders.{seen_of as seen_in, stored_in};
+    ghost use Rattle.maildir.specs.VisitedFolders.{AddsAlone};
+    ghost use Rattle.run_pair.specs.BookParts.{files_of as files_in};
+    ghost use Rattle.visitors.specs.Visitors.{others_with};
 
     /// What the outside of a run stands on.
     pub fn of(outside: Both<L, MemFolder, MemShelf>) -> Self
+        ensures link { result.link ≡ outside.far.far.session.wire.link }
+        ensures folder { result.folder ≡ outside.near.near.folder }
+        ensures shelf { files_of result.shelf ≡ files_in outside.book }
         ensures map { result.keywords ≡ outside.far.far.keywords }
     {
         let Sides { far, folder, shelf } = Sides::of(outside);
@@ -147,7 +153,11 @@ impl<L: TrialLink + Drop> Devices<L> {
     /// The same where others add files to the folder: it has all that has come.
     pub(crate) fn among<const MARKS: u32>(
         outside: Both<L, VisitedFolder<MARKS>, MemShelf>,
-    ) -> Result<Self, Failure> {
+    ) -> Result<Self, Failure>
+        ensures link { IfOk result (λ devices. devices.link ≡ outside.far.far.session.wire.link) }
+        ensures folder { IfOk result (λ devices. AddsAlone (others_with MARKS) (seen_in outside.near.near.folder.folder) (seen_in devices.folder)) }
+        ensures shelf { IfOk result (λ devices. files_of devices.shelf ≡ files_in outside.book) }
+    {
         let Sides { far, folder, shelf } = Sides::of(outside);
         let folder = folder.into_folder()?;
         Ok(Devices::over(far, folder, shelf))
@@ -155,6 +165,9 @@ impl<L: TrialLink + Drop> Devices<L> {
 
     /// The link of this far mailbox, this folder and this shelf.
     fn over(far: FarSide<L>, folder: MemFolder, shelf: MemShelf) -> Self
+        ensures link { result.link ≡ far.far.session.wire.link }
+        ensures folder { result.folder ≡ folder }
+        ensures shelf { result.shelf ≡ shelf }
         ensures map { result.keywords ≡ far.far.keywords }
     {
         let (link, keywords) = far.into_parts();

@@ -1,7 +1,8 @@
 //! The shelf of a trial, in memory: its state, and its journal.
 
 ghost use Rattle.std.specs.Prelude.{◌≡◌, false, IfOk};
-ghost use Rattle.book.specs.MemShelves.{seen_of};
+ghost use Rattle.book.specs.Books.{HoldsState};
+ghost use Rattle.book.specs.MemShelves.{files_of, seen_of};
 ghost use Rattle.book.specs.Shelves.{bytes_of};
 ghost use Rattle.run_trial.specs.Shelves.{shelf_of, state_file};
 
@@ -47,7 +48,9 @@ fn state_file(alloc: Global, state: &SyncState) -> Result<Option<Vec<u8>>, BookF
 }
 
 /// The state that stands in a shelf. `BadState`: its text is none of a state.
-pub fn state_in(alloc: Global, shelf: &MemShelf) -> Result<SyncState, BookFault> {
+pub fn state_in(alloc: Global, shelf: &MemShelf) -> Result<SyncState, BookFault>
+    ensures { IfOk result (HoldsState (files_of shelf.now).state) }
+{
     match shelf.bytes(File::State) {
         Some(text) => read_state_text(alloc, text),
         None => Ok(SyncState::none(alloc)),

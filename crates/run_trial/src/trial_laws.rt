@@ -11,3 +11,8 @@ pub fn folder_holds_its_mailbox()
 pub fn shelf_holds_its_state()
     ensures { law.ShelfHolds }
 {}
+
+/// Devices that a fault has left underway stand at the same opening in another run over them, or their run is over.
+pub fn devices_stand_again()
+    ensures { law.StandAgain }
+{}
