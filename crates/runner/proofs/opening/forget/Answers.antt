@@ -5,7 +5,7 @@ use Rattle.run_states.proofs.Arrived.{underway_arrives}
 use Rattle.outside.specs.Devices.{Device}
 use Rattle.outside.specs.Opened.{Opened}
 use Rattle.runner.specs.Before.{HasNoPlan, HasPlan, IsEmptied}
-use Rattle.runner.proofs.PartCalls.{from_book, left_call, line_of_book, passed_call}
+use Rattle.runner.proofs.PartCalls.{from_book, left_call, line_of_book, passed_call, passed_none}
 use Rattle.runner.proofs.Readings.{forgot, forgot_held, half_forgot, has_none, has_plan, never_both, none_of, none_taken, some_of, stores_kept}
 use Rattle.runner.proofs.Stages.{left_by}
 use Rattle.runner.proofs.Validities.{missing_here}
@@ -43,6 +43,9 @@ returns-in-Err-clause-part g c =
           (half_forgot g.opening opened _ m s1.device none a at)
           (λ x t. let k = forgot g.opening opened _ m s1.device none a at t in k.underway),
     )))
+
+pub returns-then-is_some-clause-part : goal.returns-then-is_some-clause-part
+returns-then-is_some-clause-part g c = passed_none _ _ _ _ c.requires.1.1 (λ k. k)
 
 pub returns-in-Ok-clause-stores : goal.returns-in-Ok-clause-stores
 returns-in-Ok-clause-stores g c = λ honest. let w = c.in-Ok.ensures.call in let acts = w.acts in let e = acts.effect honest in stores_kept g.opening _ _ e.mid _ c.requires.1.0 e.before e.behind
