@@ -155,11 +155,11 @@ module _ {ours : List ℕ → Bool} {alone : Bool} (opening : Opening ours alone
   planned_at w d (inl k) = let at = k.1 in at.planned
   planned_at w d (inr k) = let at = k.1 in at.planned
 
-  ready_ours : (dir : Direction) (uid flags : ℕ) (mark : List ℕ) → next_at opened ≡ Some (step.New dir uid flags mark) → (is_taken_up : Bool) (d : Device) → BeforeStep opening opened is_taken_up d → ours mark ≡ true
-  ready_ours dir uid flags mark is is_taken_up d k =
+  ready_ours : (dir : Direction) (uid flags : ℕ) (mark : List ℕ) → next_at opened ≡ Some (step.New dir uid flags mark) → (is_resumed : Bool) (d : Device) → BeforeStep opening opened is_resumed d → ours mark ≡ true
+  ready_ours dir uid flags mark is is_resumed d k =
       let s = k.since in
       is_ours ours s.world opening.options plan (step.New dir uid flags mark) mark
-      (planned_at s.world d (stands_of opening opened s.world is_taken_up d s.holds))
+      (planned_at s.world d (stands_of opening opened s.world is_resumed d s.holds))
       (next_contained plan.steps log _ is) refl
 
   -- what is answered where it was looked for
@@ -218,9 +218,9 @@ pub found_more : (plan : Plan) (d : Device) (ps : List Performed) (p : Performed
 found_more plan d [] p k first later = (first refl, All-nil IsNew)
 found_more plan d (q ∷ ps) p k first later = (k.0, All-push IsNew ps p k.1 (later (λ e. cc)))
 
-pub found_next : {ours : List ℕ → Bool} {alone : Bool} (opening : Opening ours alone) (start now : Option Opened) (is_taken_up : Bool) (ps : List Performed) (p : Performed) (s0 s1 : Seen) → HasLogged start now (logs_of ps) → next_at now ≡ Some p.step → (ps ≡ [] → s1 ≡ s0) → ((ps ≡ [] → ⊥) → BeforeStep opening now false s1.device)
-    → BeforeStep opening now is_taken_up s1.device → OfSame ours s0.device (λ d. AreFoundSo (plan_at start) d ps) → (BeforeStep opening now is_taken_up s1.device → OfSame ours s1.device (λ d. IsFoundSo (plan_at now) d p)) → OfSame ours s0.device (λ d. AreFoundSo (plan_at start) d (ps ++ p ∷ []))
-found_next {ours} {alone} opening start now is_taken_up ps p s0 s1 has is first later ready so_far one = λ d same.
+pub found_next : {ours : List ℕ → Bool} {alone : Bool} (opening : Opening ours alone) (start now : Option Opened) (is_resumed : Bool) (ps : List Performed) (p : Performed) (s0 s1 : Seen) → HasLogged start now (logs_of ps) → next_at now ≡ Some p.step → (ps ≡ [] → s1 ≡ s0) → ((ps ≡ [] → ⊥) → BeforeStep opening now false s1.device)
+    → BeforeStep opening now is_resumed s1.device → OfSame ours s0.device (λ d. AreFoundSo (plan_at start) d ps) → (BeforeStep opening now is_resumed s1.device → OfSame ours s1.device (λ d. IsFoundSo (plan_at now) d p)) → OfSame ours s0.device (λ d. AreFoundSo (plan_at start) d (ps ++ p ∷ []))
+found_next {ours} {alone} opening start now is_resumed ps p s0 s1 has is first later ready so_far one = λ d same.
     found_more (plan_at start) d ps p (so_far d same)
     (λ e. subst (λ (plan : Plan). IsFoundSo plan d p) has.plan (one ready d (subst (λ (s : Seen). FindsSame ours d s.device) (sym (first e)) same)))
     (λ e. one ready s1.device (same_none ours s1.device) ∙ not_there opening now p.step is s1.device (later e))

@@ -318,11 +318,11 @@ module _ {ours : List ℕ → Bool} {alone : Bool} (opening : Opening ours alone
 
   -- ---- the end
 
-  pub ended_at : (opened : Option Opened) (is_taken_up : Bool) (d m d' : Device) → IsGoing opened → next_at opened ≡ None → Arrives ours alone d m → BeforeStep opening opened is_taken_up d → OfBook CommitsTo opened m d' → RunEnd opening d'
-  ended_at opened is_taken_up d m d' g none a k t =
-      let r = ready_arrives opening opened is_taken_up d m a k in
+  pub ended_at : (opened : Option Opened) (is_resumed : Bool) (d m d' : Device) → IsGoing opened → next_at opened ≡ None → Arrives ours alone d m → BeforeStep opening opened is_resumed d → OfBook CommitsTo opened m d' → RunEnd opening d'
+  ended_at opened is_resumed d m d' g none a k t =
+      let r = ready_arrives opening opened is_resumed d m a k in
       let does = of_book CommitsTo opened m d' g.untorn t in
-      since_map opening _ _ (λ w grows at. (marks_of (plan_at opened).steps, ended ours alone w opening.options (version_at opened) (plan_at opened) (log_at opened) none m d' grows.in_order (stands_of opening opened w is_taken_up m at) does)) r.since
+      since_map opening _ _ (λ w grows at. (marks_of (plan_at opened).steps, ended ours alone w opening.options (version_at opened) (plan_at opened) (log_at opened) none m d' grows.in_order (stands_of opening opened w is_resumed m at) does)) r.since
 
   split_done : (d : Device) → Since opening (λ w. PlannedAt ours alone opening.named w opening.options d ⊎ DoneAt ours alone opening.named w opening.options d) → Underway opening d
   split_done d s = by_world s.holds
@@ -331,11 +331,11 @@ module _ {ours : List ℕ → Bool} {alone : Bool} (opening : Opening ours alone
       by_world (inl p) = inr (inl (record { world = s.world; grows = s.grows; admitted = s.admitted; below = s.below; within = s.within; holds = p }))
       by_world (inr x) = inr (inr (record { world = s.world; grows = s.grows; admitted = s.admitted; below = s.below; within = s.within; holds = x }))
 
-  pub half_ended_at : (opened : Option Opened) (is_taken_up : Bool) (d m d' : Device) → IsGoing opened → next_at opened ≡ None → Arrives ours alone d m → BeforeStep opening opened is_taken_up d → OfBook CommitsHalf opened m d' → Underway opening d'
-  half_ended_at opened is_taken_up d m d' g none a k t =
-      let r = ready_arrives opening opened is_taken_up d m a k in
+  pub half_ended_at : (opened : Option Opened) (is_resumed : Bool) (d m d' : Device) → IsGoing opened → next_at opened ≡ None → Arrives ours alone d m → BeforeStep opening opened is_resumed d → OfBook CommitsHalf opened m d' → Underway opening d'
+  half_ended_at opened is_resumed d m d' g none a k t =
+      let r = ready_arrives opening opened is_resumed d m a k in
       let does = of_book CommitsHalf opened m d' g.untorn t in
-      split_done d' (since_map opening _ _ (λ w grows at. half_ended ours alone w opening.options (version_at opened) (plan_at opened) (log_at opened) none m d' grows.in_order (stands_of opening opened w is_taken_up m at) does) r.since)
+      split_done d' (since_map opening _ _ (λ w grows at. half_ended ours alone w opening.options (version_at opened) (plan_at opened) (log_at opened) none m d' grows.in_order (stands_of opening opened w is_resumed m at) does) r.since)
 
   end_over : (d : Device) → RunEnd opening d → IsOver opening d
   end_over d s = since_map opening _ _ (λ w g k. ended_done ours alone w opening.options d k) s

@@ -78,12 +78,12 @@ module _ {ours : List ℕ → Bool} {alone : Bool} (opening : Opening ours alone
 
   -- ---- what others add
 
-  ready_one : (w : World) (is_taken_up : Bool) (d m : Device) → Arrives ours alone d m → StepStart ours alone opening.named w opening.options version plan log is_taken_up d → StepStart ours alone opening.named w opening.options version plan log is_taken_up m
+  ready_one : (w : World) (is_resumed : Bool) (d m : Device) → Arrives ours alone d m → StepStart ours alone opening.named w opening.options version plan log is_resumed d → StepStart ours alone opening.named w opening.options version plan log is_resumed m
   ready_one w false d m a at = midway_arrives ours alone w opening.options version plan log false log false d m a at
   ready_one w true d m a at = stands_arrives ours alone w opening.options version plan log false d m a at
 
-  pub ready_arrives : (is_taken_up : Bool) (d m : Device) → Arrives ours alone d m → BeforeStep opening opened is_taken_up d → BeforeStep opening opened is_taken_up m
-  ready_arrives is_taken_up d m a = moment_map opening opened _ _ (λ w g b at. ready_one w is_taken_up d m a at)
+  pub ready_arrives : (is_resumed : Bool) (d m : Device) → Arrives ours alone d m → BeforeStep opening opened is_resumed d → BeforeStep opening opened is_resumed m
+  ready_arrives is_resumed d m a = moment_map opening opened _ _ (λ w g b at. ready_one w is_resumed d m a at)
 
   begun_one : (w : World) (is_made : Bool) (d m : Device) → Arrives ours alone d m → HasBegun ours alone opening.named w opening.options version plan log is_made d → HasBegun ours alone opening.named w opening.options version plan log is_made m
   begun_one w is_made d m a (inl k) = inl (k.0, midway_arrives ours alone w opening.options version plan log false log k.0 d m a k.1, k.2)
@@ -106,12 +106,12 @@ module _ {ours : List ℕ → Bool} {alone : Bool} (opening : Opening ours alone
   stands_at : (w : World) (d : Device) → Stands ours alone opening.named w opening.options version plan log false d → PlannedAt ours alone opening.named w opening.options d
   stands_at w d s = record { version = version; plan = plan; log = log; is_torn = false; stands = s }
 
-  pub stands_of : (w : World) (is_taken_up : Bool) (d : Device) → StepStart ours alone opening.named w opening.options version plan log is_taken_up d → Stands ours alone opening.named w opening.options version plan log false d
+  pub stands_of : (w : World) (is_resumed : Bool) (d : Device) → StepStart ours alone opening.named w opening.options version plan log is_resumed d → Stands ours alone opening.named w opening.options version plan log false d
   stands_of w false d at = inl (false, at)
   stands_of w true d at = at
 
-  pub ready_underway : (is_taken_up : Bool) (d : Device) → BeforeStep opening opened is_taken_up d → Underway opening d
-  ready_underway is_taken_up d = planned _ d (λ w at. stands_at w d (stands_of w is_taken_up d at))
+  pub ready_underway : (is_resumed : Bool) (d : Device) → BeforeStep opening opened is_resumed d → Underway opening d
+  ready_underway is_resumed d = planned _ d (λ w at. stands_at w d (stands_of w is_resumed d at))
 
   begun_stands : (w : World) (is_made : Bool) (d : Device) → HasBegun ours alone opening.named w opening.options version plan log is_made d → Stands ours alone opening.named w opening.options version plan log false d
   begun_stands w is_made d (inl k) = inl (k.0, k.1)
@@ -132,8 +132,8 @@ module _ {ours : List ℕ → Bool} {alone : Bool} (opening : Opening ours alone
   stands_held w d (inl k) = let x = k.1 in record { state = w.state; written = record { version = version; journal = record { plan = plan; log = log }; is_torn = false }; held = x.files; next = refl }
   stands_held w d (inr k) = let x = k.1 in record { state = w.state; written = record { version = version; journal = record { plan = plan; log = log }; is_torn = false }; held = x.files; next = refl }
 
-  pub ready_held : (is_taken_up : Bool) (d : Device) → BeforeStep opening opened is_taken_up d → RefusedAt (number_at opened) d
-  ready_held is_taken_up d k = let s = k.since in stands_held s.world d (stands_of s.world is_taken_up d s.holds)
+  pub ready_held : (is_resumed : Bool) (d : Device) → BeforeStep opening opened is_resumed d → RefusedAt (number_at opened) d
+  ready_held is_resumed d k = let s = k.since in stands_held s.world d (stands_of s.world is_resumed d s.holds)
 
   pub begun_held : (is_made : Bool) (d : Device) → DuringStep opening opened is_made d → RefusedAt (number_at opened) d
   begun_held is_made d k = let s = k.since in stands_held s.world d (begun_stands s.world is_made d s.holds)
@@ -145,12 +145,12 @@ module _ {ours : List ℕ → Bool} {alone : Bool} (opening : Opening ours alone
   copied_held d k = let s = k.since in let at = s.holds in stands_held s.world d (inr (Copied at.0, at.1))
 
   -- a plan that was just made stands where its log says, and may be taken up
-  pub either_ready : (is_taken_up : Bool) (d : Device) → BeforeStep opening opened false d → BeforeStep opening opened is_taken_up d
+  pub either_ready : (is_resumed : Bool) (d : Device) → BeforeStep opening opened false d → BeforeStep opening opened is_resumed d
   either_ready false d k = k
   either_ready true d k = moment_map opening opened _ _ (λ w g b at. inl (false, at)) k
 
-  pub taken_up : (is_taken_up : Bool) (d : Device) → BeforeStep opening opened is_taken_up d → BeforeStep opening opened true d
-  taken_up is_taken_up d k = moment_map opening opened _ _ (λ w g b at. stands_of w is_taken_up d at) k
+  pub taken_up : (is_resumed : Bool) (d : Device) → BeforeStep opening opened is_resumed d → BeforeStep opening opened true d
+  taken_up is_resumed d k = moment_map opening opened _ _ (λ w g b at. stands_of w is_resumed d at) k
 
   -- ---- copies
 

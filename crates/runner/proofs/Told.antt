@@ -130,13 +130,13 @@ fit_rest [] (l ∷ ls) more k = absurd k
 fit_rest (s ∷ steps) (l ∷ ls) more k = fit_rest steps ls more k.1
 
 module _ {ours : List ℕ → Bool} {alone : Bool} (opening : Opening ours alone) where
-  pub ends_by : (opened : Option Opened) (is_taken_up : Bool) (d m d' : Device) → IsGoing opened → next_at opened ≡ None → Arrives ours alone d m → BeforeStep opening opened is_taken_up d → OfBook CommitsTo opened m d'
+  pub ends_by : (opened : Option Opened) (is_resumed : Bool) (d m d' : Device) → IsGoing opened → next_at opened ≡ None → Arrives ours alone d m → BeforeStep opening opened is_resumed d → OfBook CommitsTo opened m d'
       → EndsBy opening (plan_at opened) (log_at opened) d'
-  ends_by opened is_taken_up d m d' g none a k t =
-      let r = ready_arrives opening opened is_taken_up d m a k in
+  ends_by opened is_resumed d m d' g none a k t =
+      let r = ready_arrives opening opened is_resumed d m a k in
       let does = of_book CommitsTo opened m d' g.untorn t in
       since_map opening _ _ (λ w grows at.
-      let stands = stands_of opening opened w is_taken_up m at in
+      let stands = stands_of opening opened w is_resumed m at in
       let whole = whole_at ours alone w opening.options (version_at opened) (plan_at opened) (log_at opened) none false m stands in
       record { ended = ended ours alone w opening.options (version_at opened) (plan_at opened) (log_at opened) none m d' grows.in_order stands does; planned = whole.planned; fit = whole.fit }) r.since
 

@@ -66,7 +66,7 @@ module _ {ours : List ℕ → Bool} {alone : Bool} (opening : Opening ours alone
   stands_planned w d (inl k) = let m = k.1 in m.planned
   stands_planned w d (inr k) = let m = k.1 in m.planned
 
-  ready_planned : (is_taken_up : Bool) (w : World) (d : Device) → StepStart ours alone opening.named w opening.options (version_at opened) (plan_at opened) (log_at opened) is_taken_up d → IsPlanned ours w opening.options (plan_at opened)
+  ready_planned : (is_resumed : Bool) (w : World) (d : Device) → StepStart ours alone opening.named w opening.options (version_at opened) (plan_at opened) (log_at opened) is_resumed d → IsPlanned ours w opening.options (plan_at opened)
   ready_planned false w d m = m.planned
   ready_planned true w d k = stands_planned w d k
 
@@ -74,8 +74,8 @@ module _ {ours : List ℕ → Bool} {alone : Bool} (opening : Opening ours alone
   begun_planned is_made w d (inl k) = let m = k.1 in m.planned
   begun_planned is_made w d (inr k) = let m = k.1 in m.planned
 
-  ready_within : (is_taken_up : Bool) (d : Device) → BeforeStep opening opened is_taken_up d → IsWithinStep opening.options.keywords s
-  ready_within is_taken_up d k = moment_within _ (λ w r. ready_planned is_taken_up w d r) k
+  ready_within : (is_resumed : Bool) (d : Device) → BeforeStep opening opened is_resumed d → IsWithinStep opening.options.keywords s
+  ready_within is_resumed d k = moment_within _ (λ w r. ready_planned is_resumed w d r) k
 
   begun_within : (is_made : Bool) (d : Device) → DuringStep opening opened is_made d → IsWithinStep opening.options.keywords s
   begun_within is_made d k = moment_within _ (λ w r. begun_planned is_made w d r) k

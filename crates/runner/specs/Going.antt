@@ -138,12 +138,12 @@ pub record AtMoment {ours : List ℕ → Bool} {alone : Bool} (opening : Opening
   pub since : Since opening P
 
 -- none of its calls is done; where the plan was taken up again, some or all may be
-abbrev pub StepStart : (List ℕ → Bool) → Bool → List Named → World → Options → Version → Plan → List Logged → (is_taken_up : Bool) → Device → Type 0
+abbrev pub StepStart : (List ℕ → Bool) → Bool → List Named → World → Options → Version → Plan → List Logged → (is_resumed : Bool) → Device → Type 0
 StepStart ours alone earlier w options version plan log false d = Midway ours alone earlier w options version plan log false log false d
 StepStart ours alone earlier w options version plan log true d = Stands ours alone earlier w options version plan log false d
 
-abbrev pub BeforeStep : {ours : List ℕ → Bool} {alone : Bool} → Opening ours alone → Option Opened → (is_taken_up : Bool) → Device → Type 0
-BeforeStep {ours} {alone} opening opened is_taken_up d = AtMoment opening opened (λ w. StepStart ours alone opening.named w opening.options (version_at opened) (plan_at opened) (log_at opened) is_taken_up d)
+abbrev pub BeforeStep : {ours : List ℕ → Bool} {alone : Bool} → Opening ours alone → Option Opened → (is_resumed : Bool) → Device → Type 0
+BeforeStep {ours} {alone} opening opened is_resumed d = AtMoment opening opened (λ w. StepStart ours alone opening.named w opening.options (version_at opened) (plan_at opened) (log_at opened) is_resumed d)
 
 -- its flags are set, if they are set by a call of their own
 abbrev pub DuringStep : {ours : List ℕ → Bool} {alone : Bool} → Opening ours alone → Option Opened → (is_made : Bool) → Device → Type 0

@@ -121,7 +121,7 @@ pub(crate) fn bring<O: Outside>(
     uid: Uid,
     flags: Flags,
     mark: Tuid,
-    is_taken_up: bool,
+    is_resumed: bool,
 ) -> Result<StepResult, RunFault>
     ghost opening: { Opening O.ours O.alone }
     requires going { IsGoing (O.opened outside.old) }
@@ -131,14 +131,14 @@ pub(crate) fn bring<O: Outside>(
     ensures keywords { O.keywords outside.new ≡ O.keywords outside.old }
     ensures opened { O.opened outside.new ≡ O.opened outside.old }
     ensures fits { IfOk result (λ r. LogsNew (logged_of r)) }
-    ensures found { IfOk result (λ r. O.honest outside.new → BeforeStep opening (O.opened outside.old) is_taken_up
+    ensures found { IfOk result (λ r. O.honest outside.new → BeforeStep opening (O.opened outside.old) is_resumed
         (O.seen outside.old).device → OfSame O.ours (O.seen outside.old).device (λ d. told_found r ≡ copy_at
         (plan_at (O.opened outside.old)) (step.New direction uid flags mark) d)) }
     ensures part { StepPart number (O.opened outside.old) (O.honest outside.new)
-        (BeforeStep opening (O.opened outside.old) is_taken_up) (Underway opening) made_by
+        (BeforeStep opening (O.opened outside.old) is_resumed) (Underway opening) made_by
         (λ r. AfterStep opening (O.opened outside.old) (logged_of r)) (O.seen outside.old) (O.seen outside.new) result }
 {
-    if !is_taken_up {
+    if !is_resumed {
         return copy(outside, number, direction, uid, flags, mark);
     }
     match seek(outside, number, direction, mark)? {

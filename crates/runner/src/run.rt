@@ -33,7 +33,7 @@ use rules::options::Options;
 use std::alloc::Global;
 
 /// The new state takes the old one's place, and the journal goes.
-fn conclude<O: Outside>(outside: &mut O, is_taken_up: bool) -> Result<(), RunFault>
+fn conclude<O: Outside>(outside: &mut O, is_resumed: bool) -> Result<(), RunFault>
     ghost opening: { Opening O.ours O.alone }
     requires going { IsGoing (O.opened outside.old) }
     requires takes { TakesCommit (O.opened outside.old) }
@@ -42,10 +42,10 @@ fn conclude<O: Outside>(outside: &mut O, is_taken_up: bool) -> Result<(), RunFau
     ensures keywords { O.keywords outside.new ≡ O.keywords outside.old }
     ensures committed { OnOk result (AreCommitted (O.opened outside.old) (O.opened outside.new)) }
     ensures held { OnOk result (O.honest outside.new → IsHeld (O.opened outside.new) (O.seen outside.new).device) }
-    ensures ends { OnOk result (O.honest outside.new → BeforeStep opening (O.opened outside.old) is_taken_up
+    ensures ends { OnOk result (O.honest outside.new → BeforeStep opening (O.opened outside.old) is_resumed
         (O.seen outside.old).device → EndsBy opening (plan_at (O.opened outside.old)) (log_at (O.opened outside.old))
         (O.seen outside.new).device) }
-    ensures part { Part (O.honest outside.new) (BeforeStep opening (O.opened outside.old) is_taken_up)
+    ensures part { Part (O.honest outside.new) (BeforeStep opening (O.opened outside.old) is_resumed)
         (Underway opening) (λ _. 0) (λ _. RunEnd opening) (O.seen outside.old) (O.seen outside.new) result }
 {
     match outside.commit() {

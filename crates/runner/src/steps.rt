@@ -31,7 +31,7 @@ fn perform<O: Outside>(
     outside: &mut O,
     number: usize,
     step: &Step,
-    is_taken_up: bool,
+    is_resumed: bool,
 ) -> Result<StepResult, RunFault>
     ghost opening: { Opening O.ours O.alone }
     requires going { IsGoing (O.opened outside.old) }
@@ -42,11 +42,11 @@ fn perform<O: Outside>(
     ensures keywords { O.keywords outside.new ≡ O.keywords outside.old }
     ensures opened { O.opened outside.new ≡ O.opened outside.old }
     ensures fits { IfOk result (λ r. FitsStep step.now (logged_of r)) }
-    ensures found { IfOk result (λ r. O.honest outside.new → BeforeStep opening (O.opened outside.old) is_taken_up
+    ensures found { IfOk result (λ r. O.honest outside.new → BeforeStep opening (O.opened outside.old) is_resumed
         (O.seen outside.old).device → OfSame O.ours (O.seen outside.old).device (λ d. told_found r ≡ copy_at
         (plan_at (O.opened outside.old)) step.now d)) }
     ensures part { StepPart number (O.opened outside.old) (O.honest outside.new)
-        (BeforeStep opening (O.opened outside.old) is_taken_up) (Underway opening) made_by
+        (BeforeStep opening (O.opened outside.old) is_resumed) (Underway opening) made_by
         (λ r. AfterStep opening (O.opened outside.old) (logged_of r)) (O.seen outside.old) (O.seen outside.new) result }
 {
     match *step {
@@ -55,7 +55,7 @@ fn perform<O: Outside>(
             uid,
             flags,
             mark,
-        } => bring(outside, number, direction, uid, flags, mark, is_taken_up),
+        } => bring(outside, number, direction, uid, flags, mark, is_resumed),
         Step::Gone {
             direction,
             far,
@@ -133,7 +133,7 @@ fn advance<O: Outside>(
     outside: &mut O,
     number: usize,
     step: Step,
-    is_taken_up: bool,
+    is_resumed: bool,
 ) -> Result<Performed, RunFault>
     ghost opening: { Opening O.ours O.alone }
     requires going { IsGoing (O.opened outside.old) }
@@ -146,13 +146,13 @@ fn advance<O: Outside>(
     ensures opened { IfOk result (λ p. HasLogged (O.opened outside.old) (O.opened outside.new) (logged_of p.result ∷ [])) }
     ensures step { IfOk result (λ p. p.step ≡ step) }
     ensures fits { IfOk result (λ p. FitsStep p.step (logged_of p.result)) }
-    ensures found { IfOk result (λ p. O.honest outside.new → BeforeStep opening (O.opened outside.old) is_taken_up
+    ensures found { IfOk result (λ p. O.honest outside.new → BeforeStep opening (O.opened outside.old) is_resumed
         (O.seen outside.old).device → OfSame O.ours (O.seen outside.old).device (λ d. IsFoundSo (plan_at (O.opened outside.old)) d p)) }
     ensures part { RunPart Never (O.opened outside.new) (O.honest outside.new)
-        (BeforeStep opening (O.opened outside.old) is_taken_up) (Underway opening) (λ p. made_by p.result)
+        (BeforeStep opening (O.opened outside.old) is_resumed) (Underway opening) (λ p. made_by p.result)
         (λ _. BeforeStep opening (O.opened outside.new) false) (O.seen outside.old) (O.seen outside.new) result }
 {
-    let result = perform(outside, number, &step, is_taken_up)?;
+    let result = perform(outside, number, &step, is_resumed)?;
     log(outside, number, &result)?;
     Ok(Performed { step, result })
 }
@@ -162,7 +162,7 @@ fn advance<O: Outside>(
 pub(crate) fn carry_out<O: Outside, P: Progress>(
     alloc: Global,
     outside: &mut O,
-    is_taken_up: bool,
+    is_resumed: bool,
     progress: &P,
 ) -> Result<Vec<Performed>, RunFault>
     ghost opening: { Opening O.ours O.alone }
@@ -176,12 +176,12 @@ pub(crate) fn carry_out<O: Outside, P: Progress>(
     ensures steps { IfOk result (λ performed. steps_of performed.items ≡ drop (length (log_at (O.opened outside.old)))
         (plan_at (O.opened outside.old)).steps) }
     ensures fits { IfOk result (λ performed. All (λ p. FitsStep p.step (logged_of p.result)) performed.items) }
-    ensures found { IfOk result (λ performed. O.honest outside.new → BeforeStep opening (O.opened outside.old) is_taken_up
+    ensures found { IfOk result (λ performed. O.honest outside.new → BeforeStep opening (O.opened outside.old) is_resumed
         (O.seen outside.old).device → OfSame O.ours (O.seen outside.old).device (λ d. AreFoundSo (plan_at (O.opened outside.old)) d
         performed.items)) }
-    ensures part { RunPart Never (O.opened outside.new) (O.honest outside.new) (BeforeStep opening (O.opened outside.old) is_taken_up)
+    ensures part { RunPart Never (O.opened outside.new) (O.honest outside.new) (BeforeStep opening (O.opened outside.old) is_resumed)
         (Underway opening) (λ performed. made performed.items)
-        (λ _. BeforeStep opening (O.opened outside.new) is_taken_up) (O.seen outside.old) (O.seen outside.new) result }
+        (λ _. BeforeStep opening (O.opened outside.new) is_resumed) (O.seen outside.old) (O.seen outside.new) result }
 {
     let mut performed = Vec::new(alloc);
     tell_logged(outside, progress);
@@ -189,7 +189,7 @@ pub(crate) fn carry_out<O: Outside, P: Progress>(
         let Ok(()) = performed.try_reserve(1) else {
             return Err(RunFault::NoMemory);
         };
-        let one = advance(outside, number, step, is_taken_up)?;
+        let one = advance(outside, number, step, is_resumed)?;
         tell_logged(outside, progress);
         let Ok(()) = performed.push(one) else {
             return Err(RunFault::NoMemory);

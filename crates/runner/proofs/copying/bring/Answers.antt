@@ -8,20 +8,20 @@ pub returns-in-None-clause-part : goal.returns-in-None-clause-part
 returns-in-None-clause-part g c =
     let s1 = g.O.Outside.seen c.seek.new.outside in
     let rest = rw c.seek.ensures.opened at c.copy-in-None.ensures.part in
-    let up : c.args.is_taken_up ≡ true = grind (arith, common_steps) in
+    let up : c.args.is_resumed ≡ true = grind (arith, common_steps) in
     rw up (step_after _ (g.O.Outside.opened c.args.outside.now) _ _ _ _ _ _ _ _ s1 _ _ c.copy-in-None.ensures.was_honest (rw c.in-None.is at c.in_ok-copy.ensures.part) rest)
 
 pub returns-in-None-clause-found : goal.returns-in-None-clause-found
 returns-in-None-clause-found g c =
-    let up : c.args.is_taken_up ≡ true = grind (arith, common_steps) in
+    let up : c.args.is_resumed ≡ true = grind (arith, common_steps) in
     rw up (made_sought g.opening (g.O.Outside.opened c.args.outside.now) c.args.direction c.args.uid c.args.flags c.args.mark c.requires.1.1.0 c.copy-in-None.result _ _ (g.O.Outside.seen c.args.outside.now).device c.copy-in-None.ensures.was_honest c.copy-in-None.ensures.made (rw c.in-None.is at c.in_ok-copy.ensures.found))
 
-pub returns-then-not-is_taken_up-clause-found : goal.returns-then-not-is_taken_up-clause-found
-returns-then-not-is_taken_up-clause-found g c =
-    let down : c.args.is_taken_up ≡ false = grind (arith, common_steps) in
+pub returns-then-not-is_resumed-clause-found : goal.returns-then-not-is_resumed-clause-found
+returns-then-not-is_resumed-clause-found g c =
+    let down : c.args.is_resumed ≡ false = grind (arith, common_steps) in
     rw down (made_fresh g.opening (g.O.Outside.opened c.args.outside.now) c.args.direction c.args.uid c.args.flags c.args.mark c.requires.1.1.0 c.copy.result _ (g.O.Outside.seen c.args.outside.now).device c.copy.ensures.made)
 
 pub returns-in-Some-clause-part : goal.returns-in-Some-clause-part
 returns-in-Some-clause-part g c =
-    let up : c.args.is_taken_up ≡ true = grind (arith, common_steps) in
+    let up : c.args.is_resumed ≡ true = grind (arith, common_steps) in
     rw up (rw c.in-Some.is at c.in_ok-copy.ensures.part)

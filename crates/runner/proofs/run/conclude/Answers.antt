@@ -11,12 +11,12 @@ use Rattle.runner.proofs.run.conclude.Goals as goal
 pub returns-in-Ok-clause-part : goal.returns-in-Ok-clause-part
 returns-in-Ok-clause-part g c =
     let s1 = g.O.Outside.seen c.commit.new.self in
-    passed_call _ _ _ _ _ _ _ _ _ _ _ c.in-Ok.ensures.call (λ m at a own. ended_at g.opening (g.O.Outside.opened c.args.outside.now) c.args.is_taken_up _ m s1.device c.requires.1.0 c.requires.1.1.1 a at own)
+    passed_call _ _ _ _ _ _ _ _ _ _ _ c.in-Ok.ensures.call (λ m at a own. ended_at g.opening (g.O.Outside.opened c.args.outside.now) c.args.is_resumed _ m s1.device c.requires.1.0 c.requires.1.1.1 a at own)
 
 pub returns-in-Err-clause-part : goal.returns-in-Err-clause-part
 returns-in-Err-clause-part g c =
     let opened = g.O.Outside.opened c.args.outside.now in
-    let seek = c.args.is_taken_up in
+    let seek = c.args.is_resumed in
     let s1 = g.O.Outside.seen c.commit.new.self in
     rw c.call_fault.ensures (left_call _ _ _ _ _ _ _ _ _ _ _ tt c.in-Err.ensures.call (line_of_book _) (λ m at a own told. (
       from_book c.in-Err.fault told,
@@ -29,7 +29,7 @@ returns-in-Err-clause-part g c =
 pub returns-in-Ok-clause-ends : goal.returns-in-Ok-clause-ends
 returns-in-Ok-clause-ends g c = λ h k.
     let opened = g.O.Outside.opened c.args.outside.now in
-    let seek = c.args.is_taken_up in
+    let seek = c.args.is_resumed in
     let s0 = g.O.Outside.seen c.args.outside.now in
     let s1 = g.O.Outside.seen c.commit.new.self in
     let p : Passed (g.O.Outside.honest c.commit.new.self) (BeforeStep g.opening opened seek) (EndsBy g.opening (plan_at opened) (log_at opened)) 0 s0 s1 =

@@ -14,7 +14,7 @@ use Rattle.runner.proofs.steps.carry_out.Goals as goal
 
 pub returns-in_default-try_reserve-clause-part : goal.returns-in_default-try_reserve-clause-part
 returns-in_default-try_reserve-clause-part g c =
-    left_here _ _ _ _ _ _ _ _ c.loop-number.invariant.part tt (ready_underway g.opening (g.O.Outside.opened c.loop-number.outside) c.args.is_taken_up _)
+    left_here _ _ _ _ _ _ _ _ c.loop-number.invariant.part tt (ready_underway g.opening (g.O.Outside.opened c.loop-number.outside) c.args.is_resumed _)
 
 pub returns-in_err-one-clause-part : goal.returns-in_err-one-clause-part
 returns-in_err-one-clause-part g c =
@@ -41,7 +41,7 @@ loop-number-preserved g c =
     let p = c.in_ok-one.one in
     let is : next_at b ≡ Some p.step = rw one.step c.in-Some.ensures.1 in
     let pushed : c.push.new.self.items ≡ ps ++ p ∷ [] = rw (← c.try_reserve.ensures.items) c.in-Ok-push.ensures.items in
-    let went = passed_weaker _ _ _ _ _ _ _ _ _ refl (λ d k. k) (either_ready g.opening (g.O.Outside.opened c.advance.new.outside) c.args.is_taken_up) one.part in
+    let went = passed_weaker _ _ _ _ _ _ _ _ _ refl (λ d k. k) (either_ready g.opening (g.O.Outside.opened c.advance.new.outside) c.args.is_resumed) one.part in
     rw pushed (record {
       opened = logged_on start b _ ps p i.opened one.opened;
       steps = steps_on b _ ps p _ one.opened is i.steps;
@@ -51,7 +51,7 @@ loop-number-preserved g c =
       part = rw (← made_more ps p) (passed_after _ _ _ _ _ _ _ _ s1 _ one.was_honest i.part went);
       first = λ e. absurd (not_none ps p e);
       later = λ e h k. let before = i.part in let after = one.part in after.reaches h (before.reaches (one.was_honest h) k);
-      found = λ h k. let before = i.part in found_next g.opening start b c.args.is_taken_up ps p (g.O.Outside.seen c.args.outside.now) s1 i.opened is i.first (λ e. i.later e (one.was_honest h) k) (before.reaches (one.was_honest h) k) (i.found (one.was_honest h) k) (one.found h);
+      found = λ h k. let before = i.part in found_next g.opening start b c.args.is_resumed ps p (g.O.Outside.seen c.args.outside.now) s1 i.opened is i.first (λ e. i.later e (one.was_honest h) k) (before.reaches (one.was_honest h) k) (i.found (one.was_honest h) k) (one.found h);
     })
 
 pub returns-clause-steps : goal.returns-clause-steps

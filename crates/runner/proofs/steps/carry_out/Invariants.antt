@@ -18,10 +18,10 @@ invariant-loop-number g l =
       fits : All IsFitting l.performed.items;
       was_honest : g.O.Outside.honest l.outside → g.O.Outside.honest l.fn.outside;
       keywords : g.O.Outside.keywords l.outside ≡ g.O.Outside.keywords l.fn.outside;
-      part : Passed (g.O.Outside.honest l.outside) (BeforeStep g.opening start l.is_taken_up) (BeforeStep g.opening now l.is_taken_up) (made l.performed.items) (g.O.Outside.seen l.fn.outside) (g.O.Outside.seen l.outside);
+      part : Passed (g.O.Outside.honest l.outside) (BeforeStep g.opening start l.is_resumed) (BeforeStep g.opening now l.is_resumed) (made l.performed.items) (g.O.Outside.seen l.fn.outside) (g.O.Outside.seen l.outside);
       first : l.performed.items ≡ [] → g.O.Outside.seen l.outside ≡ g.O.Outside.seen l.fn.outside;
-      later : (l.performed.items ≡ [] → ⊥) → g.O.Outside.honest l.outside → BeforeStep g.opening start l.is_taken_up (g.O.Outside.seen l.fn.outside).device → BeforeStep g.opening now false (g.O.Outside.seen l.outside).device;
-      found : g.O.Outside.honest l.outside → BeforeStep g.opening start l.is_taken_up (g.O.Outside.seen l.fn.outside).device → OfSame g.O.Outside.ours (g.O.Outside.seen l.fn.outside).device (λ d. AreFoundSo (plan_at start) d l.performed.items);
+      later : (l.performed.items ≡ [] → ⊥) → g.O.Outside.honest l.outside → BeforeStep g.opening start l.is_resumed (g.O.Outside.seen l.fn.outside).device → BeforeStep g.opening now false (g.O.Outside.seen l.outside).device;
+      found : g.O.Outside.honest l.outside → BeforeStep g.opening start l.is_resumed (g.O.Outside.seen l.fn.outside).device → OfSame g.O.Outside.ours (g.O.Outside.seen l.fn.outside).device (λ d. AreFoundSo (plan_at start) d l.performed.items);
     }
 
 abbrev pub decreases-loop-number : goal.decreases-loop-number
