@@ -17,7 +17,7 @@ use Rattle.imap_commands.specs.Commands.{Spelled, command_of, command_at}
 use Rattle.imap_commands.proofs.VerbParts.{verb_part}
 use Rattle.imap_commands.proofs.RequestParts.{request_part}
 
--- a word, and what stands behind it
+-- a word, and what follows it
 worded_part : Part Commands true Closed (λ r. Word (word_of (verb_of r)) ⨾ RequestText r) (seq verb_at request_at)
 worded_part = same_part
     (λ r t h. let word : Word (word_of (verb_of r)) h.front = subst (λ (k : Verb). Word (word_of k) h.front) (sym h.second.0) h.first in record { front = h.front; back = h.back; parts = h.parts; first = word; second = h.second.1 })

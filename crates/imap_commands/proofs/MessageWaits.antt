@@ -29,7 +29,7 @@ no_plus : (plus : Bool) → MayPlus Replies plus → plus ≡ false
 no_plus true h = absurd h
 no_plus false h = refl
 
--- behind a length in a plain place its sender waits
+-- after a length in a plain place its sender waits
 length_asks : (before length_text : List ℕ) (n : ℕ) → phase Plain before ≡ Plain → phase Brace length_text ≡ Close n false → asks Commands (before ++ 123 ∷ (length_text ++ crlf)) ≡ Some n
 length_asks before length_text n plain closed =
     asks-append Commands Plain before 123 (length_text ++ crlf)
@@ -38,7 +38,7 @@ length_asks before length_text n plain closed =
     ∙ asks-append Commands Brace length_text 13 (10 ∷ [])
     ∙ ap (λ (p : Phase). asks_from Commands p crlf) closed
 
--- a literal without `+` and a line end, behind bytes that lead back to a plain place
+-- a literal without `+` and a line end, after bytes that lead back to a plain place
 literal_waits : (before octets text : List ℕ) → phase Plain before ≡ Plain → (Literal Replies octets ⨾ Is crlf) text → WaitsBefore octets (before ++ text)
 literal_waits before octets text plain h =
     let literal = h.first in

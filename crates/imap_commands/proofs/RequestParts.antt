@@ -1,4 +1,4 @@
--- What stands behind the words of commands, as parts of their grammar.
+-- What follows the words of commands, as parts of their grammar.
 use Rattle.std.proofs.Common.{◌≡◌, ℕ, Bool, true, false, eqb, ◌||◌, List, [], ◌∷◌, Result, refl, inl, inr}
 use Rattle.wire_reader.specs.declared.side.Side.TheVariants.{Commands}
 use Rattle.wire_reader.specs.declared.stop.Stop.{Stop}
@@ -34,14 +34,14 @@ use Rattle.imap_commands.specs.declared.command.Request.TheVariants as requests
 use Rattle.imap_commands.specs.Requests.{verb_of, items_word, mode_word, space, AString, RequestText}
 use Rattle.imap_commands.specs.RequestReaders.{items_at, mode_at, login_at, enable_at, list_at, create_at, select_at, append_at, fetch_at, store_at, expunge_at, request_at}
 
--- the requests of this word, as what stands behind it
+-- the requests of this word, as what follows it
 abbrev pub Behind : Verb → Request → List ℕ → Type 0
 Behind k r t = (verb_of r ≡ k) × RequestText r t
 
 -- ---- line ends and spaces
 
 module _ {A : Type 0} {L : A → List ℕ → Type 0} {r : List ℕ → Result (A × List ℕ) Stop} where
-  -- a part behind a space
+  -- a part after a space
   spaced : Part Commands true Closed L r → Part Commands true Closed (λ a. Is space ⨾ L a) (skip (byte_at 32) r)
   spaced p = skip_part (byte_part 32 refl) p (after_closed r)
 
@@ -52,7 +52,7 @@ module _ {A : Type 0} {L : A → List ℕ → Type 0} {r : List ℕ → Result (
   token_line : (g : ℕ → Bool) → g 13 ≡ false → Part Commands true (Open g) L r → Part Commands true Closed (λ a. L a ⨾ Is crlf) (keep r crlf_at)
   token_line g lacks p = keep_part p crlf_part (after g 13 lacks (starts_seq _ (starts_byte 13)))
 
--- a token of a class, and a part behind a space
+-- a token of a class, and a part after a space
 module _ {A B : Type 0} {L : A → List ℕ → Type 0} {M : B → List ℕ → Type 0} {r : List ℕ → Result (A × List ℕ) Stop} {s : List ℕ → Result (B × List ℕ) Stop} where
   then_spaced : (g : ℕ → Bool) → g 32 ≡ false → Part Commands true (Open g) L r → Part Commands true Closed M s → Part Commands true Closed (λ v. L v.0 ⨾ Is space ⨾ M v.1) (both r (skip (byte_at 32) s))
   then_spaced g lacks p q = both_part p (spaced q) (after g 32 lacks (starts_seq _ (starts_byte 32)))

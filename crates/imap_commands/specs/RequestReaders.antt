@@ -62,7 +62,7 @@ store_at = mapped (λ v. requests.Store v.0 v.1.0 v.1.1) (both set_at (skip (byt
 unfoldable pub expunge_at : List ℕ → Result (Request × List ℕ) Stop
 expunge_at = mapped (λ set. requests.Expunge set) (keep set_at crlf_at)
 
--- what stands behind this word
+-- what follows this word
 abbrev pub request_at : Verb → List ℕ → Result (Request × List ℕ) Stop
 request_at verbs.Capability = bare_at requests.Capability
 request_at verbs.Noop = bare_at requests.Noop

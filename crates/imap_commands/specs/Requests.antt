@@ -51,7 +51,7 @@ space = 32 ∷ []
 abbrev pub AString : List ℕ → List ℕ → Type 0
 AString = ValueText Commands
 
--- what stands behind the word
+-- what follows the word
 abbrev pub RequestText : Request → List ℕ → Type 0
 RequestText requests.Capability = Is crlf
 RequestText requests.Noop = Is crlf

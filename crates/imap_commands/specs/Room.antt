@@ -10,7 +10,7 @@ use Rattle.imap_commands.specs.Verbs.{word_of}
 use Rattle.imap_commands.specs.Requests.{verb_of, items_word, mode_word}
 use Rattle.imap_commands.specs.Writing.{Written}
 
--- behind the word, with the line end
+-- after the word, with the line end
 abbrev pub most_behind : Request → ℕ
 most_behind requests.Capability = 2
 most_behind requests.Noop = 2

@@ -1,5 +1,5 @@
 -- The words that commands begin with (RFC 9051, section 9: command-any, command-auth, command-nonauth, command-select),
--- with the space behind them where something follows. A LIST names no reference: `LIST "" `.
+-- with the space after them where something follows. A LIST names no reference: `LIST "" `.
 use Rattle.std.specs.Prelude.{ℕ, List, [], ◌∷◌, codes, Result}
 use Rattle.wire_reader.specs.declared.stop.Stop.{Stop}
 use Rattle.wire_reader.specs.Words.{keys_at}
@@ -22,7 +22,7 @@ word_of verbs.Expunge = codes "UID EXPUNGE "
 
 -- ---- how they are read
 
--- those behind APPEND, behind ENABLE, and behind CAPABILITY
+-- those after APPEND, after ENABLE, and after CAPABILITY
 abbrev pub message_verbs : List Verb
 message_verbs = verbs.Fetch ∷ verbs.Store ∷ verbs.Expunge ∷ []
 

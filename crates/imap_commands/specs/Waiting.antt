@@ -6,7 +6,7 @@ use Rattle.wire_reader.specs.Spelling.{crlf}
 use Rattle.imap_commands.specs.declared.command.Request.TheVariants as requests
 use Rattle.imap_commands.specs.Writing.{Written}
 
--- the message and the line end stand last, and behind what stands before them the sender waits for the message
+-- the message and the line end stand last, and after what stands before them the sender waits for the message
 pub record WaitsBefore (message text : List ℕ) : Type 0 where
   pub front : List ℕ
   pub parts : text ≡ front ++ (message ++ crlf)

@@ -1,4 +1,4 @@
--- Commands as they are written: with their words in upper case and literals `{n}`, behind whose length the sender waits.
+-- Commands as they are written: with their words in upper case and synchronizing literals (`{n}`, without `+`).
 use Rattle.std.specs.Prelude.{ℕ, List}
 use Rattle.wire_reader.specs.Spelling.{◌⨾◌, Is, crlf}
 use Rattle.wire_reader.specs.Filled.{FilledLiteral}
@@ -14,7 +14,7 @@ use Rattle.imap_commands.specs.declared.command.Command.{Command}
 use Rattle.imap_commands.specs.Verbs.{word_of}
 use Rattle.imap_commands.specs.Requests.{space, verb_of, items_word, mode_word}
 
--- quoted where it can be, else a literal without `+`, behind whose length the sender waits
+-- quoted where it can be, else a synchronizing literal (`{n}`, without `+`)
 abbrev pub WrittenText : List ℕ → List ℕ → Type 0
 WrittenText bytes text = WrittenString bytes text
 
@@ -22,7 +22,7 @@ WrittenText bytes text = WrittenString bytes text
 abbrev pub WrittenMessage : List ℕ → List ℕ → Type 0
 WrittenMessage octets = OnEitherSide (λ side. FilledLiteral side octets)
 
--- what stands behind the word
+-- what follows the word
 abbrev pub WrittenRequest : Request → List ℕ → Type 0
 WrittenRequest requests.Capability = Is crlf
 WrittenRequest requests.Noop = Is crlf

@@ -106,7 +106,7 @@ pub enum StoreMode {
 }
 
 impl StoreMode {
-    /// Its word, with the space behind it.
+    /// Its word, with the space after it.
     pub(crate) fn word(self) -> &'static [u8]
         ensures { result.now ≡ mode_word self }
     {

@@ -62,7 +62,7 @@ impl Message {
         octets
     }
 
-    /// Writes it at the end, as a literal behind whose length the sender waits.
+    /// Writes it at the end, as a synchronizing literal (`{n}`, without `+`).
     ///
     /// `AllocError`: memory ran out, and nothing is written.
     pub fn write(&self, out: &mut Vec<u8>) -> Result<(), AllocError>
@@ -76,8 +76,7 @@ impl Message {
     }
 }
 
-/// Reads a message, a literal of at least one octet; gives it and the bytes behind it, of which at least one has to be
-/// there.
+/// Reads a message, a literal of at least one octet; gives it and the bytes after it, of which at least one is required.
 pub(crate) fn read_message(alloc: Global, bytes: &[u8]) -> Result<(Message, &[u8]), ReadError>
     ensures { GivesOr (λ r. (r.0, r.1.now)) result (filled_literal_at Commands bytes.now) }
 {

@@ -61,7 +61,7 @@ impl Pattern {
     }
 }
 
-/// Reads a pattern, a quoted string; gives it and the bytes behind it.
+/// Reads a pattern, a quoted string; gives it and the bytes after it.
 pub(crate) fn read_pattern(alloc: Global, bytes: &[u8]) -> Result<(Pattern, &[u8]), ReadError>
     ensures { GivesOr (λ r. (r.0, r.1.now)) result (quoted_at bytes.now) }
 {

@@ -13,8 +13,8 @@ pub fn commands_end_at_places()
     ensures { EndAtPlaces Spelled }
 {}
 
-/// Where `read_command` asked for more, and no place has come since, it would ask for more again or tell a fault in what
-/// came since, whose line goes on.
+/// If `read_command` asked for more, and no place has come since, it would ask for more again, or report a fault in what came since, whose
+/// line goes on.
 pub fn commands_wait_between_places()
     ensures { WaitsBetween Spelled }
 {}

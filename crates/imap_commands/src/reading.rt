@@ -33,7 +33,7 @@ pub fn read_command(alloc: Global, bytes: &[u8]) -> Result<Read<Command>, WireFa
     }
 }
 
-/// A whole command, and the bytes behind it.
+/// A whole command, and the bytes after it.
 #[tactic(auto, unfolding(crate::specs::Commands::command_at))]
 fn command(alloc: Global, bytes: &[u8]) -> Result<(Command, &[u8]), ReadError>
     ensures { GivesOr (λ r. (r.0, r.1.now)) result (command_at bytes.now) }

@@ -1,4 +1,4 @@
-//! Writing of what stands behind the word of a command. Where memory runs out, a part may be written.
+//! Writing of what follows the word of a command. Where memory runs out, a part may be written.
 
 ghost use Rattle.std.specs.Prelude.{◌≡◌, length, take, OnOk, OnErr};
 ghost use Rattle.wire_reader.specs.Spelling.{◌⨾◌, Is, crlf};
@@ -17,7 +17,7 @@ use wire_tokens::flag_list::FlagList;
 use wire_tokens::names::NameList;
 use wire_tokens::uid_set::UidSet;
 
-/// Writes what stands behind the word of this request, with the line end.
+/// Writes what follows the word of this request, with the line end.
 pub(crate) fn append_request(request: &Request, out: &mut Vec<u8>) -> Result<(), AllocError>
     ensures ok { OnOk result (Appended (WrittenRequest request.now) out.old.items out.new.items) }
     ensures kept { OnErr result (take (length out.old.items) out.new.items ≡ out.old.items) }
@@ -77,7 +77,7 @@ fn mailbox_line(mailbox: &Text, out: &mut Vec<u8>) -> Result<(), AllocError>
     Ok(())
 }
 
-/// Writes what stands behind APPEND.
+/// Writes what follows APPEND.
 fn append_message(
     mailbox: &Text,
     flags: &FlagList,

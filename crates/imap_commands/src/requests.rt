@@ -1,4 +1,4 @@
-//! Reading what stands behind the word of a command.
+//! Reading what follows the word of a command.
 
 ghost use Rattle.std.specs.Prelude.{◌≡◌};
 ghost use Rattle.wire_reader.specs.Given.{Gives, GivesOr, viewed};
@@ -22,7 +22,7 @@ use wire_tokens::flag_list::{FlagList, read_flags};
 use wire_tokens::names::{NameList, read_names};
 use wire_tokens::uid_set::uid_set;
 
-/// Reads what stands behind this word, up to and with the line end.
+/// Reads what follows this word, up to and with the line end.
 pub(crate) fn read_request(
     alloc: Global,
     verb: Verb,

@@ -39,7 +39,7 @@ pub enum Verb {
 }
 
 impl Verb {
-    /// The word, with the space behind it where something follows.
+    /// The word, with the space after it where something follows.
     pub(crate) fn word(self) -> &'static [u8]
         ensures { result.now ≡ word_of self }
     {
@@ -60,7 +60,7 @@ impl Verb {
     }
 }
 
-/// Reads the word of a command, in any case, with the space behind it where something follows.
+/// Reads the word of a command, in any case, with the space after it where something follows.
 pub(crate) fn read_verb(bytes: &[u8]) -> Result<(Verb, &[u8]), Stop>
     ensures { viewed (λ r. (r.0, r.1.now)) result ≡ verb_at bytes.now }
 {

@@ -41,7 +41,7 @@ module _ {A : Type 0} (go : List ℕ → ℕ → Result (List ℕ) Kind) (out : 
       let e : (s ++ b ∷ []) ++ t ≡ s ++ b ∷ t = append_assoc s (b ∷ []) t in
       (p.0, (s ++ b ∷ [], goes s b (front (s ++ b ∷ []) t (subst Fits (sym e) f)), from_decided t (s ++ b ∷ []) a p.1 (subst Fits (sym e) f) (ap out e ∙ h)))
 
-  -- what is known so far is a value, or is with `X` behind it
+  -- what is known so far is a value, or is with `X` after it
   pub completed : (s : List ℕ) (a : A) → Fits (s ++ 88 ∷ []) → out (s ++ 88 ∷ []) ≡ Some a → (z : List ℕ) × (b : A) × Text s b z
   completed s a f h = (88 ∷ [], a, from_decided (88 ∷ []) s a refl f h)
 

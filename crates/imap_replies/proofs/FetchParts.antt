@@ -108,7 +108,7 @@ pub item_list_part : Part Replies true (with_sep (Open is_atom_byte) 32) (ItemsT
 unfolding item_list_at
 item_list_part = items_part Replies 32 refl refl item_part
 
--- ---- behind FETCH
+-- ---- after FETCH
 
 abbrev close : List ℕ → Result (Unit {0} × List ℕ) Stop
 close = skip (byte_at 41) crlf_at

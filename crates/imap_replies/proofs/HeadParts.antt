@@ -1,4 +1,4 @@
--- The word or number behind `* ` as a part of a grammar.
+-- The word or number after `* ` as a part of a grammar.
 use Rattle.std.proofs.Common.{◌≡◌, ℕ, ◌+◌, ◌*◌, ◌-◌, ◌<◌, ◌≤◌, Bool, true, false, not, cond, eqb, ltb, ◌&&◌, ◌||◌, List, [], ◌∷◌, ◌++◌, length, map, Option, None, Some, Result, Ok, Err, refl, sym, ap, subst, ◌∙◌, inl, inr, arith}
 use Rattle.std.specs.List.{list_all}
 use Rattle.std.proofs.lemmas.Bool.{cases_Bool, true≢false, ltb-true, ltb-false, lt-ltb, eqb-true, eq-eqb, and_parts, and_from}
@@ -169,7 +169,7 @@ same_digits (b ∷ a) (c ∷ text) rest d e s z t h =
 number_reader : Reader (Open is_digit) NumberText number_at
 number_reader = (number_part {side = Replies}).reader
 
--- what digits give with one byte or another behind them
+-- what digits give with one byte or another after them
 pub number_of : (t z : List ℕ) (x : ℕ × List ℕ) → list_all is_digit t ≡ true → stops (Open is_digit) z ≡ true → number_at (t ++ z) ≡ Ok x → NumberText (x.0) t
 number_of t z x d s h =
     let k = number_reader.sound (t ++ z) x.0 x.1 h in

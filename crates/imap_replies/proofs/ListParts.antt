@@ -70,7 +70,7 @@ mark_part = same_part to_mark from_mark
     (mapped_part {M = Nil} no_mark (λ _ t h. h) from_nil (word_part (codes "NIL") (refl, refl)))
     quoted_first nil_first)
 
--- ---- behind LIST
+-- ---- after LIST
 
 abbrev Name : AString → List ℕ → Type 0
 Name name = AStringText Replies name ⨾ Is crlf

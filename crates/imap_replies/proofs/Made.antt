@@ -21,7 +21,7 @@ pub record Made {A B : Type 0} (f : A → B) (L : A → List ℕ → Type 0) (b 
 pub made_part : {A B : Type 0} {side : Side} {k : Bool} {e : Ender} {L : A → List ℕ → Type 0} {r : List ℕ → Result (A × List ℕ) Stop} (f : A → B) → Part side k e L r → Part side k e (Made f L) (mapped f r)
 made_part f p = mapped_part f (λ a t h. record { value = a; is = refl; spelled = h }) (λ b t h. (h.value, h.is, h.spelled)) p
 
--- ---- what may stand behind a token
+-- ---- what may follow a token
 
 -- a choice by the first byte, of which the one begins with c and the other with d
 pub first_refuses : {A : Type 0} (r s : List ℕ → Result (A × List ℕ) Stop) (c d : ℕ) → Starts d s → (xs : List ℕ) → NoHead c xs → NoHead d xs → by_first (λ b. eqb b c) r s xs ≡ stuck xs
@@ -79,6 +79,6 @@ module _ {A : Type 0} {side : Side} {k : Bool} {L : A → List ℕ → Type 0} {
 pub mapped_follows : {A B : Type 0} (r : List ℕ → Result (A × List ℕ) Stop) (f : A → B) (xs : List ℕ) → r xs ≡ stuck xs → mapped f r xs ≡ stuck xs
 mapped_follows r f xs h = stuck_bind (r xs) xs (λ x. Ok (f x.0, x.1)) h
 
--- the end, or a space and a part, behind an atom
+-- the end, or a space and a part, after an atom
 pub rest_follows : {A : Type 0} (g : ℕ → Bool) (c : ℕ) (end_at : List ℕ → Result (Unit {0} × List ℕ) Stop) (r : List ℕ → Result (A × List ℕ) Stop) → g c ≡ false → g 32 ≡ false → (xs : List ℕ) → stops (Open g) xs ≡ false → rest_at c end_at r xs ≡ stuck xs
 rest_follows g c end_at r gc gs = after_either (mapped (λ _. None) end_at) (mapped (λ a. Some a) (skip (byte_at 32) r)) g c 32 gc gs (starts_mapped (λ a. Some a) (starts_seq (λ _. r) (starts_byte 32)))

@@ -29,7 +29,7 @@ use Rattle.imap_replies.specs.Responses.{sp, CodeSpelling, ResponseLine, uid_clo
 use Rattle.imap_replies.proofs.Made.{Made, made_part, mapped_follows, rest_part, rest_follows}
 use Rattle.imap_replies.proofs.CodeHeadParts.{code_head_part}
 
--- ---- behind the word of a code
+-- ---- after the word of a code
 
 abbrev close : List ℕ
 close = 93 ∷ []
@@ -52,7 +52,7 @@ two_uids_part = both_part nz_part (skip_part (byte_part 32 refl) uid_close_part 
 permanent_close_part : {side : Side} → Part side true Closed PermanentClose permanent_close_at
 permanent_close_part = keep_part permanent_flags_part (byte_part 93 refl) (after_closed (byte_at 93))
 
--- what stands behind each word
+-- what follows each word
 abbrev KnownTail : CodeWord → Code → List ℕ → Type 0
 KnownTail words.UidNext = Made uid_next (λ n. Is sp ⨾ UidClose n)
 KnownTail words.UidValidity = Made uid_validity (λ n. Is sp ⨾ UidClose n)

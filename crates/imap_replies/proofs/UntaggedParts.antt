@@ -1,4 +1,4 @@
--- What stands behind `* ` as a part of a grammar.
+-- What follows `* ` as a part of a grammar.
 use Rattle.std.proofs.Common.{◌≡◌, ℕ, ◌<◌, true, false, eqb, ◌||◌, List, ◌∷◌, ◌++◌, Option, refl, sym, ap, subst, ◌∙◌}
 use Rattle.wire_reader.specs.declared.side.Side.TheVariants.{Replies}
 use Rattle.wire_reader.specs.Spelling.{◌⨾◌, ThenBy, Is, Word, crlf}
@@ -69,7 +69,7 @@ Told r = Is sp ⨾ ResponseLine r
 told_part : Part Replies false Closed Told (skip (byte_at 32) response_at)
 told_part = skip_part (byte_part 32 refl) response_part (after_closed response_at)
 
--- ---- behind a word
+-- ---- after a word
 
 abbrev KnownTail : ReplyWord → Reply → List ℕ → Type 0
 KnownTail words.Ok = Made (notice notices.Ok) Told
@@ -117,7 +117,7 @@ known_follows words.Enabled xs s = mapped_follows names_line_at enabled xs (name
 known_follows words.List xs s = mapped_follows list_at listed xs (after is_atom_byte 32 refl (starts_seq (λ _. both flags_at (skip (byte_at 32) (both mark_at (skip (byte_at 32) (keep (astring_at Replies) crlf_at))))) (starts_byte 32)) xs s)
 known_follows words.Flags xs s = mapped_follows flags_line_at flags xs (after is_atom_byte 32 refl (starts_seq (λ _. keep flags_at crlf_at) (starts_byte 32)) xs s)
 
--- ---- behind a number
+-- ---- after a number
 
 abbrev EventTail : ℕ → Event → Reply → List ℕ → Type 0
 EventTail n events.Exists = Made (exists n) (λ _. Is crlf)
@@ -150,7 +150,7 @@ numbered_follows : (n : ℕ) (xs : List ℕ) → stops (Open is_atom_byte) xs �
 unfolding numbered_at
 numbered_follows n = after is_atom_byte 32 refl (starts_seq (λ _. seq (event_at n) (event_line_at n)) (starts_byte 32))
 
--- ---- the line behind `* `
+-- ---- the line after `* `
 
 abbrev Tail : Head → Reply → List ℕ → Type 0
 Tail (heads.Number n) = Numbered n
@@ -167,7 +167,7 @@ tail_follows (heads.Number n) xs s = numbered_follows n xs s
 tail_follows (heads.Known w) xs s = known_follows w xs s
 tail_follows (heads.Other a) xs s = mapped_follows rest_line_at (other a) xs (line_follows xs s)
 
--- a reply behind its `* `
+-- a reply after its `* `
 abbrev pub Body : Reply → List ℕ → Type 0
 Body (Continue text) t = ⊥
 Body (Tagged tag status text) t = ⊥

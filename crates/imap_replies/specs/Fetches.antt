@@ -26,7 +26,7 @@ ItemIn F (items.Size n) = WordIn F (item_word words.Size) ⨾ NumberText n
 ItemIn F (items.Body string) = WordIn F (item_word words.Body) ⨾ NStringText Replies string
 ItemIn F (items.Head string) = WordIn F (item_word words.Head) ⨾ NStringText Replies string
 
--- behind FETCH: the items in brackets, and the line end
+-- after FETCH: the items in brackets, and the line end
 abbrev pub FetchIn : Form → List FetchItem → List ℕ → Type 0
 FetchIn F list = Is (codes " (") ⨾ ItemsText 32 (ItemIn F) list ⨾ Is (codes ")") ⨾ Is crlf
 

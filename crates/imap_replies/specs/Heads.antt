@@ -1,5 +1,5 @@
--- Atoms that are decided by what they are, once they have ended: the word or the number behind `* ` (RFC 9051, section 9:
--- response-data, message-data), the event behind a number, and the word of a response code (resp-text-code).
+-- Atoms that are decided by what they are, once they have ended: the word or the number after `* ` (RFC 9051, section 9:
+-- response-data, message-data), the event after a number, and the word of a response code (resp-text-code).
 use Rattle.std.specs.Prelude.{◌≡◌, ◌<◌, ℕ, Bool, ◌&&◌, ◌||◌, not, List, [], ◌∷◌, ◌++◌, length, Option, None, Some, Result, Ok, Err, nat_lt, ◌==◌, if◌then◌else◌}
 use Rattle.std.specs.List.{list_all}
 use Rattle.wire_reader.specs.declared.stop.Kind.{Kind}
@@ -24,20 +24,20 @@ use Rattle.imap_replies.specs.Words.{reply_word, event_word, code_word, find_rep
 
 -- ---- what they are
 
--- behind `* `
+-- after `* `
 abbrev pub HeadText : Head → List ℕ → Type 0
 HeadText (heads.Number n) text = NumberText n text
 HeadText (heads.Known word) text = Word (reply_word word) text
 HeadText (heads.Other a) text = (text ≡ a) × IsOtherWord a
 
--- behind the number n: no message has the number 0
+-- after the number n: no message has the number 0
 abbrev pub EventText : ℕ → Event → List ℕ → Type 0
 EventText n events.Exists text = Word (event_word words.Exists) text
 EventText n (events.Expunge m) text = (m ≡ n) × (0 < n) × Word (event_word words.Expunge) text
 EventText n (events.Fetch m) text = (m ≡ n) × (0 < n) × Word (event_word words.Fetch) text
 EventText n (events.Other a) text = (text ≡ a) × IsOtherEvent a
 
--- behind `[`
+-- after `[`
 abbrev pub CodeHeadText : CodeHead → List ℕ → Type 0
 CodeHeadText (code_heads.Known word) text = Word (code_word word) text
 CodeHeadText (code_heads.Other a) text = (text ≡ a) × IsOtherCode a
@@ -62,7 +62,7 @@ abbrev pub word_head : List ℕ → Option ReplyWord → Head
 word_head text None = heads.Other text
 word_head text (Some word) = heads.Known word
 
--- digits alone are read with a space behind them; they may be no number
+-- digits alone are read with a space after them; they may be no number
 abbrev pub head_of : List ℕ → Option Head
 head_of [] = None
 head_of (b ∷ bs) = if is_digits (b ∷ bs) then number_read (number_at ((b ∷ bs) ++ 32 ∷ [])) else Some (word_head (b ∷ bs) (find_reply_word (b ∷ bs)))

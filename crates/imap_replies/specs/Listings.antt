@@ -19,7 +19,7 @@ MarkIn F (Some c) text = DelimiterText c text
 abbrev pub ListValue : Type 0
 ListValue = List (List ℕ) × (Option ℕ × AString)
 
--- behind LIST
+-- after LIST
 abbrev pub ListIn : Form → List (List ℕ) → Option ℕ → AString → List ℕ → Type 0
 ListIn F attributes delimiter name = Is (codes " ") ⨾ FlagsText attributes ⨾ Is (codes " ") ⨾ MarkIn F delimiter ⨾ Is (codes " ") ⨾ AStringText Replies name ⨾ Is crlf
 

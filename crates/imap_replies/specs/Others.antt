@@ -11,17 +11,17 @@ pub record IsWord (text : List ℕ) : Type 0 where
   pub atom : IsAtom text
   pub letters : list_all is_digit text ≡ false
 
--- behind `* `
+-- after `* `
 pub record IsOtherWord (text : List ℕ) : Type 0 where
   pub word : IsWord text
   pub other : find_reply_word text ≡ None
 
--- behind `* ` and a number
+-- after `* ` and a number
 pub record IsOtherEvent (text : List ℕ) : Type 0 where
   pub atom : IsAtom text
   pub other : find_event_word text ≡ None
 
--- behind `[`
+-- after `[`
 pub record IsOtherCode (text : List ℕ) : Type 0 where
   pub atom : IsAtom text
   pub other : find_code_word text ≡ None

@@ -1,4 +1,4 @@
--- How replies are read: by the first byte, and behind `* ` by the word or the number that stands there.
+-- How replies are read: by the first byte, and after `* ` by the word or the number that stands there.
 use Rattle.std.specs.Prelude.{ℕ, Bool, List, [], ◌∷◌, Option, Result, ◌==◌}
 use Rattle.wire_reader.specs.declared.stop.Stop.{Stop}
 use Rattle.wire_reader.specs.Reading.{seq, mapped, skip, keep, both, by_first, byte_at, crlf_at}
@@ -89,7 +89,7 @@ flags_line_at = skip (byte_at 32) (keep flags_at crlf_at)
 abbrev pub notice_at : NoticeKind → List ℕ → Result (Reply × List ℕ) Stop
 notice_at kind = mapped (notice kind) (skip (byte_at 32) response_at)
 
--- behind a word with a line of its own
+-- after a word with a line of its own
 unfoldable pub known_at : ReplyWord → List ℕ → Result (Reply × List ℕ) Stop
 known_at words.Ok = notice_at notices.Ok
 known_at words.No = notice_at notices.No
@@ -101,7 +101,7 @@ known_at words.Enabled = mapped enabled names_line_at
 known_at words.List = mapped listed list_at
 known_at words.Flags = mapped flags flags_line_at
 
--- behind a number and an event
+-- after a number and an event
 unfoldable pub event_line_at : ℕ → Event → List ℕ → Result (Reply × List ℕ) Stop
 event_line_at n events.Exists = mapped (exists n) crlf_at
 event_line_at n (events.Expunge m) = mapped (expunge m) crlf_at

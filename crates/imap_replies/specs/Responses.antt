@@ -26,7 +26,7 @@ sp = 32 ∷ []
 abbrev pub OtherCodeText : List ℕ → List ℕ → Type 0
 OtherCodeText a text = (text ≡ a) × IsOtherCode a
 
--- a code behind its `[`, up to and with `]`; `F` says in which form
+-- a code after its `[`, up to and with `]`; `F` says in which form
 abbrev pub CodeIn : Form → Code → List ℕ → Type 0
 CodeIn F (code.UidNext n) = WordIn F (code_word words.UidNext) ⨾ Is sp ⨾ NzText n ⨾ Is (codes "]")
 CodeIn F (code.UidValidity n) = WordIn F (code_word words.UidValidity) ⨾ Is sp ⨾ NzText n ⨾ Is (codes "]")
@@ -80,7 +80,7 @@ read_write _ = code.ReadWrite
 abbrev pub other_code : List ℕ → Option (List ℕ) → Code
 other_code a text = code.Other a text
 
--- behind the word of a code
+-- after the word of a code
 unfoldable pub known_code_at : CodeWord → List ℕ → Result (Code × List ℕ) Stop
 known_code_at words.UidNext = mapped uid_next (skip (byte_at 32) uid_close_at)
 known_code_at words.UidValidity = mapped uid_validity (skip (byte_at 32) uid_close_at)

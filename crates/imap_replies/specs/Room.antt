@@ -30,7 +30,7 @@ abbrev pub most_line : Option (List (List ℕ)) → ℕ
 most_line None = 0
 most_line (Some names) = 1 + most_names names
 
--- a code behind `[`, with `]`
+-- a code after `[`, with `]`
 abbrev pub most_code : Code → ℕ
 most_code (code.UidNext n) = length (code_word words.UidNext) + 12
 most_code (code.UidValidity n) = length (code_word words.UidValidity) + 12

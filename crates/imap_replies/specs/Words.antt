@@ -14,7 +14,7 @@ use Rattle.imap_replies.specs.declared.word.Status.TheVariants as statuses
 use Rattle.imap_replies.specs.declared.word.NoticeKind.{NoticeKind}
 use Rattle.imap_replies.specs.declared.word.NoticeKind.TheVariants as notices
 
--- behind `* `
+-- after `* `
 abbrev pub reply_word : ReplyWord → List ℕ
 reply_word replies.Ok = codes "OK"
 reply_word replies.No = codes "NO"
@@ -32,7 +32,7 @@ listing_words = replies.Preauth ∷ replies.Capability ∷ replies.Enabled ∷ r
 abbrev pub reply_words : List ReplyWord
 reply_words = replies.Ok ∷ replies.No ∷ replies.Bad ∷ replies.Bye ∷ listing_words
 
--- behind `* ` and a number
+-- after `* ` and a number
 abbrev pub event_word : EventWord → List ℕ
 event_word events.Exists = codes "EXISTS"
 event_word events.Expunge = codes "EXPUNGE"
@@ -41,7 +41,7 @@ event_word events.Fetch = codes "FETCH"
 abbrev pub event_words : List EventWord
 event_words = events.Exists ∷ events.Expunge ∷ events.Fetch ∷ []
 
--- behind `[`
+-- after `[`
 abbrev pub code_word : CodeWord → List ℕ
 code_word code_words.UidNext = codes "UIDNEXT"
 code_word code_words.UidValidity = codes "UIDVALIDITY"
@@ -70,7 +70,7 @@ find_event_word text = find (spells event_word text) event_words
 abbrev pub find_code_word : List ℕ → Option CodeWord
 find_code_word text = find (spells code_word text) all_code_words
 
--- of the items of a FETCH reply, with the space behind
+-- of the items of a FETCH reply, with the space after them
 abbrev pub item_word : ItemWord → List ℕ
 item_word items.Uid = codes "UID "
 item_word items.Flags = codes "FLAGS "

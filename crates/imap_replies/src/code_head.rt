@@ -11,7 +11,7 @@ use crate::word::{CodeWord, find_code_word};
 use wire_reader::stop::Stop;
 use wire_tokens::atom::read_atom;
 
-/// What stands behind `[`.
+/// What follows `[`.
 #[derive(Drop)]
 pub(crate) enum CodeHead<'a> {
     /// A word with a form of its own.
@@ -20,7 +20,7 @@ pub(crate) enum CodeHead<'a> {
     Other(OtherCode<'a>),
 }
 
-/// Reads it; gives it and the bytes behind it, of which at least one has to be there.
+/// Reads it; gives it and the bytes after it, of which at least one is required.
 pub(crate) fn read_code_head(bytes: &[u8]) -> Result<(CodeHead<'_>, &[u8]), Stop>
     ensures { Gives (λ r. (r.0, r.1.now)) result (code_head_at bytes.now) }
 {

@@ -1,4 +1,4 @@
-//! The event behind `* ` and a number (RFC 9051, section 9: message-data, mailbox-data).
+//! The event after `* ` and a number (RFC 9051, section 9: message-data, mailbox-data).
 
 ghost use Rattle.std.specs.Prelude.{◌≡◌};
 ghost use Rattle.wire_reader.specs.Given.{Gives};
@@ -12,7 +12,7 @@ use wire_reader::stop::{Kind, Stop};
 use wire_tokens::atom::read_atom;
 use wire_tokens::number::NonZero;
 
-/// What stands behind `* ` and a number.
+/// What follows `* ` and a number.
 #[derive(Drop)]
 pub(crate) enum Event<'a> {
     Exists,
@@ -22,7 +22,7 @@ pub(crate) enum Event<'a> {
     Other(OtherEvent<'a>),
 }
 
-/// Reads the event behind this number; gives it and the bytes behind it, of which at least one has to be there.
+/// Reads the event after this number; gives it and the bytes after it, of which at least one is required.
 pub(crate) fn read_event(number: u32, bytes: &[u8]) -> Result<(Event<'_>, &[u8]), Stop>
     ensures { Gives (λ r. (r.0, r.1.now)) result (event_at number bytes.now) }
 {

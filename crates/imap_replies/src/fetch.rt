@@ -74,7 +74,7 @@ impl<'a> FetchList<'a> {
     }
 }
 
-/// Reads what stands behind FETCH, with the line end.
+/// Reads what follows FETCH, with the line end.
 #[tactic(auto, unfolding(crate::specs::Fetches::fetch_at))]
 pub(crate) fn read_fetch(alloc: Global, bytes: &[u8]) -> Result<(FetchList<'_>, &[u8]), ReadError>
     ensures { GivesOr (λ r. (r.0, r.1.now)) result (fetch_at bytes.now) }
@@ -102,7 +102,7 @@ fn read_items(alloc: Global, bytes: &[u8]) -> Result<(FetchList<'_>, &[u8]), Rea
     Err(ReadError::At(Stop::Ends(None)))
 }
 
-/// An item, behind which no byte of an atom stands.
+/// An item that no byte of an atom follows.
 #[tactic(auto, unfolding(crate::specs::Fetches::item_at))]
 fn read_item(bytes: &[u8]) -> Result<(FetchItem<'_>, &[u8]), Stop>
     ensures { Gives (λ r. (r.0, r.1.now)) result (item_at bytes.now) }
@@ -111,14 +111,14 @@ fn read_item(bytes: &[u8]) -> Result<(FetchItem<'_>, &[u8]), Stop>
     item_value(word, rest)
 }
 
-/// The word of an item, with the space behind it.
+/// The word of an item, with the space after it.
 fn item_word(bytes: &[u8]) -> Result<(ItemWord, &[u8]), Stop>
     ensures { Gives (λ r. (r.0, r.1.now)) result (item_word_at bytes.now) }
 {
     either(keyed(ItemWord::Uid, b"UID ", bytes), later_word(bytes))
 }
 
-/// The same, of the words behind UID.
+/// The same, of the words after UID.
 fn later_word(bytes: &[u8]) -> Result<(ItemWord, &[u8]), Stop>
     ensures { Gives (λ r. (r.0, r.1.now)) result (keys_at item_word ItemWord.Flags (ItemWord.Size ∷ ItemWord.Body ∷ ItemWord.Head ∷ []) bytes.now) }
 {
@@ -128,7 +128,7 @@ fn later_word(bytes: &[u8]) -> Result<(ItemWord, &[u8]), Stop>
     )
 }
 
-/// The same, of the words behind FLAGS.
+/// The same, of the words after FLAGS.
 fn size_or_body(bytes: &[u8]) -> Result<(ItemWord, &[u8]), Stop>
     ensures { Gives (λ r. (r.0, r.1.now)) result (keys_at item_word ItemWord.Size (ItemWord.Body ∷ ItemWord.Head ∷ []) bytes.now) }
 {
@@ -141,7 +141,7 @@ fn size_or_body(bytes: &[u8]) -> Result<(ItemWord, &[u8]), Stop>
     )
 }
 
-/// What stands behind the word of an item.
+/// What follows the word of an item.
 #[tactic(auto, unfolding(crate::specs::Fetches::item_value_at))]
 fn item_value(word: ItemWord, bytes: &[u8]) -> Result<(FetchItem<'_>, &[u8]), Stop>
     ensures { Gives (λ r. (r.0, r.1.now)) result (item_value_at word bytes.now) }
@@ -170,7 +170,7 @@ fn item_value(word: ItemWord, bytes: &[u8]) -> Result<(FetchItem<'_>, &[u8]), St
     }
 }
 
-/// The item, unless a byte of an atom stands behind it; at least one byte has to be there.
+/// The item, unless a byte of an atom follows it; at least one byte is required.
 fn ended<'a>(item: FetchItem<'a>, bytes: &'a [u8]) -> Result<(FetchItem<'a>, &'a [u8]), Stop>
     ensures { Gives (λ r. (r.0, r.1.now)) result (ended_by is_atom_byte item.entry bytes.now) }
 {

@@ -16,7 +16,7 @@ use wire_tokens::appending::append;
 use wire_tokens::flag_list::FlagNames;
 use wire_tokens::number::{NonZero, write_number};
 
-/// Writes what stands behind FETCH, with the line end.
+/// Writes what follows FETCH, with the line end.
 pub(crate) fn append_fetch(list: &FetchList<'_>, out: &mut Vec<u8>) -> Result<(), AllocError>
     ensures ok { OnOk result (Appended (FetchIn AsWritten list.now) out.old.items out.new.items) }
     ensures kept { OnErr result (take (length out.old.items) out.new.items ≡ out.old.items) }

@@ -1,4 +1,4 @@
-//! The word or the number behind `* ` (RFC 9051, section 9: response-data, message-data).
+//! The word or the number after `* ` (RFC 9051, section 9: response-data, message-data).
 
 ghost use Rattle.std.specs.Prelude.{◌≡◌};
 ghost use Rattle.wire_reader.specs.Given.{Gives};
@@ -13,7 +13,7 @@ use wire_reader::stop::{Kind, Stop};
 use wire_tokens::atom::{ATOM_MAX, is_atom_byte};
 use wire_tokens::number::number;
 
-/// What stands behind `* `.
+/// What follows `* `.
 #[derive(Drop)]
 pub(crate) enum Head<'a> {
     /// A number.
@@ -24,7 +24,7 @@ pub(crate) enum Head<'a> {
     Other(OtherWord<'a>),
 }
 
-/// Reads it; gives it and the bytes behind it, of which at least one has to be there.
+/// Reads it; gives it and the bytes after it, of which at least one is required.
 pub(crate) fn read_head(bytes: &[u8]) -> Result<(Head<'_>, &[u8]), Stop>
     ensures { Gives (λ r. (r.0, r.1.now)) result (head_at bytes.now) }
 {

@@ -14,7 +14,7 @@ use wire_strings::astring::read_astring;
 use wire_strings::delimiter::{Delimiter, read_delimiter};
 use wire_tokens::flag_list::read_flags;
 
-/// What stands behind LIST.
+/// What follows LIST.
 #[tactic(auto, unfolding(crate::specs::Listings::list_at))]
 pub(crate) fn list(bytes: &[u8]) -> Result<(Reply<'_>, &[u8]), Stop>
     ensures { Gives (λ r. (r.0, r.1.now)) result (mapped listed list_at bytes.now) }

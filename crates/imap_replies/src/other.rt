@@ -10,7 +10,7 @@ use crate::word::{find_code_word, find_event_word, find_reply_word};
 use std::marker::Model;
 use wire_tokens::atom::Atom;
 
-/// An atom behind `* ` that is none of the words with a line of their own, and not digits alone; lent.
+/// An atom after `* ` that is none of the words with a line of their own, and not digits alone; lent.
 #[derive(Drop)]
 pub struct OtherWord<'a> {
     text: &'a [u8],
@@ -59,7 +59,7 @@ impl<'a> OtherWord<'a> {
     }
 }
 
-/// An atom behind a number that is none of EXISTS, EXPUNGE and FETCH; lent.
+/// An atom after a number that is none of EXISTS, EXPUNGE and FETCH; lent.
 #[derive(Drop)]
 pub struct OtherEvent<'a> {
     text: &'a [u8],
@@ -105,7 +105,7 @@ impl<'a> OtherEvent<'a> {
     }
 }
 
-/// An atom behind `[` that is none of the codes with a form of their own; lent.
+/// An atom after `[` that is none of the codes with a form of their own; lent.
 #[derive(Drop)]
 pub struct OtherCode<'a> {
     text: &'a [u8],

@@ -13,8 +13,8 @@ pub fn replies_end_at_places()
     ensures { EndAtPlaces ReplyText }
 {}
 
-/// Where `read_reply` asked for more, and no place has come since, it would ask for more again or tell a fault in what
-/// came since, whose line goes on.
+/// If `read_reply` asked for more, and no place has come since, it would ask for more again, or report a fault in what came since, whose
+/// line goes on.
 pub fn replies_wait_between_places()
     ensures { WaitsBetween ReplyText }
 {}

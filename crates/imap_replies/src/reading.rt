@@ -27,8 +27,8 @@ use wire_tokens::tag::read_tag;
 
 /// Reads a reply, if one stands at the front of the bytes; at most 65536 of its bytes may stand outside literals.
 ///
-/// `Whole` tells the reply and the number of its bytes; `Partial` that the bytes begin one. `WireFault`: no reply begins
-/// so, at which byte, or memory ran out.
+/// `Whole` has the reply and the number of its bytes; `Partial` means that the bytes begin one. `WireFault`: no reply begins so, at which
+/// byte, or memory ran out.
 pub fn read_reply(alloc: Global, bytes: &[u8]) -> Result<Read<Reply<'_>>, WireFault>
     ensures answers { Answers Replies seen ReplyText bytes.now result }
     ensures takes { TakesEach seen ReplyText bytes.now result }
@@ -94,7 +94,7 @@ fn read_status(bytes: &[u8]) -> Result<(Status, &[u8]), Stop>
     )
 }
 
-/// What stands behind `* `, by its word or number.
+/// What follows `* `, by its word or number.
 #[tactic(auto, unfolding(crate::specs::ReplyReading::untagged_at))]
 fn untagged(alloc: Global, bytes: &[u8]) -> Result<(Reply<'_>, &[u8]), ReadError>
     ensures { GivesOr (λ r. (r.0, r.1.now)) result (untagged_at bytes.now) }
@@ -111,7 +111,7 @@ fn untagged(alloc: Global, bytes: &[u8]) -> Result<(Reply<'_>, &[u8]), ReadError
     }
 }
 
-/// What stands behind a number.
+/// What follows a number.
 #[tactic(auto, unfolding(crate::specs::ReplyReading::numbered_at))]
 fn numbered(alloc: Global, number: u32, bytes: &[u8]) -> Result<(Reply<'_>, &[u8]), ReadError>
     ensures { GivesOr (λ r. (r.0, r.1.now)) result (numbered_at number bytes.now) }
@@ -120,7 +120,7 @@ fn numbered(alloc: Global, number: u32, bytes: &[u8]) -> Result<(Reply<'_>, &[u8
     event_line(alloc, number, event, rest)
 }
 
-/// What stands behind a number and an event.
+/// What follows a number and an event.
 #[tactic(auto, unfolding(crate::specs::ReplyReading::event_line_at))]
 fn event_line<'a>(
     alloc: Global,
@@ -144,7 +144,7 @@ fn event_line<'a>(
     }
 }
 
-/// What stands behind a word with a line of its own.
+/// What follows a word with a line of its own.
 #[tactic(auto, unfolding(crate::specs::ReplyReading::known_at))]
 fn known(word: ReplyWord, bytes: &[u8]) -> Result<(Reply<'_>, &[u8]), Stop>
     ensures { Gives (λ r. (r.0, r.1.now)) result (known_at word bytes.now) }
@@ -175,7 +175,7 @@ fn notice(kind: NoticeKind, bytes: &[u8]) -> Result<(Reply<'_>, &[u8]), Stop>
     Ok((Reply::Notice(kind, text), rest))
 }
 
-/// What stands behind FLAGS.
+/// What follows FLAGS.
 #[tactic(auto, unfolding(crate::specs::ReplyReading::flags_line_at))]
 fn flags_line(bytes: &[u8]) -> Result<(Reply<'_>, &[u8]), Stop>
     ensures { Gives (λ r. (r.0, r.1.now)) result (mapped flags flags_line_at bytes.now) }

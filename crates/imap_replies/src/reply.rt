@@ -35,8 +35,8 @@ pub enum Reply<'a> {
     Expunge(NonZero),
     /// `* n FETCH`: what the message of this number has.
     Fetch(NonZero, FetchList<'a>),
-    /// Another word, and the text behind it.
+    /// Another word, and the text after it.
     Other(OtherWord<'a>, Option<LineText<'a>>),
-    /// A number, another word, and the text behind it.
+    /// A number, another word, and the text after it.
     OtherNumbered(u32, OtherEvent<'a>, Option<LineText<'a>>),
 }

@@ -38,7 +38,7 @@ pub enum Code<'a> {
     ReadOnly,
     /// The mailbox can be changed.
     ReadWrite,
-    /// Another code, and the text behind it.
+    /// Another code, and the text after it.
     Other(OtherCode<'a>, Option<CodeText<'a>>),
 }
 
@@ -57,7 +57,7 @@ pub(crate) fn read_response(bytes: &[u8]) -> Result<(ResponseText<'_>, &[u8]), S
     }
 }
 
-/// A code in brackets, and the text behind it.
+/// A code in brackets, and the text after it.
 #[tactic(auto, unfolding(crate::specs::Responses::coded_at))]
 fn read_coded(bytes: &[u8]) -> Result<(ResponseText<'_>, &[u8]), Stop>
     ensures { Gives (λ r. (r.0, r.1.now)) result (coded_at bytes.now) }
@@ -67,7 +67,7 @@ fn read_coded(bytes: &[u8]) -> Result<(ResponseText<'_>, &[u8]), Stop>
     Ok((ResponseText::Coded(code, text), rest))
 }
 
-/// A code behind its `[`, up to and with `]`.
+/// A code after its `[`, up to and with `]`.
 #[tactic(auto, unfolding(crate::specs::Responses::code_at))]
 fn read_code(bytes: &[u8]) -> Result<(Code<'_>, &[u8]), Stop>
     ensures { Gives (λ r. (r.0, r.1.now)) result (code_at bytes.now) }
@@ -82,7 +82,7 @@ fn read_code(bytes: &[u8]) -> Result<(Code<'_>, &[u8]), Stop>
     }
 }
 
-/// What stands behind the word of a code.
+/// What follows the word of a code.
 #[tactic(auto, unfolding(crate::specs::Responses::known_code_at))]
 fn known_code(word: CodeWord, bytes: &[u8]) -> Result<(Code<'_>, &[u8]), Stop>
     ensures { Gives (λ r. (r.0, r.1.now)) result (known_code_at word bytes.now) }

@@ -42,7 +42,7 @@ fn append_coded(code: &Code<'_>, text: &LineText<'_>, out: &mut Vec<u8>) -> Resu
     Ok(())
 }
 
-/// Writes a code behind its `[`, up to and with `]`.
+/// Writes a code after its `[`, up to and with `]`.
 fn append_code(code: &Code<'_>, out: &mut Vec<u8>) -> Result<(), AllocError>
     ensures ok { OnOk result (Appended (CodeIn AsWritten code.now) out.old.items out.new.items) }
     ensures kept { OnErr result (take (length out.old.items) out.new.items ≡ out.old.items) }

@@ -3,7 +3,7 @@
 ghost use Rattle.std.specs.Prelude.{◌≡◌};
 ghost use Rattle.imap_replies.specs.Words.{find_reply_word, find_event_word, find_code_word, find_listing_word};
 
-/// The word behind `* `.
+/// The word after `* `.
 #[derive(Clone, Copy, PartialEq, Eq)]
 pub(crate) enum ReplyWord {
     Ok,
@@ -17,7 +17,7 @@ pub(crate) enum ReplyWord {
     Flags,
 }
 
-/// The word behind `* ` and a number.
+/// The word after `* ` and a number.
 #[derive(Clone, Copy, PartialEq, Eq)]
 pub(crate) enum EventWord {
     Exists,
@@ -57,7 +57,7 @@ pub enum Status {
     Bad,
 }
 
-/// The condition that an untagged line tells.
+/// The condition that an untagged line reports.
 #[derive(Clone, Copy, PartialEq, Eq)]
 pub enum NoticeKind {
     /// A notice.

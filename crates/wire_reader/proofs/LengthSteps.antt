@@ -1,4 +1,4 @@
--- The steps over a literal's length, with what each tells of the byte.
+-- The steps over a literal's length, with what each says about the byte.
 use Rattle.std.proofs.Common.{◌≡◌, ℕ, ◌+◌, ◌*◌, ◌-◌, ◌≤◌, Bool, true, false, cond, eqb, leb, ltb, ◌&&◌, Option, Some, refl, ap, ◌∙◌, inl, inr, arith}
 use Rattle.std.proofs.lemmas.Bool.{cases_Bool, eqb-true, eqb-false, leb-true, leb-false, lt-ltb, le-ltb, and_parts}
 use Rattle.wire_reader.specs.declared.side.Side.{Side}
@@ -14,7 +14,7 @@ use Rattle.wire_reader.specs.Literal.{MayPlus, more_digits, plus_step, length_st
 abbrev pub LengthStep : Type 0
 LengthStep = Step (Option (ℕ × Bool)) (ℕ × Bool)
 
--- what a byte does behind the number v
+-- what a byte does after the number v
 pub data Stepped (side : Side) (v b : ℕ) : Type 0 where
   Closes : b ≡ 125 → length_step side (Some (v, false)) b ≡ Take (v, false) → Stepped side v b
   Pluses : b ≡ 43 → MayPlus side true → v ≤ 4096 → length_step side (Some (v, false)) b ≡ On (Some (v, true)) → Stepped side v b

@@ -47,7 +47,7 @@ module _ (side : Side) where
   abbrev at_end : ℕ → Bool → LengthStep
   at_end n t = cond t (Take (n, true)) (Odd Syntax)
 
-  -- behind the plus stands the brace
+  -- after the plus stands the brace
   after_plus : (n : ℕ) (p : ℕ × Bool) (t : List ℕ) → Text (Some (n, true)) p t → (t ≡ 125 ∷ []) × ((n, true) ≡ p)
   after_plus n p [] h = absurd h
   after_plus n p (b ∷ bs) (inl h) =

@@ -26,7 +26,7 @@ pub record Lexed {A : Type 0} (side : Side) (p : Phase) (r : List ℕ → Result
   pub kind : (xs : List ℕ) (k : Kind) (n : ℕ) → r xs ≡ Err (Fails k n) → kind_at side p n xs ≡ k
   pub octets : TakesOctets p r
 
--- The texts of a language lead from a phase to one that the value determines. Behind a text that ends by itself nobody
+-- The texts of a language lead from a phase to one that the value determines. After a text that ends by itself nobody
 -- waits.
 pub record Leads {A : Type 0} (side : Side) (e : Ender) (p : Phase) (L : A → List ℕ → Type 0) (q : A → Phase) : Type 0 where
   pub after : (a : A) (t : List ℕ) → L a t → phase p t ≡ q a
@@ -47,7 +47,7 @@ asks-append side p [] c cs = refl
 asks-append side p (b ∷ []) c cs = refl
 asks-append side p (b ∷ d ∷ s) c cs = asks-append side (next p b) (d ∷ s) c cs
 
--- a byte behind which nobody waits
+-- a byte after which nobody waits
 pub asks-step : (side : Side) (p : Phase) (b : ℕ) (bs : List ℕ) → asked side p b ≡ None → asks_from side p (b ∷ bs) ≡ asks_from side (next p b) bs
 asks-step side p b [] h = h
 asks-step side p b (c ∷ bs) h = refl

@@ -33,7 +33,7 @@ some_byte {A} {e} {L} {r} p a (b ∷ t) l s n = absurd cc
 pub left_within : {A : Type 0} {e : Ender} {L : A → List ℕ → Type 0} {r : List ℕ → Result (A × List ℕ) Stop} → Reader e L r → (xs : List ℕ) (k : Kind) (n : ℕ) → r xs ≡ Err (Fails k n) → n ≤ length xs
 left_within p xs k n h = let b = p.bad xs k n h in let l = b.left in omega (arith, ap length b.parts, length-append b.front (b.byte ∷ b.rest))
 
--- more may stand behind what ends a token
+-- more may follow what ends a token
 pub stops_on : (e : Ender) (xs ys : List ℕ) → stops e xs ≡ true → stops e (xs ++ ys) ≡ true
 stops_on Closed xs ys h = refl
 stops_on (Open g) [] ys h = absurd (false≢true h)

@@ -16,7 +16,7 @@ or-true_right : (x y : Bool) → y ≡ true → (x || y) ≡ true
 or-true_right true y h = refl
 or-true_right false y h = h
 
--- a byte behind which there is room
+-- a byte after which there is room
 roomy : (s : Scanner) (at b : ℕ) (bs : List ℕ) → s.outside ≤ 65536 → (after s b).outside ≤ 65536 → limit_at s at (b ∷ bs) ≡ limit_at (after s b) (at + 1) bs
 roomy s at b bs le more =
     elim (cases_Bool (is_in s.phase)) [
@@ -41,7 +41,7 @@ over s at b bs le more =
           )
     ]
 
--- behind a byte that is no place there still is
+-- after a byte that is no place there is still room
 still : (s : Scanner) (b : ℕ) (bs : List ℕ) (at : ℕ) → s.outside ≤ 65536 → is_place s b ≡ false → (after s b).outside ≤ 65536
 still s b bs at le h =
     elim (cases_lt 65536 (after s b).outside) [

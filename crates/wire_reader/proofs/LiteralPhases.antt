@@ -216,7 +216,7 @@ octets_kind side n (b ∷ bs) k m h =
 
 -- ---- the line feed and the octets
 
--- the line feed behind a length that is not 0
+-- the line feed after a length that is not 0
 pub feeds : (n : ℕ) (plus : Bool) → next (Return (suc n) plus) 10 ≡ In (suc n)
 feeds n plus = ap (λ (t : Bool). cond (not t) (In (suc n)) Plain) (ne_eqb (suc n) 0 (λ e. omega (arith, e)))
 
@@ -366,7 +366,7 @@ module _ (side : Side) where
       ∙ ap (phase (Return m.value.0 m.value.1)) f.parts ∙ two-phases (Return m.value.0 m.value.1) (next (Return m.value.0 m.value.1) 10) f.front f.back (ap (phase (Return m.value.0 m.value.1)) f.first)
       ∙ octets-after m.value.0 m.value.1 f.back f.second.1.long
 
-  -- a literal, which is read once a byte has come behind it
+  -- a literal, which is read once a byte has come after it
   pub literal_part : Part side true waits (Literal side) (literal_at side)
   literal_part = record {
     reader = skip_reader (byte_reader 123) measured_reader (after_closed (seq (length_at side) (octets_of side)));

@@ -1,4 +1,4 @@
--- The octets of a literal, which are read once a byte has come behind them.
+-- The octets of a literal, which are read once a byte has come after them.
 use Rattle.std.proofs.Common.{◌≡◌, ℕ, zero, suc, Bool, true, false, not, cond, eqb, List, [], ◌∷◌, ◌++◌, length, Option, None, Result, Ok, Err, refl, sym, ap, subst, ◌∙◌, inl, inr, arith}
 use Rattle.std.proofs.lemmas.Bool.{cases_Bool, false≢true, and_parts, and_from}
 use Rattle.std.proofs.lemmas.List.{append-nil}
@@ -104,7 +104,7 @@ octets_bad (suc n) (b ∷ bs) k m h =
           }
     ]
 
--- a token that needs a byte behind it
+-- a token that needs a byte after it
 abbrev pub waits : Ender
 waits = Open (λ _. false)
 

@@ -1,5 +1,5 @@
--- A part behind which no byte of a class may stand: so parts that end by themselves, and literals, end as a token of the
--- class does, and may be put beside it.
+-- A part that no byte of a class may follow: so parts that end by themselves, and literals, end as a token of the class does, and may be
+-- put beside it.
 use Rattle.std.proofs.Common.{◌≡◌, ℕ, Bool, true, false, not, cond, eqb, ◌||◌, List, [], ◌∷◌, ◌++◌, length, Option, None, Result, Ok, Err, refl, sym, ap, subst, ◌∙◌, inl, inr, ◌⊎◌, arith}
 use Rattle.std.proofs.lemmas.Bool.{cases_Bool, false≢true, not-true, or_parts, or_from}
 use Rattle.std.proofs.lemmas.List.{append-nil}
@@ -65,7 +65,7 @@ module _ {A : Type 0} {e : Ender} {L : A → List ℕ → Type 0} {r : List ℕ 
       let t = p.sound xs m.0.0 m.0.1 m.1 in
       record { text = t.text; parts = t.parts ∙ ap (λ (y : List ℕ). t.text ++ y) o.1; stop = both_stop e class rest (ap (stops e) (sym o.1) ∙ t.stop) o.2; spelled = subst (λ (v : A). L v t.text) o.0 t.spelled }
 
-  -- a text and a byte behind it
+  -- a text and a byte after it
   met : (a : A) (text : List ℕ) (c : ℕ) (cs : List ℕ) (t : Bool) → L a text → stops e (c ∷ cs) ≡ true → class c ≡ t → ended class r (text ++ c ∷ cs) ≡ at a c cs t
   met a text c cs t l s g = ap go (p.complete a text (c ∷ cs) l s) ∙ ap (at a c cs) g
 

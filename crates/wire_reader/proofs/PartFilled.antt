@@ -212,7 +212,7 @@ module _ (side : Side) where
       let first : NotFirst 48 m.front = subst (NotFirst 48) (sym l.parts) (number_not_0 m.value.0 l.digits (close_text m.value.1) l.number positive) in
       record { front = h.front; back = h.back; parts = h.parts; first = h.first; second = record { value = m.value; front = m.front; back = m.back; parts = m.parts; first = (l, first); second = m.second } }
 
-  -- a literal of at least one octet, which is read once a byte has come behind it
+  -- a literal of at least one octet, which is read once a byte has come after it
   pub filled_literal_part : Part side true waits (FilledLiteral side) (filled_literal_at side)
   filled_literal_part = record {
     reader = same_reader to_filled from_filled (skip_reader (byte_reader 123) measured_reader (after_closed (seq length_1 (octets_of side))));

@@ -22,7 +22,7 @@ module _ {A : Type 0} (side : Side) {e : Ender} {L : A → List ℕ → Type 0} 
   l : Leads side e Plain L (λ _. Plain)
   l = p.leads refl
 
-  -- behind an item
+  -- after an item
   abbrev behind : ℕ → List A → A × List ℕ → Result (List A × List ℕ) Stop
   behind n acc x = go_on sep (acc ++ x.0 ∷ []) (items_by sep r n (acc ++ x.0 ∷ [])) x.1
 

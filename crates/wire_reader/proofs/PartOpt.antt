@@ -1,4 +1,4 @@
--- A part that may be left out, behind a token: as `:x` behind `x`.
+-- A part that may be left out, after a token: as `:x` after `x`.
 use Rattle.std.proofs.Common.{◌≡◌, ℕ, Bool, true, false, not, cond, eqb, ◌||◌, List, [], ◌∷◌, ◌++◌, length, Option, None, Some, Result, Ok, Err, refl, sym, ap, subst, ◌∙◌, inl, inr}
 use Rattle.std.proofs.lemmas.Bool.{cases_Bool, true≢false, false≢true, eqb-true, eq-eqb, not-true, or_parts, or_from}
 use Rattle.wire_reader.specs.declared.side.Side.{Side}
@@ -69,7 +69,7 @@ module _ {A : Type 0} {L : A → List ℕ → Type 0} {s : List ℕ → Result (
             ]
       ]
 
-  -- the byte and what stands behind it
+  -- the byte and what follows it
   behind : (text front back rest : List ℕ) → text ≡ front ++ back → front ≡ c ∷ [] → opt_at g c s (text ++ rest) ≡ done (s (back ++ rest))
   behind text front back rest e f =
       ap (λ (x : List ℕ). opt_at g c s (x ++ rest)) (e ∙ ap (λ (x : List ℕ). x ++ back) f) ∙ ap (at g s c (back ++ rest)) (eq-eqb c c refl)
@@ -206,6 +206,6 @@ module _ {A : Type 0} {L : A → List ℕ → Type 0} {s : List ℕ → Result (
     pub opt_of : Part side true (Open (goes_on g c)) O (opt_at g c s)
     opt_of = record { reader = opt_reader; lexed = opt_lexed; leads = λ _. record { after = opt_after; quiet = λ v t h st. absurd (false≢true st) } }
 
--- The part s stands behind the byte c, and ends before no byte of the token's class g and not before c: by `ended_part`.
+-- The part s follows the byte c, and ends before no byte of the token's class g and not before c: by `ended_part`.
 pub opt_part : {A : Type 0} {side : Side} {L : A → List ℕ → Type 0} {s : List ℕ → Result (A × List ℕ) Stop} (g : ℕ → Bool) (c : ℕ) → eqb c 123 ≡ false → Part side true (Open (goes_on g c)) L s → Part side true (Open (goes_on g c)) (OptText c L) (opt_at g c s)
 opt_part g c plain p = opt_of g c p.reader plain p.lexed (p.leads refl)

@@ -175,7 +175,7 @@ module _ {S A : Type 0} (side : Side) (step : S → ℕ → Step S A) (I : S →
     pub scan_leads : (s : S) (p : Phase) → I s p → Leads side Closed p (ScanText step s) q
     scan_leads s p i = record { after = λ a t h. scan_after t s p a i h; quiet = λ a t h st. scan_quiet t s p a i h }
 
-  -- a token behind which no literal is under way
+  -- a token after which no literal is under way
   pub scan_part : (takes : (s : S) (p : Phase) (b : ℕ) (a : A) → I s p → step s b ≡ Take a → (next p b ≡ Plain) × (asked side p b ≡ None)) (completes : (s : S) → (z : List ℕ) × (a : A) × ScanText step s a z) (s : S) → I s Plain → Part side true Closed (ScanText step s) (scan step s)
   scan_part takes completes s i = record { reader = scan_reader step completes s; lexed = scan_lexed s Plain i; leads = λ _. scan_leads (λ _. Plain) takes s Plain i }
 

@@ -25,7 +25,7 @@ use Rattle.wire_reader.proofs.Positions.{phase-scanned, outside-append, outside-
 
 -- ---- lists
 
--- a list that ends with a byte: nothing follows the front, or the byte stands last behind it too
+-- a list that ends with a byte: nothing follows the front, or the byte is also the last one of what follows it
 pub record LastOf (b : ℕ) (ys text : List ℕ) (zs : List ℕ) : Type 0 where
   pub rest : List ℕ
   pub behind : zs ≡ rest ++ b ∷ []
@@ -66,7 +66,7 @@ module _ {A : Type 0} {side : Side} {k : Bool} {L : A → List ℕ → Type 0} {
   again : (a : A) (text rest : List ℕ) → L a text → r (text ++ rest) ≡ Ok (a, rest)
   again a text rest l = p.reader.complete a text rest l refl
 
-  -- where a fault is told, no spelling begins
+  -- where a fault is reported, no spelling begins
   none_there : (xs : List ℕ) (i : Kind) (n : ℕ) → r xs ≡ Err (Fails i n) → NoneBegins L xs
   none_there xs i n h a more l =
       let b = p.reader.bad xs i n h in

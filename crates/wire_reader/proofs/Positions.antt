@@ -1,4 +1,4 @@
--- What a scanner tells of the text that it has scanned from the begin of a line.
+-- What a scanner says about the text that it has scanned from the begin of a line.
 use Rattle.std.proofs.Common.{◌≡◌, ℕ, suc, ◌+◌, ◌*◌, ◌-◌, ◌≤◌, Bool, true, false, not, cond, eqb, leb, ◌||◌, ◌&&◌, List, [], ◌∷◌, ◌++◌, None, refl, sym, ap, ◌∙◌, inl, inr, arith}
 use Rattle.std.specs.List.{list_all}
 use Rattle.std.proofs.lemmas.Bool.{cases_Bool, true≢false, and_from, or_parts, le-leb, leb-false}
@@ -63,7 +63,7 @@ no_place_at s b h =
           Outside e q.0 (let w = leb-false 65536 s.outside q.1 in omega arith)
     ]
 
--- no octets begin behind a byte that is no LF
+-- no octets begin after a byte that is no LF
 restart_out : (b : ℕ) → is_in (restart b) ≡ false
 restart_out b = elim (cases_Bool (eqb b 123)) [ inl e ↦ ap (λ (t : Bool). is_in (cond t Brace Plain)) e | inr e ↦ ap (λ (t : Bool). is_in (cond t Brace Plain)) e ]
 

@@ -171,7 +171,7 @@ plain_skipped bytes count c some within fits plain =
           ∙ ap (λ (k : ℕ). place_from (at + k) (plainly (count + k)) (drop c bytes)) long;
     }
 
--- ---- one part behind another
+-- ---- one part after another
 
 pub moved : (s t u : Scanner) (xs : List ℕ) (i j : ℕ) → t ≡ scanned s (take i xs) → u ≡ scanned t (take j (drop i xs)) → u ≡ scanned s (take (i + j) xs)
 moved s t u xs i j e f =

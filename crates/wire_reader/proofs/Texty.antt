@@ -27,7 +27,7 @@ choice_texty : (t : Bool) (p q : Phase) → texty p ≡ true → texty q ≡ tru
 choice_texty true p q a b = a
 choice_texty false p q a b = b
 
--- behind a byte that is no CR
+-- after a byte that is no CR
 pub texty-next : (p : Phase) (b : ℕ) → texty p ≡ true → eqb b 13 ≡ false → texty (next p b) ≡ true
 texty-next Plain b h n = restart_texty b
 texty-next Brace b h n = choice_texty (is_digit b) (Digits (b - 48)) (restart b) refl (restart_texty b)

@@ -4,7 +4,7 @@ use Rattle.wire_reader.specs.declared.stop.Stop.{Stop}
 use Rattle.wire_reader.specs.declared.stop.Stop.TheVariants.{Ends}
 use Rattle.wire_reader.specs.Reading.{◌>>=◌}
 
--- behind an item: the next ones where the separator stands, else what the items so far gave
+-- after an item: the next ones where the separator stands, else what the items so far gave
 abbrev pub fold_on : {B : Type 0} → ℕ → B → (List ℕ → Result (B × List ℕ) Stop) → List ℕ → Result (B × List ℕ) Stop
 fold_on sep b next [] = Err (Ends None)
 fold_on sep b next (c ∷ cs) = if c == sep then next cs else Ok (b, c ∷ cs)

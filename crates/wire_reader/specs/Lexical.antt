@@ -9,7 +9,7 @@ use Rattle.wire_reader.specs.declared.side.Side.{Side}
 use Rattle.wire_reader.specs.declared.side.Side.TheVariants.{Commands, Replies}
 use Rattle.wire_reader.specs.Spelling.{is_digit}
 
--- the greatest length of a literal, and of one behind which its sender does not wait
+-- the greatest length of a literal, and of one after which its sender does not wait
 abbrev pub literal_limit : ℕ
 literal_limit = 16777238
 
@@ -56,7 +56,7 @@ limit_from p room at (b ∷ bs) =
 
 -- ---- where a literal's sender waits
 
--- the length, where this byte ends the line behind `{n}`; who sends replies never waits
+-- the length, where this byte ends the line after `{n}`; a sender of replies never waits
 abbrev pub asked_by : Side → ℕ → ℕ → Option ℕ
 asked_by Commands n b = if b == 10 then Some n else None
 asked_by Replies n b = None
@@ -70,7 +70,7 @@ asks_from side p [] = None
 asks_from side p (b ∷ []) = asked side p b
 asks_from side p (b ∷ c ∷ bs) = asks_from side (next p b) (c ∷ bs)
 
--- the number of octets that the sender keeps back until it is told to go on: the bytes end just behind `{n}` and a line end
+-- the number of octets that the sender keeps back until it is asked to go on: the bytes end right after `{n}` and a line end
 abbrev pub asks : Side → List ℕ → Option ℕ
 asks side xs = asks_from side Plain xs
 

@@ -15,12 +15,12 @@ use Rattle.wire_reader.specs.Lexical.{literal_limit, plus_limit}
 
 -- ---- what a literal is
 
--- the number that digits spell, behind digits that spell v
+-- the number that digits spell, after digits that spell v
 abbrev pub value : ℕ → List ℕ → ℕ
 value v [] = v
 value v (d ∷ ds) = value (10 * v + (d - 48)) ds
 
--- no digit stands behind a leading 0
+-- no digit follows a leading 0
 abbrev pub Plainly : List ℕ → Type 0
 Plainly [] = ⊥
 Plainly (d ∷ ds) = d ≡ 48 → ds ≡ []
@@ -41,7 +41,7 @@ MayPlus Commands plus = Unit {0}
 MayPlus Replies true = ⊥
 MayPlus Replies false = Unit {0}
 
--- the length of a literal behind `{`, and whether `+` stands there
+-- the length of a literal after `{`, and whether `+` stands there
 pub record LengthText (side : Side) (p : ℕ × Bool) (text : List ℕ) : Type 0 where
   pub digits : List ℕ
   pub parts : text ≡ digits ++ close_text p.1
@@ -73,7 +73,7 @@ abbrev pub plus_step : Side → ℕ → Step (Option (ℕ × Bool)) (ℕ × Bool
 plus_step Commands n = if nat_le n plus_limit then On (Some (n, true)) else Odd TooLong
 plus_step Replies n = Odd Syntax
 
--- what was read of the length: nothing, or a number, and whether `+` stands behind it
+-- what was read of the length: nothing, or a number, and whether `+` follows it
 abbrev pub length_step : Side → Option (ℕ × Bool) → ℕ → Step (Option (ℕ × Bool)) (ℕ × Bool)
 length_step side None b = if is_digit b then On (Some (b - 48, false)) else Odd Syntax
 length_step side (Some (n, true)) b = if b == 125 then Take (n, true) else Odd Syntax
@@ -105,12 +105,12 @@ octets_at zero xs = Ok ([], xs)
 octets_at (suc n) [] = Err (Ends None)
 octets_at (suc n) (b ∷ bs) = if b == 0 then stuck (b ∷ bs) else with_byte b (octets_at n bs)
 
--- a value behind which at least one byte has come
+-- a value after which at least one byte has come
 abbrev pub followed : List ℕ → List ℕ → Result (List ℕ × List ℕ) Stop
 followed a [] = Err (Ends None)
 followed a (c ∷ cs) = Ok (a, c ∷ cs)
 
--- the octets of a literal, once a byte has come behind them
+-- the octets of a literal, once a byte has come after them
 abbrev pub wait_at : Option ℕ → ℕ → List ℕ → Result (List ℕ × List ℕ) Stop
 wait_at w n [] = Err (Ends w)
 wait_at w n (b ∷ bs) = octets_at n (b ∷ bs) >>= λ x. followed x.0 x.1

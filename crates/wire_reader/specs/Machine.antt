@@ -58,7 +58,7 @@ ScanText {S} step s a (b ∷ bs) = ((t : S) × (step s b ≡ On t) × ScanText s
 
 -- ---- the text that ends a line
 
--- the bytes so far, and whether CR stands behind them
+-- the bytes so far, and whether CR follows them
 abbrev pub line_step : (ℕ → Bool) → List ℕ × Bool → ℕ → Step (List ℕ × Bool) (List ℕ)
 line_step class (acc, true) b = if b == 10 then Take acc else Odd Syntax
 line_step class (acc, false) b = if b == 13 then On (acc, true) else (if class b then On (acc ++ b ∷ [], false) else Odd Syntax)

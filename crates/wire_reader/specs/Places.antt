@@ -35,7 +35,7 @@ EndAtPlaces {A} L = (value : A) (text : List ℕ) → L value text → EndsOutsi
 
 -- ---- before the next place
 
--- no line end stands at or behind this place
+-- no line end stands at or after this place
 abbrev pub NoLineEnd : ℕ → List ℕ → Type 0
 NoLineEnd at text = (a b : List ℕ) → drop at text ≡ a ++ (crlf ++ b) → ⊥
 
@@ -44,7 +44,7 @@ pub record Opens {A : Type 0} (L : A → List ℕ → Type 0) (text : List ℕ) 
   pub begins : Begins L text
   pub fits : outside text ≤ 65536
 
--- behind the bytes xs a fault was met, and its line goes on
+-- after the bytes xs a fault was met, and its line goes on
 pub record Drops {A : Type 0} (L : A → List ℕ → Type 0) (xs text : List ℕ) : Type 0 where
   pub at : ℕ
   pub behind : length xs ≤ at

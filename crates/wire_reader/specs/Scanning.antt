@@ -14,11 +14,11 @@ start = record { phase = Plain; outside = 0 }
 abbrev pub one_more : ℕ → ℕ
 one_more n = if nat_le n 65536 then suc n else n
 
--- behind a byte
+-- after a byte
 abbrev pub after : Scanner → ℕ → Scanner
 after s b = record { phase = next s.phase b; outside = if is_in s.phase then s.outside else one_more s.outside }
 
--- behind these bytes
+-- after these bytes
 abbrev pub scanned : Scanner → List ℕ → Scanner
 scanned s [] = s
 scanned s (b ∷ bs) = scanned (after s b) bs
@@ -50,6 +50,6 @@ owed_in _ = 0
 abbrev pub is_over : Scanner → Bool
 is_over s = nat_lt 65536 s.outside
 
--- behind the text xs, none of the bytes ys is a place
+-- after the text xs, none of the bytes ys is a place
 abbrev pub NoPlace : List ℕ → List ℕ → Type 0
 NoPlace xs ys = first_place (scanned start xs) ys ≡ None

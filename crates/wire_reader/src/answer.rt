@@ -12,7 +12,7 @@ use thiserror::Error;
 pub enum Read<T> {
     /// The first so many bytes are a spelling of the value.
     Whole(T, usize),
-    /// They begin a command and end just behind a literal's `{n}` and line end: its sender waits.
+    /// They begin a command and end right after a literal's `{n}` and line end: its sender waits.
     WantsLiteral(u32),
     /// They begin a spelling otherwise.
     Partial,
@@ -61,7 +61,7 @@ pub fn answered<T>(read: Result<(T, &[u8]), ReadError>, len: usize) -> Result<Re
 }
 
 /// The answer on these bytes, where none of those that decide it is too many for a line; else the end of the bytes up to
-/// and with the first one that is. So the limit is looked for in the line alone, and not in what stands behind it.
+/// and with the first one that is. So the limit is looked for in the line alone, and not in what follows it.
 pub fn kept<T: Drop>(
     answer: Result<Read<T>, WireFault>,
     bytes: &[u8],

@@ -7,7 +7,7 @@ ghost use Rattle.wire_reader.specs.Words.{word_at, either};
 
 use crate::stop::{Kind, Stop};
 
-/// Reads a word in any case, which is given in upper case; gives the bytes behind it.
+/// Reads a word in any case, which is given in upper case; gives the bytes after it.
 pub fn word<'a>(word: &[u8], bytes: &'a [u8]) -> Result<&'a [u8], Stop>
     ensures { Gives (λ r. (tt, r.now)) result (word_at word.now bytes.now) }
 {

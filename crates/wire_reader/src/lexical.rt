@@ -8,15 +8,15 @@ ghost use Rattle.wire_reader.specs.Lexical.{next, is_in};
 pub enum Phase {
     /// In no literal and no length of one.
     Plain,
-    /// Behind `{`.
+    /// After `{`.
     Brace,
-    /// Behind `{` and this number.
+    /// After `{` and this number.
     Digits(u32),
-    /// Behind `{`, this number and `+`.
+    /// After `{`, this number and `+`.
     Plus(u32),
-    /// Behind the `}` of this length; whether `+` stands before it.
+    /// After the `}` of this length; whether `+` stands before it.
     Close(u32, bool),
-    /// Behind that and CR.
+    /// After that and CR.
     Return(u32, bool),
     /// So many octets of a literal are still to come.
     In(u32),

@@ -10,7 +10,7 @@ use crate::punctuation::byte;
 use crate::side::Side;
 use crate::stop::{Kind, Stop};
 
-/// What a byte does to the length so far: a number, and whether `+` stands behind it.
+/// What a byte does to the length so far: a number, and whether `+` follows it.
 #[derive(Clone, Copy, PartialEq, Eq)]
 pub enum LengthStep {
     /// The length goes on.
@@ -21,7 +21,7 @@ pub enum LengthStep {
     Odd(Kind),
 }
 
-/// Reads a literal; gives its octets and the bytes behind them, of which at least one has to be there.
+/// Reads a literal; gives its octets and the bytes after them, of which at least one is required.
 ///
 /// A length of more than 16777238, or of more than 4096 with `+`, is refused as too long.
 pub fn literal(side: Side, bytes: &[u8]) -> Result<(&[u8], &[u8]), Stop>
@@ -32,8 +32,8 @@ pub fn literal(side: Side, bytes: &[u8]) -> Result<(&[u8], &[u8]), Stop>
     octets_of(side, n, plus, rest)
 }
 
-/// Reads a literal of at least one octet; gives its octets and the bytes behind them, of which at least one has to be
-/// there. Its limits are those of `literal`.
+/// Reads a literal of at least one octet; gives its octets and the bytes after them, of which at least one is required. Its limits are
+/// those of `literal`.
 pub fn filled_literal(side: Side, bytes: &[u8]) -> Result<(&[u8], &[u8]), Stop>
     ensures { Gives (λ r. (r.0.now, r.1.now)) result (filled_literal_at side bytes.now) }
 {
@@ -45,7 +45,7 @@ pub fn filled_literal(side: Side, bytes: &[u8]) -> Result<(&[u8], &[u8]), Stop>
     octets_of(side, n, plus, rest)
 }
 
-/// The length of a literal behind its `{`, up to and with `}`.
+/// The length of a literal after its `{`, up to and with `}`.
 fn length(side: Side, bytes: &[u8]) -> Result<((u32, bool), &[u8]), Stop>
     ensures { Gives (λ r. (r.0, r.1.now)) result (length_at side bytes.now) }
 {
@@ -84,7 +84,7 @@ fn length_step(side: Side, read: Option<(u32, bool)>, b: u8) -> LengthStep
     }
 }
 
-/// What a byte does behind a number.
+/// What a byte does after a number.
 fn number_step(side: Side, n: u32, b: u8) -> LengthStep
     requires limit { n ≤ 16777238 }
     ensures step { step_of result ≡ length_step side (Some (n, false)) b }
@@ -106,7 +106,7 @@ fn number_step(side: Side, n: u32, b: u8) -> LengthStep
     }
 }
 
-/// What `+` does behind a number.
+/// What `+` does after a number.
 fn plus_step(side: Side, n: u32) -> LengthStep
     ensures step { step_of result ≡ plus_step side n }
     ensures kept { Fits result }
@@ -133,7 +133,7 @@ fn waits_for(side: Side, n: u32, plus: bool) -> Option<u32>
     }
 }
 
-/// The octets of a literal behind the `}` of its length.
+/// The octets of a literal after the `}` of its length.
 fn octets_of(side: Side, n: u32, plus: bool, bytes: &[u8]) -> Result<(&[u8], &[u8]), Stop>
     ensures { Gives (λ r. (r.0.now, r.1.now)) result (octets_of side (n, plus) bytes.now) }
 {

@@ -6,7 +6,7 @@ ghost use Rattle.wire_reader.specs.Reading.{byte_at, crlf_at};
 
 use crate::stop::{Kind, Stop};
 
-/// Reads this one byte; gives the bytes behind it.
+/// Reads this one byte; gives the bytes after it.
 pub fn byte(c: u8, bytes: &[u8]) -> Result<&[u8], Stop>
     ensures { Gives (λ r. (tt, r.now)) result (byte_at c bytes.now) }
 {
@@ -29,7 +29,7 @@ pub fn crlf(bytes: &[u8]) -> Result<&[u8], Stop>
     byte(b'\n', byte(b'\r', bytes)?)
 }
 
-/// The bytes behind the separator, if it stands at the front; none where another byte does.
+/// The bytes after the separator, if it stands at the front; none where another byte does.
 pub fn separator(c: u8, bytes: &[u8]) -> Result<Option<&[u8]>, Stop>
     ensures { SeparatorIs c bytes.now result }
 {

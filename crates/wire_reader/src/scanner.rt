@@ -12,7 +12,7 @@ use memchr::memchr;
 /// How far a line has been scanned.
 ///
 /// A reader of whole lines that waits for more of a line need not be called at each byte that comes. What it answers
-/// changes at some bytes alone, its places: a LF outside the octets of literals (also the one behind `{n}`, where the
+/// changes at some bytes alone, its places: a LF outside the octets of literals (also the one after `{n}`, where the
 /// sender may wait, or a text may end); a NUL among those octets; and the 65537th byte outside them.
 #[derive(Clone, Copy, PartialEq, Eq)]
 pub struct Scanner {
@@ -48,8 +48,8 @@ impl Scanner {
         self.outside > 65536
     }
 
-    /// Scans the next bytes of the line, up to and with the first place among them; tells how many these are, or that
-    /// none of the bytes is a place, and then all are scanned.
+    /// Scans the next bytes of the line, up to and with the first place among them. Returns how many these are, or `None` if none of the
+    /// bytes is a place; then all are scanned.
     pub fn advance(&mut self, bytes: &[u8]) -> Option<usize>
         ensures place { result ≡ first_place self.old bytes.now }
         ensures moves { self.new ≡ scanned self.old (up_to result bytes.now) }
@@ -65,7 +65,7 @@ impl Scanner {
         None
     }
 
-    /// Scans some of the bytes, of which there is at least one; tells how many, and whether the last of these is a place.
+    /// Scans some of the bytes, of which there is at least one. Returns how many, and whether the last of these is a place.
     fn advance_some(&mut self, bytes: &[u8]) -> (usize, bool)
         requires { 0 < length bytes.now }
         ensures { Advances self.old bytes.now result self.new }
@@ -104,7 +104,7 @@ impl Scanner {
         (count, is_nul)
     }
 
-    /// Scans a byte; tells whether it is a place.
+    /// Scans a byte. Returns whether it is a place.
     fn step(&mut self, b: u8) -> bool
         ensures place { result ≡ is_place self.old b }
         ensures moves { self.new ≡ after self.old b }

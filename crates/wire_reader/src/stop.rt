@@ -18,7 +18,7 @@ pub enum Kind {
 /// Why nothing whole was read.
 #[derive(Clone, Copy, Debug, PartialEq, Eq)]
 pub enum Stop {
-    /// The bytes end. `Some(n)`: just behind the `{n}` and line end of a literal whose sender waits.
+    /// The bytes end. `Some(n)`: right after the `{n}` and line end of a literal whose sender waits.
     Ends(Option<u32>),
     /// A byte does not go on; the second is the number of bytes from it on.
     Fails(Kind, usize),

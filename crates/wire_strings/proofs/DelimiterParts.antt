@@ -156,7 +156,7 @@ rest_from c m =
           subst (λ (x : List ℕ). ScanText delimiter_step Nothing c (x ++ 34 ∷ [])) (sym (escaped_plain c s)) text
     ]
 
--- ---- the phases: behind the character a brace may have begun
+-- ---- the phases: after the character a brace may have begun
 
 abbrev Within : Between → Phase → Type 0
 Within Nothing p = p ≡ Plain

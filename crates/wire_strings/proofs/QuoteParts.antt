@@ -26,7 +26,7 @@ escapes value = flat_map escaped value
 
 -- ---- the texts
 
--- what is still to come, behind a backslash (`true`) or not
+-- what is still to come, after a backslash (`true`) or not
 abbrev Rest : Bool → List ℕ → List ℕ → List ℕ → Type 0
 Rest false acc a t = (v : List ℕ) × (a ≡ acc ++ escapes v) × (t ≡ escapes v ++ 34 ∷ []) × (list_all is_text v ≡ true)
 Rest true acc a t = (c : ℕ) × (is_special c ≡ true) × (v : List ℕ) × (a ≡ acc ++ c ∷ escapes v) × (t ≡ c ∷ escapes v ++ 34 ∷ []) × (list_all is_text v ≡ true)
@@ -179,7 +179,7 @@ completes : (s : List ℕ × Bool) → (z : List ℕ) × (a : List ℕ) × ScanT
 completes (acc, true) = (34 ∷ 34 ∷ [], acc ++ 34 ∷ [], inl ((acc ++ 34 ∷ [], false), refl, inr (refl, refl)))
 completes (acc, false) = (34 ∷ [], acc, inr (refl, refl))
 
--- behind the first quote
+-- after the first quote
 pub raw_rest_part : {side : Side} → Part side true Closed (λ raw t. (t ≡ raw ++ 34 ∷ []) × IsRaw raw) raw_rest
 raw_rest_part {side} = same_part
     (λ a t h. let r = rest_to t [] false a h in (r.2 ∙ ap (λ (x : List ℕ). x ++ 34 ∷ []) (sym r.1), record { value = r.0; of = record { is = r.1; each = r.3 } }))

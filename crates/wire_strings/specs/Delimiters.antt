@@ -12,7 +12,7 @@ DelimiterText c text = QuotedText (c ∷ []) text
 
 -- ---- how it is read
 
--- what stands behind the first quote so far: nothing, a backslash, or the character
+-- what follows the first quote so far: nothing, a backslash, or the character
 pub data Between : Type 0 where
   Nothing : Between
   Slash : Between

@@ -11,7 +11,7 @@ use Rattle.wire_strings.specs.Texts.{is_text}
 abbrev pub is_special : ℕ → Bool
 is_special b = b == 34 || b == 92
 
--- how a byte stands between quotes: `"` and `\` behind a `\`, another as it is
+-- how a byte stands between quotes: `"` and `\` after a `\`, another as it is
 abbrev pub escaped : ℕ → List ℕ
 escaped b = if is_special b then 92 ∷ b ∷ [] else b ∷ []
 
@@ -35,7 +35,7 @@ RawText raw text = (text ≡ 34 ∷ raw ++ 34 ∷ []) × IsRaw raw
 
 -- ---- without the backslashes
 
--- behind a backslash (`true`) a byte stands for itself
+-- after a backslash (`true`) a byte stands for itself
 abbrev pub unescaped_from : Bool → List ℕ → List ℕ
 unescaped_from slash [] = []
 unescaped_from true (b ∷ bs) = b ∷ unescaped_from false bs
@@ -46,14 +46,14 @@ unescaped raw = unescaped_from false raw
 
 -- ---- how they are read
 
--- the bytes so far between the quotes, and whether a backslash stands behind them
+-- the bytes so far between the quotes, and whether a backslash follows them
 abbrev pub raw_step : List ℕ × Bool → ℕ → Step (List ℕ × Bool) (List ℕ)
 raw_step (acc, true) b = if is_special b then On (acc ++ b ∷ [], false) else Odd Syntax
 raw_step (acc, false) b =
     if b == 34 then Take acc
     else (if b == 92 then On (acc ++ b ∷ [], true) else (if is_text b then On (acc ++ b ∷ [], false) else Odd Syntax))
 
--- behind the first quote
+-- after the first quote
 abbrev pub raw_rest : List ℕ → Result (List ℕ × List ℕ) Stop
 raw_rest = scan raw_step ([], false)
 

@@ -40,7 +40,7 @@ ValueText side value text = AtomText value text ⊎ (QuotedText value text ⊎ L
 abbrev pub OnEitherSide : (Side → List ℕ → Type 0) → List ℕ → Type 0
 OnEitherSide L text = (side : Side) → L side text
 
--- quoted where each byte may stand between quotes, else a literal behind whose length the sender waits
+-- quoted where each byte may stand between quotes, else a literal `{n}`, without `+`
 abbrev pub StringBy : Bool → List ℕ → List ℕ → Type 0
 StringBy true value text = QuotedText value text
 StringBy false value text = OnEitherSide (λ side. Literal side value) text

@@ -26,7 +26,7 @@ pub enum AString<'a> {
 }
 
 impl<'a> AString<'a> {
-    /// Writes it: an atom or what is quoted as it is, a literal behind whose length the sender waits.
+    /// Writes it: an atom or what is quoted as it is, other octets as a literal `{n}`, without `+`.
     ///
     /// `AllocError`: memory ran out, and nothing is written.
     pub fn write(&self, out: &mut Vec<u8>) -> Result<(), AllocError>
@@ -41,7 +41,7 @@ impl<'a> AString<'a> {
     }
 }
 
-/// Reads an atom or a string, behind which a byte has to stand that is no byte of an atom.
+/// Reads an atom or a string; a byte that is no byte of an atom is required after it.
 pub fn read_astring(side: Side, bytes: &[u8]) -> Result<(AString<'_>, &[u8]), Stop>
     ensures { Gives (λ r. (r.0, r.1.now)) result (astring_at side bytes.now) }
 {

@@ -43,7 +43,7 @@ impl<'a> CodeText<'a> {
         }
     }
 
-    /// Writes it and the `]` behind it.
+    /// Writes it and the `]` after it.
     ///
     /// `AllocError`: memory ran out, and nothing is written.
     pub fn write(&self, out: &mut Vec<u8>) -> Result<(), AllocError>
@@ -62,7 +62,7 @@ impl<'a> CodeText<'a> {
     }
 }
 
-/// Reads a text up to and with the first `]`; gives the text and the bytes behind the `]`.
+/// Reads a text up to and with the first `]`; gives the text and the bytes after the `]`.
 pub fn read_code_text(bytes: &[u8]) -> Result<(CodeText<'_>, &[u8]), Stop>
     ensures { Gives (λ r. (r.0, r.1.now)) result (code_text_at bytes.now) }
 {

@@ -66,7 +66,7 @@ impl Delimiter {
     }
 }
 
-/// Reads a quoted string of one character; gives the character and the bytes behind it.
+/// Reads a quoted string of one character; gives the character and the bytes after it.
 #[tactic(auto, unfolding(crate::specs::Delimiters::delimiter_at))]
 pub fn read_delimiter(bytes: &[u8]) -> Result<(Delimiter, &[u8]), Stop>
     ensures { Gives (λ r. (r.0, r.1.now)) result (delimiter_at bytes.now) }
@@ -85,7 +85,7 @@ pub fn read_delimiter(bytes: &[u8]) -> Result<(Delimiter, &[u8]), Stop>
     }
 }
 
-/// The character behind a backslash, and the quote.
+/// The character after a backslash, and the quote.
 fn escaped(bytes: &[u8]) -> Result<(Delimiter, &[u8]), Stop>
     ensures { Gives (λ r. (r.0, r.1.now)) result (delimiter_rest Slash bytes.now) }
 {
@@ -101,7 +101,7 @@ fn escaped(bytes: &[u8]) -> Result<(Delimiter, &[u8]), Stop>
     }
 }
 
-/// The quote behind the character.
+/// The quote after the character.
 fn closed(c: u8, bytes: &[u8]) -> Result<(Delimiter, &[u8]), Stop>
     requires { is_text c ≡ true }
     ensures { Gives (λ r. (r.0, r.1.now)) result (delimiter_rest (Got c) bytes.now) }

@@ -4,7 +4,7 @@ ghost use Rattle.std.specs.Prelude.{◌≡◌, ◌++◌, length, take, OnOk, OnE
 
 use std::alloc::AllocError;
 
-/// Writes the text with what stands before and behind it.
+/// Writes the text with what stands before and after it.
 ///
 /// `AllocError`: memory ran out, and nothing is written.
 pub(crate) fn write_framed(

@@ -63,7 +63,7 @@ impl<'a> LineText<'a> {
     }
 }
 
-/// Reads the text that ends a line, and its line end; gives the text and the bytes behind the line.
+/// Reads the text that ends a line, and its line end; gives the text and the bytes after the line.
 pub fn read_line_text(bytes: &[u8]) -> Result<(LineText<'_>, &[u8]), Stop>
     ensures { Gives (λ r. (r.0, r.1.now)) result (last_text_at bytes.now) }
 {

@@ -53,7 +53,7 @@ impl<'a> Octets<'a> {
     }
 }
 
-/// Reads a literal; gives its octets and the bytes behind them, of which at least one has to be there.
+/// Reads a literal; gives its octets and the bytes after them, of which at least one is required.
 pub fn read_octets(side: Side, bytes: &[u8]) -> Result<(Octets<'_>, &[u8]), Stop>
     ensures { Gives (λ r. (r.0, r.1.now)) result (literal_at side bytes.now) }
 {

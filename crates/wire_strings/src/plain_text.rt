@@ -59,8 +59,7 @@ impl<'a> PlainText<'a> {
     }
 }
 
-/// Reads the text that ends a line, where it does not begin with `[`, and its line end; gives the text and the bytes
-/// behind the line.
+/// Reads the text that ends a line, if it does not begin with `[`, and its line end; gives the text and the bytes after the line.
 pub fn read_plain_text(bytes: &[u8]) -> Result<(PlainText<'_>, &[u8]), Stop>
     ensures { Gives (λ r. (r.0, r.1.now)) result (plain_text_at bytes.now) }
 {

@@ -13,7 +13,7 @@ use std::marker::Model;
 use wire_reader::punctuation::byte;
 use wire_reader::stop::{Kind, Stop};
 
-/// What stands between the quotes of a quoted string, lent: `"` and `\` still stand behind a `\` there.
+/// What stands between the quotes of a quoted string, lent: `"` and `\` still follow a `\` there.
 #[derive(Drop)]
 pub struct Quoted<'a> {
     raw: &'a [u8],
@@ -67,7 +67,7 @@ impl<'a> Quoted<'a> {
     }
 }
 
-/// Reads a quoted string; gives what stands between its quotes and the bytes behind it.
+/// Reads a quoted string; gives what stands between its quotes and the bytes after it.
 #[tactic(auto, unfolding(crate::specs::Quotes::raw_at))]
 pub fn read_quoted(bytes: &[u8]) -> Result<(Quoted<'_>, &[u8]), Stop>
     ensures { Gives (λ r. (r.0, r.1.now)) result (raw_at bytes.now) }
@@ -75,7 +75,7 @@ pub fn read_quoted(bytes: &[u8]) -> Result<(Quoted<'_>, &[u8]), Stop>
     raw_rest(byte(b'"', bytes)?)
 }
 
-/// The bytes behind the first quote, up to and with the last.
+/// The bytes after the first quote, up to and with the last.
 fn raw_rest(bytes: &[u8]) -> Result<(Quoted<'_>, &[u8]), Stop>
     ensures { Gives (λ r. (r.0, r.1.now)) result (raw_rest bytes.now) }
 {
@@ -99,7 +99,7 @@ fn raw_rest(bytes: &[u8]) -> Result<(Quoted<'_>, &[u8]), Stop>
     Err(Stop::Ends(None))
 }
 
-/// Whether the byte stands behind a backslash between quotes.
+/// Whether the byte follows a backslash between quotes.
 pub(crate) fn is_special(b: u8) -> bool
     ensures { result ≡ is_special b }
 {

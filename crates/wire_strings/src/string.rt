@@ -24,7 +24,7 @@ pub enum WireString<'a> {
 }
 
 impl<'a> WireString<'a> {
-    /// Writes it: what is quoted as it is, a literal behind whose length the sender waits.
+    /// Writes it: what is quoted as it is, other octets as a literal `{n}`, without `+`.
     ///
     /// `AllocError`: memory ran out, and nothing is written.
     pub fn write(&self, out: &mut Vec<u8>) -> Result<(), AllocError>
@@ -38,7 +38,7 @@ impl<'a> WireString<'a> {
     }
 }
 
-/// Reads a string, behind which a byte has to stand that is no byte of an atom.
+/// Reads a string; a byte that is no byte of an atom is required after it.
 pub fn read_string(side: Side, bytes: &[u8]) -> Result<(WireString<'_>, &[u8]), Stop>
     ensures { Gives (λ r. (r.0, r.1.now)) result (string_at side bytes.now) }
 {
@@ -55,7 +55,7 @@ pub fn read_string(side: Side, bytes: &[u8]) -> Result<(WireString<'_>, &[u8]), 
     }
 }
 
-/// Reads a string, or NIL in any case, which is none; behind it a byte has to stand that is no byte of an atom.
+/// Reads a string, or NIL in any case, which is none; a byte that is no byte of an atom is required after it.
 pub fn read_nstring(side: Side, bytes: &[u8]) -> Result<(Option<WireString<'_>>, &[u8]), Stop>
     ensures { Gives (λ r. (r.0, r.1.now)) result (nstring_at side bytes.now) }
 {

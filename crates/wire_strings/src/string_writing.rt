@@ -55,7 +55,7 @@ fn append_escaped(b: u8, out: &mut Vec<u8>) -> Result<(), AllocError>
     }
 }
 
-/// Writes octets as a literal behind whose length the sender waits.
+/// Writes octets as a literal `{n}`, without `+`.
 ///
 /// `AllocError`: memory ran out, and nothing is written.
 pub fn write_literal(octets: &Octets<'_>, out: &mut Vec<u8>) -> Result<(), AllocError>

@@ -85,8 +85,7 @@ impl Text {
     }
 }
 
-/// Reads an atom or a string, behind which a byte has to stand that is no byte of an atom; gives the bytes for which it
-/// stands.
+/// Reads an atom or a string; a byte that is no byte of an atom is required after it. Gives the bytes for which it stands.
 pub fn read_text(alloc: Global, side: Side, bytes: &[u8]) -> Result<(Text, &[u8]), ReadError>
     ensures { GivesOr (λ r. (r.0, r.1.now)) result (value_at side bytes.now) }
 {

@@ -1,4 +1,4 @@
-//! Where a token ends that ends by itself: no byte of an atom may stand behind it, as behind an atom.
+//! The end of a token that ends by itself: no byte of an atom may follow it, as none may follow an atom.
 
 ghost use Rattle.std.specs.Prelude.{◌≡◌};
 ghost use Rattle.wire_reader.specs.Given.{Gives};
@@ -8,7 +8,7 @@ ghost use Rattle.wire_tokens.specs.Atoms.{is_atom_byte};
 use wire_reader::stop::{Kind, Stop};
 use wire_tokens::atom::is_atom_byte;
 
-/// The value that was read, unless a byte of an atom stands behind it; at least one byte has to be there.
+/// The value that was read, unless a byte of an atom follows it; at least one byte is required.
 pub(crate) fn ended<T: Drop>(value: T, bytes: &[u8]) -> Result<(T, &[u8]), Stop>
     ensures { Gives (λ r. (r.0, r.1.now)) result (ended_by is_atom_byte value bytes.now) }
 {

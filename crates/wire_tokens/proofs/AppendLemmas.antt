@@ -6,7 +6,7 @@ use Rattle.std.specs.declared.alloc.AllocError.{AllocError}
 use Rattle.wire_reader.specs.Spelling.{◌⨾◌}
 use Rattle.wire_tokens.specs.Writing.{Appended, Extended}
 
--- a text behind a text
+-- a text after a text
 pub then_written : {P Q : List ℕ → Type 0} {old mid new : List ℕ} → Appended P old mid → Appended Q mid new → Appended (P ⨾ Q) old new
 then_written {old} a b = record {
   text = a.text ++ b.text;

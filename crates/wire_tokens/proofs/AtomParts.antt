@@ -16,7 +16,7 @@ taken_run class limit i xs text e pos le within each =
     let long : length (take i xs) ≡ i = length-take-le i xs within in
     subst (IsRun class limit) (sym e) (record { each = each; some = omega (arith, pos, long); most = omega (arith, le, long) })
 
--- a tag and the zeros of 32 bytes behind it
+-- a tag and the zeros of 32 bytes after it
 pub in_tag : (text self bytes : List ℕ) → IsTag text → self ≡ text → bytes ≡ self ++ drop (length text) (replicate 32 0) → InTag bytes (length text)
 in_tag text self bytes h same e =
     let whole : bytes ≡ padded text = e ∙ ap (λ (x : List ℕ). x ++ drop (length text) (replicate 32 0)) same ∙ ap (λ (x : List ℕ). text ++ x) (drop-replicate (length text) 32 0) in

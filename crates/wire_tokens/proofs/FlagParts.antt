@@ -40,7 +40,7 @@ names_begin kind [] t h = absurd h
 names_begin kind (a ∷ []) t h = name_begins kind t h.1
 names_begin kind (a ∷ b ∷ names) t h = subst Open' (sym h.parts) (longer h.front h.back (name_begins kind h.front h.first.1))
 
--- ---- behind the first bracket
+-- ---- after the first bracket
 
 abbrev NoName : List Text → Text → Type 0
 NoName names t = (names ≡ []) × Is (41 ∷ []) t

@@ -48,7 +48,7 @@ as_permanent (a ∷ b ∷ names) t h =
 
 -- ---- names with a space between are such a text
 
--- one name more behind a text of some
+-- one name more after a text of some
 more_spaced : (kind : NameKind) (front : List Text) (t name : Text) → SpacedText kind front t → IsName kind name → SpacedText kind (front ++ name ∷ []) (t ++ 32 ∷ name)
 more_spaced kind [] t name h n = absurd h
 more_spaced kind (a ∷ []) t name h n =

@@ -33,7 +33,7 @@ module _ (least most : ℕ) (low : least ≤ 1) (high : 9 ≤ most) where
   abbrev Text : Option ℕ → ℕ → List ℕ → Type 0
   Text s n t = RunText is_digit (number_go least most) read_so_far s n t
 
-  -- what a digit does behind the number v
+  -- what a digit does after the number v
   data Added (v d : ℕ) : Type 0 where
     Counts : (v ≡ 0 → ⊥) → 10 * v + d ≤ most → with_digit least most (Some v) d ≡ Some (10 * v + d) → Added v d
     Refuses : with_digit least most (Some v) d ≡ None → Added v d
@@ -58,7 +58,7 @@ module _ (least most : ℕ) (low : least ≤ 1) (high : 9 ≤ most) where
             ]
       ]
 
-  -- the digits behind a number v
+  -- the digits after a number v
   record More (v n : ℕ) (t : List ℕ) : Type 0 where
     each : list_all is_digit t ≡ true
     is : value v t ≡ n

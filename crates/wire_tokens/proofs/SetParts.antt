@@ -96,11 +96,11 @@ unfolding item_at
 item_part {side} = mapped_part item_of to_item from_item
     (both_part end_part (opt_part is_digit 58 refl second_part) (opt_follows is_digit 58 second_at refl))
 
--- what is read behind an end
+-- what is read after an end
 abbrev after_end : Result (SetEnd × List ℕ) Stop → Result (SetItem × List ℕ) Stop
 after_end o = (o >>= λ x. mapped (λ y. (x.0, y)) (opt_at is_digit 58 second_at) x.1) >>= λ v. Ok (item_of v.0, v.1)
 
--- no digit stands behind an end, so that it is an item alone unless `:` does
+-- no digit follows an end, so that it is an item alone unless `:` does
 pub item_one : (xs : List ℕ) (x : SetEnd) (b : ℕ) (bs : List ℕ) → end_at xs ≡ Ok (x, b ∷ bs) → eqb b 58 ≡ false → item_at xs ≡ Ok (One x, b ∷ bs)
 unfolding item_at
 item_one xs x b bs h colon =

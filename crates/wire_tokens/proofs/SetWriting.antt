@@ -5,7 +5,7 @@ use Rattle.wire_reader.specs.Spelling.{ItemsText}
 use Rattle.wire_tokens.specs.Writing.{Appended, Extended}
 
 module _ {A : Type 0} (sep : ℕ) (L : A → List ℕ → Type 0) where
-  -- the items that were written behind what stood there
+  -- the items that were written after what stood there
   abbrev pub Written : List A → List ℕ → List ℕ → Type 0
   Written [] old new = new ≡ old
   Written (a ∷ others) old new = Appended (ItemsText sep L (a ∷ others)) old new
@@ -18,7 +18,7 @@ module _ {A : Type 0} (sep : ℕ) (L : A → List ℕ → Type 0) where
   written_all [] old new some h = absurd (omega (arith, some))
   written_all (a ∷ others) old new some h = h
 
-  -- an item more behind the last
+  -- an item more after the last
   items_push : (others : List A) (b a : A) (t u : List ℕ) → ItemsText sep L (b ∷ others) t → L a u → ItemsText sep L (b ∷ (others ++ a ∷ [])) (t ++ sep ∷ u)
   items_push [] b a t u h g = record { front = t; back = sep ∷ u; parts = refl; first = h; second = record { front = sep ∷ []; back = u; parts = refl; first = refl; second = g } }
   items_push (c ∷ others) b a t u h g =
@@ -31,7 +31,7 @@ module _ {A : Type 0} (sep : ℕ) (L : A → List ℕ → Type 0) where
         second = record { front = j.front; back = j.back ++ sep ∷ u; parts = refl; first = j.first; second = items_push others c a j.back u j.second g };
       }
 
-  -- the first item, and one behind others with the separator between
+  -- the first item, and one after others with the separator between
   first_written : (a : A) (old mid new : List ℕ) → mid ≡ old → Appended (L a) mid new → Written (a ∷ []) old new
   first_written a old mid new e h = record { text = h.text; parts = h.parts ∙ ap (λ (y : List ℕ). y ++ h.text) e; spelled = h.spelled }
 

@@ -91,7 +91,7 @@ one_atom t h = names_are kinds.Atom (t ∷ []) t (refl, h)
 pub one_spaced : (t : Text) → IsAtom t → NamesText (names_of t) t
 one_spaced t h = subst (λ (names : List Text). NamesText names t) (sym (one_atom t h)) (refl, h)
 
--- ---- what was passed over
+-- ---- what was skipped
 
 pub record Lent (kind : NameKind) (xs rest : Text) : Type 0 where
   pub reads : spaced_at kind xs ≡ Ok (names_of (take (length xs - length rest) xs), rest)

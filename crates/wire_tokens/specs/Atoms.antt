@@ -25,11 +25,11 @@ AtomText a text = (text ≡ a) × IsAtom text
 abbrev pub TagText : List ℕ → List ℕ → Type 0
 TagText a text = (text ≡ a) × IsTag text
 
--- a tag in 32 bytes, with zeros behind it
+-- a tag in 32 bytes, with zeros after it
 abbrev pub padded : List ℕ → List ℕ
 padded a = a ++ replicate (32 - length a) 0
 
--- the first `len` of the bytes are a tag, and zeros stand behind it
+-- the first `len` of the bytes are a tag, and zeros follow it
 pub record InTag (bytes : List ℕ) (len : ℕ) : Type 0 where
   pub tag : IsTag (take len bytes)
   pub long : length (take len bytes) ≡ len

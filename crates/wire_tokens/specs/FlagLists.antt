@@ -60,7 +60,7 @@ permanent_flags_at = bracketed_at kinds.PermanentFlag
 
 -- ---- how they are written
 
--- behind a text of names one more
+-- after a text of names one more
 abbrev pub with_name : List ℕ → List ℕ → List ℕ
 with_name [] name = name
 with_name (b ∷ bs) name = (b ∷ bs) ++ 32 ∷ name

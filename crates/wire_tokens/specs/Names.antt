@@ -91,7 +91,7 @@ spaced_at kind = items_at 32 (name_at kind)
 abbrev pub names_at : List ℕ → Result (List (List ℕ) × List ℕ) Stop
 names_at = spaced_at kinds.Atom
 
--- ---- what stands behind them
+-- ---- what follows them
 
 -- the same reader, without its value
 abbrev pub passed : (List ℕ → Result (List ℕ × List ℕ) Stop) → List ℕ → Result (Unit {0} × List ℕ) Stop

@@ -37,7 +37,7 @@ number_go least most read b = or_syntax (with_digit least most read (b - 48))
 abbrev pub read_so_far : Option ℕ → Option ℕ
 read_so_far read = read
 
--- the rest of a number, behind what was read of it
+-- the rest of a number, after what was read of it
 abbrev pub digits_from : ℕ → ℕ → Option ℕ → List ℕ → Result (ℕ × List ℕ) Stop
 digits_from least most = run is_digit (number_go least most) read_so_far
 

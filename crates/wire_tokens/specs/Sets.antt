@@ -72,7 +72,7 @@ is_star b = b == 42
 abbrev pub is_colon : ℕ → Bool
 is_colon b = b == 58
 
--- the bytes that cannot stand behind a set
+-- the bytes that cannot follow a set
 abbrev pub is_set_byte : ℕ → Bool
 is_set_byte b = (is_digit b || b == 58) || b == 44
 
@@ -82,11 +82,11 @@ number_end n = Number n
 abbrev pub greatest_end : Unit {0} → SetEnd
 greatest_end _ = Greatest
 
--- an end, behind which no digit stands
+-- an end, after which no digit stands
 unfoldable pub end_at : List ℕ → Result (SetEnd × List ℕ) Stop
 end_at = by_first is_star (ended is_digit (mapped greatest_end (byte_at 42))) (mapped number_end nz_at)
 
--- the second end of a range, behind which no `:` stands either
+-- the second end of a range, after which no `:` stands either
 unfoldable pub second_at : List ℕ → Result (SetEnd × List ℕ) Stop
 second_at = ended is_colon end_at
 

@@ -1,4 +1,4 @@
--- What a writer has done: behind what stood there it put a text.
+-- What a writer has done: it appended a text to what was there.
 use Rattle.std.specs.Prelude.{◌≡◌, ℕ, List, ◌++◌}
 
 -- a text of P was appended

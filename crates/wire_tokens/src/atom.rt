@@ -63,7 +63,7 @@ impl<'a> Atom<'a> {
     }
 }
 
-/// Reads an atom; gives it and the bytes behind it, of which at least one has to be there.
+/// Reads an atom; gives it and the bytes after it, of which at least one is required.
 pub fn read_atom(bytes: &[u8]) -> Result<(Atom<'_>, &[u8]), Stop>
     ensures { Gives (λ r. (r.0, r.1.now)) result (atom_at bytes.now) }
 {

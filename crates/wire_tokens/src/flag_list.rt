@@ -50,7 +50,7 @@ impl<'a> FlagNames<'a> {
         has_listed(self.text, name)
     }
 
-    /// The flags that have these names, one of the six or a keyword of the map; a name that no flag has is passed over.
+    /// The flags that have these names, one of the six or a keyword of the map; a name that no flag has is skipped.
     pub fn named(&self, keywords: &Keywords) -> Flags
         ensures { result ≡ named_set keywords.now self.now }
     {
@@ -94,9 +94,9 @@ impl Model for FlagList {
 }
 
 impl FlagList {
-    /// The names of the flags of a set, by a map: those of keywords behind the six. A flag without a name is left out.
+    /// The names of the flags of a set, by a map: those of the six, and then those of keywords. A flag without a name is left out.
     ///
-    /// The error is want of memory.
+    /// An error means that memory ran out.
     pub fn of(alloc: Global, flags: Flags, keywords: &Keywords) -> Result<FlagList, AllocError>
         ensures { IfOk result (λ list. list ≡ names_of_set keywords.now flags) }
     {
@@ -106,7 +106,7 @@ impl FlagList {
 
     /// A copy of these flags.
     ///
-    /// The error is want of memory.
+    /// An error means that memory ran out.
     pub fn copy_of(alloc: Global, flags: &FlagNames<'_>) -> Result<FlagList, AllocError>
         ensures { IfOk result (λ list. list ≡ flags.now) }
     {
@@ -158,7 +158,7 @@ impl<'a> PermanentFlags<'a> {
         has_listed(self.text, name)
     }
 
-    /// The flags that have these names, one of the six or a keyword of the map; a name that no flag has is passed over.
+    /// The flags that have these names, one of the six or a keyword of the map; a name that no flag has is skipped.
     pub fn named(&self, keywords: &Keywords) -> Flags
         ensures { result ≡ named_set keywords.now self.now }
     {
@@ -200,7 +200,7 @@ fn append_bracketed(text: &[u8], out: &mut Vec<u8>) -> Result<(), AllocError>
     Ok(())
 }
 
-/// Reads a list of flags, with its brackets; gives them and the bytes behind.
+/// Reads a list of flags, with its brackets; gives them and the bytes after it.
 pub fn read_flags(bytes: &[u8]) -> Result<(FlagNames<'_>, &[u8]), Stop>
     ensures { Gives (λ r. (r.0, r.1.now)) result (flags_at bytes.now) }
 {
@@ -208,7 +208,7 @@ pub fn read_flags(bytes: &[u8]) -> Result<(FlagNames<'_>, &[u8]), Stop>
     Ok((FlagNames { text }, rest))
 }
 
-/// Reads a list of flags and `\*`, with its brackets; gives them and the bytes behind.
+/// Reads a list of flags and `\*`, with its brackets; gives them and the bytes after it.
 pub fn read_permanent_flags(bytes: &[u8]) -> Result<(PermanentFlags<'_>, &[u8]), Stop>
     ensures { Gives (λ r. (r.0, r.1.now)) result (permanent_flags_at bytes.now) }
 {
@@ -216,7 +216,7 @@ pub fn read_permanent_flags(bytes: &[u8]) -> Result<(PermanentFlags<'_>, &[u8]),
     Ok((PermanentFlags { text }, rest))
 }
 
-/// Reads a list of names in brackets, which may be empty; gives the text between them, and the bytes behind.
+/// Reads a list of names in brackets, which may be empty; gives the text between them, and the bytes after it.
 fn read_bracketed(kind: NameKind, bytes: &[u8]) -> Result<(&[u8], &[u8]), Stop>
     ensures gives { Gives (λ r. (listed r.0.now, r.1.now)) result (bracketed_at kind bytes.now) }
     ensures listed { IfOk result (λ r. IsListed kind r.0.now) }

@@ -9,7 +9,7 @@ use mailcore::flags::{Flag, Flags};
 use mailcore::keywords::Keywords;
 use std::alloc::{AllocError, Global};
 
-/// The names, with a space between: those of the six, and behind them those of keywords.
+/// The names, with a space between: those of the six, and then those of keywords.
 pub(crate) fn spaced_names(
     alloc: Global,
     flags: Flags,

@@ -81,7 +81,7 @@ impl Model for NameList {
 impl NameList {
     /// A copy of these names.
     ///
-    /// The error is want of memory.
+    /// An error means that memory ran out.
     pub fn copy_of(alloc: Global, names: &Names<'_>) -> Result<NameList, AllocError>
         ensures { IfOk result (λ list. list ≡ names.now) }
     {
@@ -97,8 +97,7 @@ impl NameList {
     }
 }
 
-/// Reads one or more atoms with one space between; gives them and the bytes behind, of which at least one has to be
-/// there.
+/// Reads one or more atoms with one space between; gives them and the bytes after them, of which at least one is required.
 pub fn read_names(bytes: &[u8]) -> Result<(Names<'_>, &[u8]), Stop>
     ensures { Gives (λ r. (r.0, r.1.now)) result (names_at bytes.now) }
 {

@@ -69,14 +69,14 @@ impl From<Uid> for NonZero {
     }
 }
 
-/// Reads a number from 0 to 4294967295; gives it and the bytes behind it, of which the first is no digit.
+/// Reads a number from 0 to 4294967295; gives it and the bytes after it, of which the first is no digit.
 pub fn number(bytes: &[u8]) -> Result<(u32, &[u8]), Stop>
     ensures { Gives (λ r. (r.0, r.1.now)) result (number_at bytes.now) }
 {
     digits(0, bytes)
 }
 
-/// Reads a number from 1 to 4294967295; gives it and the bytes behind it, of which the first is no digit.
+/// Reads a number from 1 to 4294967295; gives it and the bytes after it, of which the first is no digit.
 pub fn nz(bytes: &[u8]) -> Result<(NonZero, &[u8]), Stop>
     ensures { Gives (λ r. (r.0, r.1.now)) result (nz_at bytes.now) }
 {

@@ -20,7 +20,7 @@ pub enum NameKind {
     PermanentFlag,
 }
 
-/// Reads one or more names; gives the text of all, and the bytes behind it.
+/// Reads one or more names; gives the text of all, and the bytes after it.
 pub(crate) fn read_spaced(kind: NameKind, bytes: &[u8]) -> Result<(&[u8], &[u8]), Stop>
     ensures gives { Gives (λ r. (names_of r.0.now, r.1.now)) result (spaced_at kind bytes.now) }
     ensures spaced { IfOk result (λ r. IsSpaced kind r.0.now) }
@@ -30,7 +30,7 @@ pub(crate) fn read_spaced(kind: NameKind, bytes: &[u8]) -> Result<(&[u8], &[u8])
     Ok((text, rest))
 }
 
-/// The bytes behind one or more names.
+/// The bytes after one or more names.
 fn pass_names(kind: NameKind, bytes: &[u8]) -> Result<&[u8], Stop>
     ensures { Gives (λ r. (tt, r.now)) result (names_passed kind bytes.now) }
 {
@@ -45,7 +45,7 @@ fn pass_names(kind: NameKind, bytes: &[u8]) -> Result<&[u8], Stop>
     Err(Stop::Ends(None))
 }
 
-/// The bytes behind a name.
+/// The bytes after a name.
 fn pass_name(kind: NameKind, bytes: &[u8]) -> Result<&[u8], Stop>
     ensures { Gives (λ r. (tt, r.now)) result (passed (name_at kind) bytes.now) }
 {
@@ -88,7 +88,7 @@ fn pass_permanent_flag(bytes: &[u8]) -> Result<&[u8], Stop>
     }
 }
 
-/// The bytes behind `*` or an atom.
+/// The bytes after `*` or an atom.
 fn pass_star_or_atom(bytes: &[u8]) -> Result<&[u8], Stop>
     ensures { Gives (λ r. (tt, r.now)) result (passed star_or_atom_at bytes.now) }
 {

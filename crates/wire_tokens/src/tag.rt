@@ -18,7 +18,7 @@ pub const TAG_MAX: usize = 32;
 /// the bytes that are left.
 #[derive(Drop, PartialEq, Eq)]
 pub struct Tag {
-    // with zeros behind the tag
+    // with zeros after the tag
     bytes: [u8; TAG_MAX],
     len: usize,
 }
@@ -80,7 +80,7 @@ impl Tag {
     }
 }
 
-/// Reads a tag; gives it and the bytes behind it, of which at least one has to be there.
+/// Reads a tag; gives it and the bytes after it, of which at least one is required.
 pub fn read_tag(bytes: &[u8]) -> Result<(Tag, &[u8]), Stop>
     ensures { Gives (λ r. (r.0, r.1.now)) result (tag_at bytes.now) }
 {

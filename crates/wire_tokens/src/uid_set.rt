@@ -179,7 +179,7 @@ fn write_items(items: &[SetItem], out: &mut Vec<u8>) -> Result<(), AllocError>
     Ok(())
 }
 
-/// Reads a set of UIDs; gives it and the bytes behind it, of which the first is no digit, `:` or `,`.
+/// Reads a set of UIDs; gives it and the bytes after it, of which the first is no digit, `:` or `,`.
 pub fn uid_set(alloc: Global, bytes: &[u8]) -> Result<(UidSet, &[u8]), ReadError>
     ensures { GivesOr (λ r. (r.0, r.1.now)) result (set_at bytes.now) }
 {
@@ -211,7 +211,7 @@ fn item(bytes: &[u8]) -> Result<(SetItem, &[u8]), Stop>
     }
 }
 
-/// The second end of a range, behind which no `:` stands.
+/// The second end of a range, after which no `:` stands.
 #[tactic(auto, unfolding(crate::specs::Sets::second_at))]
 fn second_end(bytes: &[u8]) -> Result<(SetEnd, &[u8]), Stop>
     ensures { Gives (λ r. (r.0, r.1.now)) result (second_at bytes.now) }
@@ -224,7 +224,7 @@ fn second_end(bytes: &[u8]) -> Result<(SetEnd, &[u8]), Stop>
     }
 }
 
-/// A number or `*`, behind which no digit stands.
+/// A number or `*`, after which no digit stands.
 #[tactic(auto, unfolding(crate::specs::Sets::end_at))]
 fn end(bytes: &[u8]) -> Result<(SetEnd, &[u8]), Stop>
     ensures { Gives (λ r. (r.0, r.1.now)) result (end_at bytes.now) }
@@ -239,7 +239,7 @@ fn end(bytes: &[u8]) -> Result<(SetEnd, &[u8]), Stop>
     }
 }
 
-/// The end `*`, where these bytes stand behind it.
+/// The end `*`, where these bytes follow it.
 fn behind_star(bytes: &[u8]) -> Result<(SetEnd, &[u8]), Stop>
     ensures { Gives (λ r. (r.0, r.1.now)) result (ended_by is_digit SetEnd.Greatest bytes.now) }
 {
