@@ -1,5 +1,5 @@
 -- What a call of a device does to what it stores, whether it stops or not. A device is what is called and may stop: a folder, a
--- shelf, a mailbox behind a connection, or several of these as one.
+-- shelf, a mailbox over a connection, or several of these as one.
 use Rattle.std.specs.Prelude.{◌≡◌, ◌<◌, ◌≤◌, ◌⊎◌, ℕ, Bool, true, false, Result, Ok, Err}
 use Rattle.device.specs.declared.DeviceFault.{DeviceFault}
 use Rattle.device.specs.declared.DeviceFault.TheVariants.{Stopped}
@@ -29,7 +29,7 @@ pub record Follows {Stored : Type 0} (others own : Effect Stored) (old new : Sto
   pub before : others old mid
   pub behind : own mid new
 
--- an effect behind what others did
+-- an effect after what others did
 abbrev pub among : {Stored : Type 0} → Others Stored → Effect Stored → Effect Stored
 among Nobody own = own
 among (Between others) own = Follows others own

@@ -63,7 +63,7 @@ impl<R: Files + AllocGlobal + Clone + Drop> Disk<R> {
         self.condition.stops()
     }
 
-    /// What the system said where a call stopped since the device was opened. None: none has, or memory was wanting.
+    /// What the system said where a call stopped since the device was opened. None: none has, or memory ran out.
     pub fn trouble(&self) -> Option<Trouble> {
         self.trouble
     }
@@ -187,14 +187,14 @@ impl<R: Files + AllocGlobal + Clone + Drop> Disk<R> {
         OpenFile::sync_all(&file)
     }
 
-    /// Puts a file with these bytes in place of the one that is there, all of them or none: it is written under the other name,
-    /// synced, and renamed. The new name is not synced.
+    /// Replaces a file by one with these bytes, all of them or none: it is written under the other name, synced, and renamed. The new name
+    /// is not synced.
     pub fn replace(&self, part: &str, other: &str, bytes: &[u8]) -> io::Result<()> {
         self.write_new(other, bytes)?;
         self.rename(other, part)
     }
 
-    /// Adds bytes behind those of a file that no other program makes. Where it is made for them, they and its name are synced.
+    /// Appends bytes to a file that no other program makes. If it makes the file, it syncs the bytes and the name.
     pub fn append(&self, part: &str, bytes: &[u8]) -> io::Result<()> {
         let path = self.at(part)?;
         let mut options = OpenOptions::new();
@@ -210,7 +210,7 @@ impl<R: Files + AllocGlobal + Clone + Drop> Disk<R> {
         }
     }
 
-    /// Adds bytes behind those of a file that is there.
+    /// Appends bytes to a file that is there.
     fn append_to(&self, part: &str, bytes: &[u8]) -> io::Result<()> {
         self.has_own(part)?;
         let path = self.at(part)?;
@@ -264,7 +264,7 @@ impl<R: Files + AllocGlobal + Clone + Drop> Disk<R> {
     }
 }
 
-/// None in place of the error that nothing is there.
+/// None instead of the error that nothing is there.
 fn found<T: Drop>(answer: io::Result<T>) -> io::Result<Option<T>> {
     match answer {
         Ok(value) => Ok(Some(value)),

@@ -24,7 +24,7 @@ pub enum Trouble {
 }
 
 impl Trouble {
-    /// What an error of this kind tells.
+    /// What an error of this kind means.
     pub fn of(kind: ErrorKind) -> Self {
         match kind {
             ErrorKind::PermissionDenied => Trouble::NoPermission,

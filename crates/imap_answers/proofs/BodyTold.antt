@@ -1,4 +1,4 @@
--- The body that replies tell: what was told before counts where nothing more is told, and none is told where a part cannot be taken.
+-- The body that replies report: an earlier one counts if no later one is reported, and none is if a part cannot be taken.
 use Rattle.std.proofs.Common.{◌≡◌, ℕ, ◌+◌, ◌-◌, ◌<◌, ◌≤◌, Bool, true, false, List, [], ◌∷◌, refl, sym, ◌∙◌, ap, subst, take, drop, length, get_or, Option, Some, None, take-append-drop, length-drop, arith, Err}
 use Rattle.std.specs.Prelude.{if◌then◌else◌}
 use Rattle.std.specs.List.{fold}
@@ -73,7 +73,7 @@ item_stops told list i item so_far lt here so none =
 pub body_stops : (before : Option (List ℕ)) (item : FetchItem) (string : Option WireString) → item ≡ items.Body string → None ≡ body_bytes string → body_more (Some before) item ≡ None
 body_stops before item string e h = ap (body_more (Some before)) e ∙ ap (option_map (λ bytes. Some bytes)) (sym h)
 
--- ---- what was told before counts where nothing is told
+-- ---- what was reported before counts if no more is reported
 
 abbrev or_before : (before : Option (List ℕ)) → Option (Option (List ℕ)) → Option (Option (List ℕ))
 or_before before None = None
@@ -118,7 +118,7 @@ more_before uid before (OtherNumbered n event text) = refl
 
 -- ---- reply by reply
 
--- of these replies some are left, in the bytes from `done` on, and the others tell so much
+-- some of these replies are left, in the bytes from `done` on, and the others report this body
 pub record FoundSo (uid : ℕ) (bytes : List ℕ) (done : ℕ) (found : Option FoundBody) (rs : List Reply) : Type 0 where
   left : List Reply
   spelled : AreReplies left (drop done bytes)
@@ -128,13 +128,13 @@ pub none_found : (uid : ℕ) (bytes : List ℕ) (rs : List Reply) → AreReplies
 none_found uid bytes rs h = record { left = rs; spelled = h; told = refl }
 
 module _ (uid : ℕ) (bytes : List ℕ) (done : ℕ) (found : Option FoundBody) (rs : List Reply) (so : FoundSo uid bytes done found rs) where
-  -- at the end of the bytes all is told
+  -- at the end of the bytes all is reported
   pub told_all : done ≡ length bytes → body_told uid rs ≡ Some (found_at bytes found)
   told_all e =
       let behind : drop done bytes ≡ [] = drop_all done bytes (omega (arith, e)) in
       so.told ∙ ap (fold (bodies_more uid) (Some (found_at bytes found))) (no_left so.left (drop done bytes) so.spelled behind)
 
-  -- the bytes behind them are replies
+  -- the bytes after them are replies
   spelled_behind : AreReplies so.left (take (length bytes - done) (drop done bytes))
   spelled_behind = subst (AreReplies so.left) (sym (slice_is bytes bytes done refl)) so.spelled
 
@@ -155,15 +155,15 @@ module _ (uid : ℕ) (bytes : List ℕ) (done : ℕ) (found : Option FoundBody) 
     spelled_on : AreReplies first.others (drop (done + len) bytes)
     spelled_on = subst (AreReplies first.others) (drop-drop len done bytes) first.spelled
 
-    -- where the reply cannot be taken, no body is told
+    -- where the reply cannot be taken, no body is reported
     pub told_none_of : bodies_more uid (Some None) r ≡ None → body_told uid rs ≡ None
     told_none_of e = told_on None e ∙ told_none uid first.others
 
-    -- it tells none
+    -- it reports none
     pub found_before : bodies_more uid (Some None) r ≡ Some None → FoundSo uid bytes (done + len) found rs
     found_before e = record { left = first.others; spelled = spelled_on; told = told_on (Some None) e }
 
-    -- it tells one
+    -- it reports one
     pub found_now : (now : FoundBody) (octets : List ℕ) → bodies_more uid (Some None) r ≡ Some (Some octets) → body_at now bytes ≡ octets → FoundSo uid bytes (done + len) (Some now) rs
     found_now now octets e h = record {
       left = first.others;

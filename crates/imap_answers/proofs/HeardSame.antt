@@ -1,4 +1,4 @@
--- What replies tell is the same of those that a server said and of those that were heard in their place.
+-- The replies that a server said, and those that were heard for them, report the same.
 use Rattle.std.proofs.Common.{◌≡◌, ℕ, Bool, true, List, [], ◌∷◌, Some, refl, sym, ◌∙◌, ap, inl, inr, ◌⊎◌}
 use Rattle.std.specs.Prelude.{if◌then◌else◌}
 use Rattle.std.specs.List.{fold}

@@ -1,4 +1,4 @@
--- What a call does not read tells it nothing: its answer is the same without it.
+-- Replies that a call does not read change nothing: its answer is the same without them.
 use Rattle.std.proofs.Common.{◌≡◌, Bool, true, false, List, [], ◌∷◌, ℕ, refl, sym, ◌∙◌, ap, Option, None}
 use Rattle.std.specs.Prelude.{filter, if◌then◌else◌}
 use Rattle.std.specs.List.{fold}

@@ -1,4 +1,4 @@
--- The bytes of a message, as replies to UID FETCH tell them.
+-- The bytes of a message, as replies to UID FETCH report them.
 use Rattle.std.specs.Prelude.{ℕ, Bool, false, ◌==◌, List, take, drop, Option, None, Some, if◌then◌else◌}
 use Rattle.std.specs.List.{fold, list_any}
 use Rattle.std.specs.Option.{option_map}
@@ -18,7 +18,7 @@ body_bytes None = None
 body_bytes (Some (Literal bytes)) = Some bytes
 body_bytes (Some (Quoted raw)) = if list_any (λ b. b == 92) raw then None else Some raw
 
--- What was told so far: nothing that the call can take, or the bytes, if any were told.
+-- What was reported so far: nothing that the call can take, or the bytes, if any were reported.
 abbrev pub body_more : Option (Option (List ℕ)) → FetchItem → Option (Option (List ℕ))
 body_more None item = None
 body_more (Some told) (items.Uid uid) = Some told
@@ -34,7 +34,7 @@ abbrev pub is_told : (uid : ℕ) → Option ℕ → Bool
 is_told uid None = false
 is_told uid (Some told) = told == uid
 
--- with one reply more: one of another message is passed over
+-- with one reply more: one of another message is skipped
 abbrev pub bodies_more : (uid : ℕ) → Option (Option (List ℕ)) → Reply → Option (Option (List ℕ))
 bodies_more uid told (Fetch n list) = if is_told uid (uid_of list) then body_in told list else told
 bodies_more uid told _ = told

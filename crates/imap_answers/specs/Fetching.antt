@@ -1,4 +1,4 @@
--- What FETCH replies tell of messages (RFC 9051, section 7.5.2). Of two items of a kind the later counts, and of two replies with one
+-- What FETCH replies report about messages (RFC 9051, section 7.5.2). Of two items of a kind the later counts, and of two replies with one
 -- UID.
 use Rattle.std.specs.Prelude.{◌≡◌, ℕ, nat_le, List, [], Option, None, Some}
 use Rattle.std.specs.List.{fold}
@@ -40,7 +40,7 @@ uid_more told (items.Head head) = told
 abbrev pub uid_of : List FetchItem → Option ℕ
 uid_of list = fold uid_more None list
 
--- ---- what replies tell, in the order of UIDs
+-- ---- what replies report, in the order of UIDs
 
 -- what is kept of a message: its flags, and whether its size is within the limit
 abbrev pub row_of : Told → Row
@@ -66,6 +66,6 @@ pub record MappedRows : Type 0 where
 abbrev pub no_rows : List Keyword → MappedRows
 no_rows keywords = record { keywords = keywords; rows = [] }
 
--- told these replies, the first became the second
+-- given these replies, the first became the second
 abbrev pub TookRows : (first : MappedRows) → List Reply → (second : MappedRows) → Type 0
 TookRows first replies second = second ≡ record first { rows = fold (rows_more first.keywords) first.rows replies }

@@ -1,4 +1,4 @@
--- What the replies to APPEND tell of the message that was added (RFC 9051, section 7.1: APPENDUID).
+-- What the replies to APPEND report about the message that was added (RFC 9051, section 7.1: APPENDUID).
 use Rattle.std.specs.Prelude.{ℕ, ◌&&◌, ◌==◌, nat_le, nat_lt, List, Option, None, Some, Result, Ok, Err, if◌then◌else◌}
 use Rattle.std.specs.List.{fold}
 use Rattle.imap_replies.specs.declared.response.Code.{Code}
@@ -24,7 +24,7 @@ abbrev pub given_by_text : Option Given → ResponseText → Option Given
 given_by_text given (Plain text) = given
 given_by_text given (Coded code text) = given_by_code given code
 
--- what was told before, or what this reply tells
+-- what was reported before, or what this reply reports
 abbrev pub given_more : Option Given → Reply → Option Given
 given_more given (Tagged tag status text) = given_by_text given text
 given_more given _ = given
@@ -32,8 +32,8 @@ given_more given _ = given
 abbrev pub given_in : List Reply → Option Given
 given_in replies = fold given_more None replies
 
--- The UID that was told, if one was, in a mailbox of this validity whose next UID was at least this. It breaks the
--- protocol where it is of another validity, where it was given before, and where no UID is above it.
+-- The UID that was reported, if one was, in a mailbox of this validity whose next UID was at least this. It breaks the protocol if it is of
+-- another validity, if it was given before, or if no UID is above it.
 abbrev pub uid_told : Option Given → (validity next : ℕ) → Result (Option ℕ) FarFault
 uid_told None validity next = Ok None
 uid_told (Some given) validity next =

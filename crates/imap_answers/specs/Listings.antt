@@ -8,12 +8,12 @@ use Rattle.mailcore.specs.Listed.{item_of}
 use Rattle.mailcore.specs.Stores.{Store}
 use Rattle.imap_answers.specs.declared.told.Row.{Row}
 
--- ---- what is told of messages, as a list of them
+-- ---- what is reported about messages, as a list of them
 
 abbrev pub is_uid : ℕ → Bool
 is_uid n = nat_lt 0 n && nat_lt n 4294967295
 
--- a message with its flags, of which the size was told
+-- a message with its flags, of which the size was reported
 abbrev pub item_told : (uid : ℕ) → (flags : Option ℕ) → (fit : Option Bool) → Option Item
 item_told uid None fit = None
 item_told uid (Some flags) None = None
@@ -35,8 +35,8 @@ items_told (row ∷ rows) = joined (item_told row.0 row.1.flags row.1.fit) (item
 abbrev pub next_above : (known : ℕ) → List Item → ℕ
 next_above known items = fold (λ next item. max next (item.uid + 1)) known items
 
--- The mailbox lists this, where a next UID of at least `known` was told: a listing does not tell the next UID, but each message shows
--- that it is above.
+-- The mailbox lists this, where a next UID of at least `known` was reported: a listing does not report the next UID, but each message
+-- shows that it is above.
 pub record ListsFrom (known : ℕ) (s : Store) (listing : Listing) : Type 0 where
   pub validity : listing.validity ≡ s.validity
   pub next : listing.next ≡ next_above known listing.items

@@ -1,4 +1,4 @@
--- The names of a server's mailboxes, as LIST tells them (RFC 9051, sections 6.3.9 and 7.3.1).
+-- The names of a server's mailboxes, as LIST returns them (RFC 9051, sections 6.3.9 and 7.3.1).
 use Rattle.std.specs.Prelude.{◌≡◌, ℕ, List, [], ◌∷◌, ◌++◌, map, filter, Option, None, Some}
 use Rattle.std.specs.List.{fold}
 use Rattle.mailcore.specs.MailboxNames.{is_mailbox_name, within_limits}
@@ -29,6 +29,6 @@ names_in replies = fold names_more [] replies
 abbrev pub names_of : Server → List (List ℕ)
 names_of s = filter is_mailbox_name (map unescaped (names_matched (42 ∷ []) s.mailboxes))
 
--- these are told, and nothing changed
+-- these are returned, and nothing changed
 abbrev pub TellsNames : List (List ℕ) → Server → Server → Type 0
 TellsNames names old new = (names ≡ names_of old) × (new ≡ old)

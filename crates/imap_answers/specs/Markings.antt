@@ -44,7 +44,7 @@ abbrev pub uid_found : Option ℕ → Option (Option ℕ)
 uid_found None = Some None
 uid_found (Some n) = if is_uid n then Some (Some n) else None
 
--- ---- no more was told than was asked for
+-- ---- no more was returned than was asked for
 
 -- how many octets of each message are asked for: `BODY.PEEK[]<0.22>`
 abbrev pub head_size : ℕ
@@ -75,11 +75,11 @@ mark_found mark from replies = if list_any has_long_head replies then None else 
 
 -- ---- the search, reply by reply
 
--- it was told nothing
+-- it was given no reply
 abbrev pub new_search : (mark : List ℕ) (from : ℕ) → MarkSearch
 new_search mark from = record { mark = mark; from = from; is_long = false; least = None; shown = nothing_shown }
 
--- told these replies, the first became the second
+-- given these replies, the first became the second
 abbrev pub TookHeads : (first : MarkSearch) → List Reply → (second : MarkSearch) → Type 0
 TookHeads first replies second =
     second ≡ record first {
@@ -88,6 +88,6 @@ TookHeads first replies second =
       shown = fold (shown_more first.from) first.shown replies;
     }
 
--- the search for this mark, once it was told these replies
+-- the search for this mark, once it was given these replies
 abbrev pub Sought : (mark : List ℕ) (from : ℕ) → List Reply → MarkSearch → Type 0
 Sought mark from replies search = TookHeads (new_search mark from) replies search

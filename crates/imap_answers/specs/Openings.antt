@@ -55,6 +55,6 @@ abbrev pub NoneOrPositive : Option ℕ → Type 0
 NoneOrPositive None = Unit {0}
 NoneOrPositive (Some n) = 0 < n
 
--- what is told of numbers is above 0
+-- the numbers that are reported are above 0
 abbrev pub IsPositive : Opening → Type 0
 IsPositive o = NoneOrPositive o.next × NoneOrPositive o.validity

@@ -75,7 +75,7 @@ abbrev pub shown_more : (from : ℕ) → Shown → Reply → Shown
 shown_more from shown (Fetch n list) = items_shown from shown list
 shown_more from shown _ = shown
 
--- the UID behind those that were shown, at most the next one
+-- the UID after those that were shown, at most the next one
 abbrev pub reach : (next : ℕ) → Option ℕ → ℕ
 reach next None = 0
 reach next (Some top) = if nat_lt top next then top + 1 else next

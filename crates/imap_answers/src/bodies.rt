@@ -1,4 +1,4 @@
-//! The bytes of one message, as replies to UID FETCH tell them (RFC 9051, section 7.5.2).
+//! The bytes of one message, as replies to UID FETCH report them (RFC 9051, section 7.5.2).
 
 ghost use Rattle.std.specs.Prelude.{◌≡◌, ◌≤◌, ◌+◌, List, None, Some, length, take, drop, IfOk, IfErr, IfSome};
 ghost use Rattle.std.specs.Option.{option_map};
@@ -19,7 +19,7 @@ use std::alloc::{AllocError, Global};
 use wire_reader::scanner::Scanner;
 use wire_strings::string::WireString;
 
-/// The bytes of a message that replies tell.
+/// The bytes of a message that replies report.
 #[derive(Drop)]
 pub enum FoundBody {
     /// They stand among the bytes of the replies.
@@ -29,7 +29,7 @@ pub enum FoundBody {
         /// How many they are.
         len: usize,
     },
-    /// A copy: they were told between quotes.
+    /// A copy: they were reported between quotes.
     Copied(Vec<u8>),
 }
 
@@ -48,10 +48,10 @@ impl FoundBody {
     }
 }
 
-/// Where the bytes of the message with this UID stand, or none where the replies in these bytes do not tell them. Of two replies the
-/// later counts.
+/// Where the bytes of the message with this UID are, or none if the replies in these bytes do not report them. Of two replies the later
+/// counts.
 ///
-/// `Protocol`: they are told as NIL, or quoted with a backslash. `NoMemory`.
+/// `Protocol`: they are reported as NIL, or quoted with a backslash. `NoMemory`.
 pub fn body_told(alloc: Global, bytes: &[u8], uid: Uid) -> Result<Option<FoundBody>, FarFault>
     requires { Speaks bytes.now }
     ensures told { (rs : List Reply) → AreReplies rs bytes.now → ReadsAs (found_at bytes.now) result (body_told uid rs) }
@@ -72,7 +72,7 @@ pub fn body_told(alloc: Global, bytes: &[u8], uid: Uid) -> Result<Option<FoundBo
     Err(FarFault::NoMemory)
 }
 
-/// Where these octets, which the reply at a place tells as a literal or between quotes, stand in the bytes.
+/// Where these octets are in the bytes. The reply at a place reports them as a literal or between quotes.
 ///
 /// `AllocError`: memory ran out.
 fn found_in(
@@ -118,9 +118,9 @@ fn next_place(scanner: &mut Scanner, text: &[u8], done: usize) -> Option<usize>
     Some(done + count)
 }
 
-/// The bytes that a reply tells of the message with this UID, if it tells them.
+/// The bytes that a reply reports of the message with this UID, if it reports them.
 ///
-/// `Protocol`: it tells them as NIL, or quoted with a backslash.
+/// `Protocol`: it reports them as NIL, or quoted with a backslash.
 fn body_of<'a>(reply: &'a Reply<'_>, uid: Uid) -> Result<Option<&'a [u8]>, FarFault>
     ensures told { ReadsAs (option_map (λ b. b.now)) result (bodies_more uid (Some None) reply.now) }
 {
@@ -130,7 +130,7 @@ fn body_of<'a>(reply: &'a Reply<'_>, uid: Uid) -> Result<Option<&'a [u8]>, FarFa
     }
 }
 
-/// Whether these items tell of the message with this UID.
+/// Whether these items are about the message with this UID.
 fn is_told(items: &[FetchItem<'_>], uid: Uid) -> bool
     ensures { result ≡ is_told uid (uid_of items.now) }
 {
@@ -140,7 +140,7 @@ fn is_told(items: &[FetchItem<'_>], uid: Uid) -> bool
     }
 }
 
-/// The bytes that these items tell, if they tell them.
+/// The bytes that these items report, if they report them.
 fn body_in<'a>(items: &'a [FetchItem<'_>]) -> Result<Option<&'a [u8]>, FarFault>
     ensures told { ReadsAs (option_map (λ b. b.now)) result (body_in (Some None) items.now) }
 {

@@ -1,4 +1,4 @@
-//! What the replies to APPEND tell of the message that was added (RFC 9051, section 7.1: APPENDUID).
+//! What the replies to APPEND report about the message that was added (RFC 9051, section 7.1: APPENDUID).
 
 ghost use Rattle.std.specs.Prelude.{◌≡◌};
 ghost use Rattle.imap_answers.specs.Given.{given_by_code, given_more, given_in, uid_told};
@@ -9,7 +9,7 @@ use imap_replies::response::{Code, ResponseText};
 use mailcore::uid::Uid;
 use wire_tokens::number::NonZero;
 
-/// The validity and the UID of a message, as a server told them.
+/// The validity and the UID of a message, as a server reported them.
 #[derive(Drop)]
 pub struct Given {
     /// The UIDVALIDITY of its mailbox.
@@ -18,7 +18,7 @@ pub struct Given {
     pub uid: NonZero,
 }
 
-/// What these replies tell.
+/// What these replies report.
 pub fn given_in(replies: &[Reply<'_>]) -> Option<Given>
     ensures { result ≡ given_in replies.now }
 {
@@ -27,7 +27,7 @@ pub fn given_in(replies: &[Reply<'_>]) -> Option<Given>
         .fold(None, |given, reply| given_more(given, reply))
 }
 
-/// What was told before, or what this reply tells.
+/// What was reported before, or what this reply reports.
 fn given_more(given: Option<Given>, reply: &Reply<'_>) -> Option<Given>
     ensures { result ≡ given_more given reply.now }
 {
@@ -37,7 +37,7 @@ fn given_more(given: Option<Given>, reply: &Reply<'_>) -> Option<Given>
     }
 }
 
-/// What was told before, or what this code tells.
+/// What was reported before, or what this code reports.
 fn given_by_code(given: Option<Given>, code: &Code<'_>) -> Option<Given>
     ensures { result ≡ given_by_code given code.now }
 {
@@ -53,7 +53,7 @@ fn given_by_code(given: Option<Given>, code: &Code<'_>) -> Option<Given>
     }
 }
 
-/// The UID that was told, if one was, in a mailbox of this validity whose next UID was at least this.
+/// The UID that was reported, if one was, in a mailbox of this validity whose next UID was at least this.
 ///
 /// `Protocol`: the mailbox cannot have given it.
 pub fn uid_told(given: Option<Given>, validity: u32, next: u32) -> Result<Option<Uid>, FarFault>

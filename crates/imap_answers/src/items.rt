@@ -13,7 +13,7 @@ use std::alloc::Global;
 impl<'a> Rows<'a> {
     /// The messages that these rows list.
     ///
-    /// `Protocol`: a message was told without its flags or its size, or under 4294967295. `NoMemory`.
+    /// `Protocol`: a message was reported without its flags or its size, or under 4294967295. `NoMemory`.
     pub fn items(&self, alloc: Global) -> Result<Items, FarFault>
         ensures told { ReadsAs (λ items. items) result (items_told self.now.rows) }
     {
@@ -28,7 +28,7 @@ impl<'a> Rows<'a> {
     }
 }
 
-/// The message of this UID as it is listed, or none where its flags or its size were not told.
+/// The message of this UID as it is listed, or none if its flags or its size were not reported.
 fn item_told(uid: u32, row: &Row) -> Option<Item>
     ensures { result ≡ item_told uid row.now.flags row.now.fit }
 {

@@ -1,5 +1,5 @@
-//! What the replies to the commands of a client tell: mailboxes and their names, messages, bodies, marks, and the UID of a message
-//! that was added.
+//! What the replies to the commands of a client report: mailboxes and their names, messages, bodies, marks, and the UID of a message that
+//! was added.
 #![tactic(auto)]
 
 pub mod bodies;

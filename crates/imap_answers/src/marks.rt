@@ -26,8 +26,8 @@ use wire_strings::string::WireString;
 /// How many octets of each message are asked for.
 const HEAD_SIZE: usize = 22;
 
-/// The search for the least UID of at least `from` under which a reply shows the mark. It is told the replies as they are heard, and
-/// keeps none: of all marks that are shown it keeps 12 bytes each.
+/// The search for the least UID of at least `from` under which a reply shows the mark. It is given the replies as they are heard, and keeps
+/// none: of all marks that are shown it keeps 12 bytes each.
 #[derive(Drop)]
 pub struct MarkSearch {
     mark: Tuid,
@@ -40,7 +40,7 @@ pub struct MarkSearch {
 }
 
 impl MarkSearch {
-    /// One that was told nothing.
+    /// One that was given no reply.
     pub fn new(alloc: Global, mark: Tuid, from: u32) -> MarkSearch
         ensures { result ≡ new_search mark from }
     {

@@ -1,4 +1,4 @@
-//! The names of mailboxes that replies tell (RFC 9051, section 7.3.1), within the limits of names.
+//! The names of mailboxes that replies return (RFC 9051, section 7.3.1), within the limits of names.
 
 ghost use Rattle.std.specs.Prelude.{◌≡◌, IfOk};
 ghost use Rattle.imap_answers.specs.MailboxNames.{name_told, names_in};
@@ -8,7 +8,7 @@ use mailcore::mailbox_name::MailboxName;
 use std::alloc::{AllocError, Global};
 use wire_strings::text::Text;
 
-/// The names that these replies tell. `AllocError`: memory ran out.
+/// The names that these replies return. `AllocError`: memory ran out.
 pub fn names_in(alloc: Global, replies: &[Reply<'_>]) -> Result<Vec<MailboxName>, AllocError>
     ensures { IfOk result (λ names. names.items ≡ names_in replies.now) }
 {
@@ -21,7 +21,7 @@ pub fn names_in(alloc: Global, replies: &[Reply<'_>]) -> Result<Vec<MailboxName>
     Ok(names)
 }
 
-/// The name that this reply tells, if it tells one within the limits. `AllocError`: memory ran out.
+/// The name that this reply returns, if it returns one within the limits. `AllocError`: memory ran out.
 fn name_told(alloc: Global, reply: &Reply<'_>) -> Result<Option<MailboxName>, AllocError>
     ensures { IfOk result (λ name. name ≡ name_told reply.now) }
 {

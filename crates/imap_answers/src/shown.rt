@@ -70,7 +70,7 @@ impl ShownMarks {
     }
 }
 
-/// The UID behind those that were shown, at most the next one.
+/// The UID after those that were shown, at most the next one.
 fn reach(top: Option<u32>, next: u32) -> u32
     ensures { result ≡ reach next top }
 {

@@ -1,4 +1,4 @@
-//! What FETCH replies tell of messages (RFC 9051, section 7.5.2).
+//! What FETCH replies report about messages (RFC 9051, section 7.5.2).
 
 ghost use Rattle.std.specs.Prelude.{◌≡◌, OnOk};
 ghost use Rattle.imap_answers.specs.Fetching.{no_rows, nothing_told, rows_more, told_more, told_of, uid_more, uid_of, with_row};
@@ -13,7 +13,7 @@ use std::alloc::{AllocError, Global};
 use std::collections::BTreeMap;
 use std::marker::Model;
 
-/// What a FETCH reply tells of a message. Of two items of a kind the later counts.
+/// What a FETCH reply reports about a message. Of two items of a kind the later counts.
 #[derive(Clone, Copy)]
 pub struct Told {
     /// Its UID.
@@ -25,7 +25,7 @@ pub struct Told {
 }
 
 impl Told {
-    /// What these items tell, where flags have the names of this map.
+    /// What these items report, where flags have the names of this map.
     pub fn of(items: &[FetchItem<'_>], keywords: &Keywords) -> Told
         ensures { result ≡ told_of keywords.now items.now }
     {
@@ -68,7 +68,7 @@ impl Told {
     }
 }
 
-/// The UID that these items tell. Of two the later counts.
+/// The UID that these items report. Of two the later counts.
 pub(crate) fn uid_of(items: &[FetchItem<'_>]) -> Option<u32>
     ensures { result ≡ uid_of items.now }
 {
@@ -94,9 +94,9 @@ pub struct Row {
     pub fit: Option<bool>,
 }
 
-/// What replies tell of messages, by their UIDs. Of two replies with one UID the later counts; one without UID is passed over.
+/// What replies report about messages, by their UIDs. Of two replies with one UID the later counts; one without UID is skipped.
 ///
-/// It is told the replies as they are heard, and holds no more than about 40 bytes a message.
+/// It is given the replies as they are heard, and holds no more than about 40 bytes a message.
 #[derive(Drop)]
 pub struct Rows<'a> {
     // By it the names of flags are read.
@@ -123,7 +123,7 @@ impl<'a> Rows<'a> {
         }
     }
 
-    /// Adds what a reply tells of a message.
+    /// Adds what a reply reports about a message.
     fn add(&mut self, reply: &Reply<'_>) -> Result<(), AllocError>
         ensures { OnOk result (self.new ≡ record self.old { rows = rows_more self.old.keywords self.old.rows reply.now }) }
     {
@@ -150,7 +150,7 @@ impl<'a> ReplySink for Rows<'a> {
     }
 }
 
-/// Adds what is told of a message, if its UID is.
+/// Adds what is reported about a message, if its UID is.
 fn add_row(rows: &mut BTreeMap<u32, Row>, told: Told) -> Result<(), AllocError>
     ensures { OnOk result (rows.new.entries ≡ with_row rows.old.entries told.uid told) }
 {

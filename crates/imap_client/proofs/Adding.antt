@@ -150,7 +150,7 @@ module _ (n : ℕ) (name : List ℕ) (names : List (List ℕ)) (message : List �
   pub some_of : (bytes : List ℕ) (new : Server) → AddedSo n name m sent message bytes old new → AddsSome m sent message old new
   some_of bytes new a = record { uid = a.uid; under = a.under }
 
--- ---- what is told of it
+-- ---- what is reported about it
 
 by_same : (b : Bool) (n : ℕ) → ((if b then Exists n ∷ [] else []) ≡ []) ⊎ ((if b then Exists n ∷ [] else []) ≡ Exists n ∷ [])
 by_same true n = inr refl
@@ -201,7 +201,7 @@ module _ (keywords : List Keyword) (tag : List ℕ) (validity uid : ℕ) where
     | inr e ↦ given_behind n hs (subst (λ (xs : List Reply). AreHeardAs keywords hs (xs ++ ends ∷ [])) e l)
   ]
 
--- the UID is told, or none
+-- the UID is reported, or none
 pub record ToldSo (uid : ℕ) (r : Result (Option ℕ) FarFault) : Type 0 where
   pub told : Option ℕ
   pub is : r ≡ Ok told
@@ -316,7 +316,7 @@ where_mapped v keywords flags message r map Q old new a = record {
       subst (λ (f : ℕ). Outcome {T = Option ℕ} (Adds m f message) (NoUidLeft m) (AddsSome m f message) r a.mid new) (sent_kept keywords flags a.mid map q.1) (a.then q.0 m is);
 }
 
--- of a session that goes on behind a fault
+-- of a session that goes on after a fault
 module _ (was now : State) (old new : Server) (name : List ℕ) (validity next flags : ℕ) (message : List ℕ) where
   no_more : (b : Bool) → b ≡ true → b ≡ false → ⊥
   no_more b e f = let both : true ≡ false = sym e ∙ f in cc
@@ -343,7 +343,7 @@ module _ (was now : State) (old new : Server) (name : List ℕ) (validity next f
   pub err_selected : (f : FarFault) → EndsSo {T = Option ℕ} 1 was now (Err f) → now.is_ready ≡ true → (was.is_ready ≡ true → IsSelected name validity next old) → OutSo f → IsSelected name validity next new
   err_selected f e ready sel out = err_keeps (IsSelected name validity next) f e ready sel sel out
 
-  -- and behind an answer
+  -- and after an answer
   pub ok_selected : (told : Option ℕ) → EndsSo 1 was now (Ok told) → (was.is_ready ≡ true → IsSelected name validity next old)
       → (IsSelected name validity next old → (m : FarMailbox) → selected old ≡ Some m → Adds m flags message told old new) → IsSelected name validity (next_known next told) new
   ok_selected told e sel out =

@@ -1,4 +1,4 @@
--- The bytes that are told of one message.
+-- The bytes that are reported of one message.
 use Rattle.std.proofs.Common.{◌≡◌, ℕ, ◌+◌, ◌<◌, Bool, true, false, List, [], ◌∷◌, ◌++◌, refl, sym, ◌∙◌, ap, subst, Option, Some, None, arith}
 use Rattle.std.specs.Prelude.{find, ◌==◌, ◌||◌, if◌then◌else◌}
 use Rattle.std.specs.List.{fold}

@@ -159,7 +159,7 @@ pub record Became (change : Store → Store) (name : List ℕ) (validity next : 
   pub was_selected : IsSelected name validity next old
   pub after : new ≡ with_selected change old
 
--- behind a call that ended so, where the session goes on
+-- after a call that ended so, where the session goes on
 pub became : (T : Type 0) (change : Store → Store) (name : List ℕ) (validity next commands : ℕ) (was now : State) (old new : Server) (result : Result T FarFault) → EndsSo commands was now result → now.is_ready ≡ true
     → (was.is_ready ≡ true → IsSelected name validity next old)
     → ((m : FarMailbox) → selected old ≡ Some m → Outcome {T = T} (λ x. Becomes change) Never (Becomes change) result old new)

@@ -117,7 +117,7 @@ module _ (keywords : List Keyword) where
       subst (λ (b : Bool). AreHeardAs keywords (if b then h ∷ filter (is_used uses) hs else filter (is_used uses) hs) (filter (is_used uses) (s ∷ ss))) (sym (used_same keywords uses h s l.0))
       (kept_if (is_used uses s) h s (filter (is_used uses) hs) (filter (is_used uses) ss) l.0 (kept_heard uses hs ss l.1))
 
--- ---- all of them tell of messages
+-- ---- all of them are about messages
 
 read_if : (b : Bool) (place : ℕ) (list : List FetchItem) (rest tail : List Reply) → filter (is_used messages_read) (rest ++ tail) ≡ rest ++ tail
     → filter (is_used messages_read) ((if b then Fetch place list ∷ rest else rest) ++ tail) ≡ (if b then Fetch place list ∷ rest else rest) ++ tail

@@ -168,7 +168,7 @@ asks_in p [] n e lt = cc
 asks_in p (b ∷ []) n e lt = asked_in p b n e lt
 asks_in p (b ∷ c ∷ xs) n e lt = asks_in (next p b) (c ∷ xs) n e lt
 
--- nothing is asked for in it, nor in the line end behind it
+-- nothing is asked for in it, nor in the line end after it
 in_goes : (b : ℕ) (m : List ℕ) (k : ℕ) → k ≡ length (b ∷ m) → goes_from (phases.In k) ((b ∷ m) ++ crlf) ≡ []
 in_goes b [] k e = let one : nat_le k 1 ≡ true = grind (arith, e) in ap (λ (t : Bool). goes_from (if t then phases.Plain else phases.In (k - 1)) crlf) one
 in_goes b (c ∷ m) k e =

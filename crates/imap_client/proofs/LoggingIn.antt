@@ -198,7 +198,7 @@ module _ (user password : List ℕ) where
   not_yet faults.NoMemory old new (inl q) = inl q
   not_yet faults.NoMemory old new (inr e) = inl e
 
-  -- behind that
+  -- after that
   pub let_in : (result : Result (Unit {0}) FarFault) (old mid new : Server) → Authenticates user password old mid → Outcome (λ x. Remains) Never Remains result mid new → Ends result old new
   let_in (Ok x) old mid new a h = (a.0, h ∙ a.1)
   let_in (Err faults.Stopped) old mid new a (inl q) = inr (a.0, q ∙ a.1)

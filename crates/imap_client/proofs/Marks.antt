@@ -106,7 +106,7 @@ module _ (keywords : List Keyword) (mark : List ℕ) (from : ℕ) (named : ℕ �
   uid_sure low [] some r = refl
   uid_sure low (m ∷ ms) some r = uid_by (seeks m) m ms (uid_is low m ms some r) (uid_sure (m.uid + 1) ms (omega arith) r.2)
 
--- ---- no more is told than was asked for
+-- ---- no more is returned than was asked for
 
 -- the first 22 octets are at most 22
 fits_head : (bytes : List ℕ) → nat_lt head_size (length (take 22 bytes)) ≡ false

@@ -1,4 +1,4 @@
--- The names of a server's mailboxes are told.
+-- The names of a server's mailboxes are returned.
 use Rattle.std.proofs.Common.{◌≡◌, inr, ℕ, Bool, true, false, List, [], ◌∷◌, ◌++◌, refl, sym, ◌∙◌, ap, subst, append_assoc, append-nil, Some, None, Result, Err}
 use Rattle.std.specs.Prelude.{map, filter, if◌then◌else◌}
 use Rattle.std.specs.List.{fold, list_all}
@@ -46,7 +46,7 @@ module _ (n : ℕ) (old : Server) (logged : is_logged_in old.condition ≡ true)
       → Outcome {T = Unit {0}} (λ _ s t. HeardOf old.keywords names_read any_replies (told_first old ++ done (tag_text n) ∷ []) heard × (t ≡ old)) Never (λ s t. t ≡ old) result old new
   names_exchanged result heard new h = answered any_replies (command_at n (requests.List (42 ∷ []))) old (told_first old) (done (tag_text n)) old names_sure refl result heard new h
 
--- ---- what it tells
+-- ---- what it returns
 
 by_limits : (b : Bool) (names rest : List (List ℕ)) (x : List ℕ) → with_name names (if b then Some x else None) ++ rest ≡ names ++ (if b then x ∷ rest else rest)
 by_limits true names rest x = append_assoc names (x ∷ []) rest

@@ -1,4 +1,4 @@
--- UIDNEXT and UIDVALIDITY are told the same, whatever the map by which flags are read.
+-- UIDNEXT and UIDVALIDITY are reported the same, whatever the map by which flags are read.
 use Rattle.std.proofs.Common.{◌≡◌, Bool, true, false, List, [], ◌∷◌, refl}
 use Rattle.std.specs.Prelude.{if◌then◌else◌}
 use Rattle.std.specs.List.{fold}

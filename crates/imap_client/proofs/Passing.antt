@@ -120,7 +120,7 @@ module _ (v : Visitors) (name : List ℕ) (validity next : ℕ) (p : PassedMarks
 
 -- ---- a search
 
--- behind a search, where the mailbox is selected
+-- after a search, where the mailbox is selected
 pub search_passes : (begun after : PassedMarks) (name : List ℕ) (validity next : ℕ) (s : Server) → IsSelected name validity next s → Passes begun s
     → ((m : FarMailbox) → selected s ≡ Some m → next ≤ m.store.next → ArePassed m.store.next m.store.messages begun → ArePassed m.store.next m.store.messages after) → Passes after s
 search_passes begun after name validity next s is passes out m at = out m at (next_at_most m (selected s) next at is.2) (passes m at)
@@ -142,7 +142,7 @@ module _ (mark : List ℕ) (from below : ℕ) (behind : max from 1 ≤ below) wh
       and_false true e = e
       and_false false e = refl
 
-  -- the mark is found where it is found behind the messages that were passed
+  -- the mark is found where it is found after the messages that were passed
   pub marked_behind : (ms : List Message) → All (λ m. 0 < m.uid) ms → All (λ m. max from 1 ≤ m.uid → m.uid < below → is_mark (mark_of m.bytes) mark ≡ false) ms
       → marked_among mark below ms ≡ marked_among mark from ms
   marked_behind [] some other = refl

@@ -22,7 +22,7 @@ no_return b = not (b == 13)
 abbrev pub calm : List ℕ → Bool
 calm t = list_all no_return t
 
--- neither behind the CR of a literal nor in one
+-- neither after the CR of a literal nor in one
 abbrev pub soft : Phase → Bool
 soft phases.Plain = true
 soft phases.Brace = true

@@ -1,4 +1,4 @@
--- What is told of all messages, where they are listed.
+-- What is reported about all messages, where they are listed.
 use Rattle.std.proofs.Common.{◌≡◌, ℕ, ◌+◌, ◌<◌, ◌≤◌, Bool, true, List, [], ◌∷◌, ◌++◌, refl, sym, ◌∙◌, ap, append_assoc, append-nil, length, Some, None, arith}
 use Rattle.std.specs.Prelude.{map, nat_lt, nat_le, if◌then◌else◌, ◌==◌}
 use Rattle.std.specs.List.{fold}
@@ -34,7 +34,7 @@ use Rattle.imap_client.specs.Seen.{seen_message, seen_through}
 use Rattle.imap_client.proofs.Fetched.{replies_for}
 use Rattle.imap_client.proofs.Numbered.{Rise, Names, store_rises, names_from}
 
--- ---- a row behind those below it
+-- ---- a row after those below it
 
 abbrev Under : (top : ℕ) → List (ℕ × Row) → Type 0
 Under top [] = Unit {0}

@@ -132,12 +132,12 @@ module _ (n : ℕ) (name : List ℕ) (old : Server) where
   pub ok_chosen : (x : Unit {0}) (heard : List ℕ) (new : Server) → Exchanged (command_at n (requests.Select name)) any_replies (Ok x) heard old new → ChosenBy name (tag_text n) heard old new
   ok_chosen = by_login (is_logged_in old.condition) refl
 
--- ---- what is told
+-- ---- what is reported
 
 abbrev pub told_of : FarMailbox → Opening
 told_of m = record { next = Some m.store.next; validity = Some m.store.validity; is_read_only = false }
 
--- its numbers are told, by whichever map flags are read
+-- its numbers are reported, by whichever map flags are read
 abbrev pub HasNumbers : FarMailbox → Opening → Type 0
 HasNumbers m o = AreSame o (told_of m)
 
@@ -175,7 +175,7 @@ module _ (name tag bytes : List ℕ) (old new : Server) (c : ChosenBy name tag b
       read_so ∙ ap (λ (k : List Keyword). opening_of k c.heard.replies) (sym has) ∙ said_so
       ∙ ap (told_if old.keywords c.mailbox tag) (permits_known old.keywords (has_name star (all_names old.keywords)) (subst IsMap (sym has) map))
 
--- ---- behind it
+-- ---- after it
 
 module _ (name tag bytes : List ℕ) (old new : Server) where
   pub effect_so : ChosenBy name tag bytes old new → Chooses name old new

@@ -56,7 +56,7 @@ module _ (n : ℕ) (tag : List ℕ) (same : tag ≡ tag_text n) (status : Status
   judged_ends (Err faults.ReadOnly) old new j h = absurd j
   judged_ends (Err faults.NoMemory) old new j h = absurd j
 
--- a command failed, in a call that tells so of NO and BAD
+-- a command failed, in a call that reports NO and BAD as such
 module _ (n : ℕ) (heard : List ℕ) (T : Type 0) (m : Meaning T) (no : (bytes : List ℕ) → Answers n statuses.No bytes → m.refused bytes) (bad : (bytes : List ℕ) → Answers n statuses.Bad bytes → m.protocol bytes) where
   pub command_ends : (f : FarFault) (old new : List (List ℕ)) → EndsBy (of_command n heard) (Err f) old new → EndsBy m (Err f) old new
   command_ends faults.Stopped old new e = e
@@ -167,7 +167,7 @@ opened_so o validity next read_only n v r =
     ∙ ap (λ (x : Option ℕ). (let y : Opening = record { next = Some next; validity = x; is_read_only = o.is_read_only } in y)) v
     ∙ ap (λ (x : Bool). (let y : Opening = record { next = Some next; validity = Some validity; is_read_only = x } in y)) r
 
--- what is told of the mailbox is that of an answer that was read
+-- what is reported about the mailbox is that of an answer that was read
 module _ (keywords : List Keyword) (T : Type 0) (told : T → Opening) (n : ℕ) (heard : List ℕ) (old new : List (List ℕ)) (h : Hears (λ bytes. Answers n statuses.Ok bytes × (bytes ≡ heard)) old new)
     (o : Opening) (is : (rs : List Reply) → AreReplies rs heard → o ≡ opening_of keywords rs) where
   lacks : LacksNumber o → EndsBy (of_select keywords n told) (Err faults.Protocol) old new

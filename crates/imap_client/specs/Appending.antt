@@ -41,7 +41,7 @@ pub record AddsSome (m : FarMailbox) (flags : ℕ) (bytes : List ℕ) (old new :
   pub uid : ℕ
   pub under : AddsUnder m flags bytes uid old new
 
--- the UID that was told, if one was, is that of the message
+-- the UID that was reported, if one was, is that of the message
 abbrev pub IsTold : Option ℕ → (uid : ℕ) → Type 0
 IsTold None uid = Unit {0}
 IsTold (Some told) uid = told ≡ uid
@@ -83,7 +83,7 @@ FrontText tag name flags count =
 
 -- ---- a command that is sent in two parts
 
--- the command is the front, behind which its literal is asked for, and then the rest
+-- the command is the front, then the server asks for its literal, and then comes the rest
 pub record InTwo (tag front rest : List ℕ) (c : Command) : Type 0 where
   pub tag_is : c.tag ≡ tag
   pub stays : is_logout c.request ≡ false

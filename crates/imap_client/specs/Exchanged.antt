@@ -17,7 +17,7 @@ use Rattle.imap_client.specs.Tags.{tag_text}
 abbrev pub command_at : (n : ℕ) → Request → Command
 command_at n request = record { tag = tag_text n; request = request }
 
--- In what follows T holds of those of the replies that tell of messages.
+-- In what follows T holds of those of the replies that are about messages.
 
 -- the server did the command, and said so with this status
 pub record RepliedWith (c : Command) (status : Status) (T : List Reply → Type 0) (old new : Server) : Type 0 where

@@ -29,7 +29,7 @@ final_status [] = None
 final_status (r ∷ []) = status_of r
 final_status (r ∷ q ∷ rs) = final_status (q ∷ rs)
 
--- The bytes are those that the call keeps of replies as which these were heard. T holds of those that tell of messages.
+-- The bytes are those that the call keeps of replies as which these were heard. T holds of those that are about messages.
 pub record HeardOf (keywords : List Keyword) (uses : Uses) (T : List Reply → Type 0) (said : List Reply) (bytes : List ℕ) : Type 0 where
   pub replies : List Reply
   pub spelled : AreReplies (filter (is_used uses) replies) bytes

@@ -13,6 +13,6 @@ module _ {L : Type 0} {links : link.Ghosts L} where
   abbrev pub line_of : Session L links → Line
   line_of s = links.line s.wire.link
 
-  -- the server behind its link, but for news that it has not told yet
+  -- the server at the other end of its link, but for news that it has not reported yet
   abbrev pub server_of : Session L links → Server
   server_of s = told_server (line_of s)

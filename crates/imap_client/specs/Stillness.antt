@@ -1,4 +1,4 @@
--- An idle connection, told by values alone.
+-- An idle connection, described by values alone.
 use Rattle.std.specs.Prelude.{◌≡◌, Bool, true, false, [], ◌∷◌}
 use Rattle.imap_session.specs.Servers.{is_over}
 use Rattle.imap_session.specs.Unread.{Kept, Whole, Dropping}

@@ -141,7 +141,7 @@ pub data Unanswered (n : ℕ) (old new : List (List ℕ)) : Type 0 where
   Named : Hears (Says (n + 1) statuses.Ok NamesRev2) old new → Unanswered n old new
   LetIn : HearsTwo n (Answers (n + 2) statuses.Ok) old new → Unanswered n old new
 
--- What a login has heard behind n commands of the connection, by how it ends.
+-- What a login has heard after n commands of the connection, by how it ends.
 abbrev pub LoginHears : (n : ℕ) → Result (Unit {0}) FarFault → (old new : List (List ℕ)) → Type 0
 LoginHears n (Ok _) old new = HearsThree n (Answers (n + 3) statuses.Ok) old new
 LoginHears n (Err Stopped) old new = Unanswered n old new
@@ -154,7 +154,7 @@ LoginHears n (Err NoMemory) old new = Unanswered n old new ⊎ Hears (Answers (n
 
 -- ---- SELECT
 
--- UIDNEXT and UIDVALIDITY are told
+-- UIDNEXT and UIDVALIDITY are reported
 abbrev pub TellsNumbers : Opening → Type 0
 TellsNumbers o = (is_some o.next && is_some o.validity) ≡ true
 

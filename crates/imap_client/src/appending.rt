@@ -44,8 +44,8 @@ use wire_tokens::tag::Tag;
 impl<L: Link> Session<L> {
     ghost use Rattle.imap_client.specs.Sessions.{state_of, line_of, server_of};
 
-    // Sends the front of a command, and waits until its literal is asked for. An answer in place of that refuses the
-    // command, or breaks the protocol.
+    // Sends the front of a command, and waits until the server asks for its literal. If the server answers instead, it refuses the command
+    // or breaks the protocol.
     fn offer(&mut self, tag: &Tag, front: &[u8]) -> Result<(), FarFault>
         requires front { IsFront tag.now front.now }
         requires begun { self.old.is_ready ≡ false }
@@ -106,7 +106,7 @@ impl<L: Link> Session<L> {
         self.deliver(&tag, &front, addition.octets)
     }
 
-    // What the replies that were read tell of a message that was added.
+    // What the replies that were read report about a message that was added.
     fn given(&self) -> Result<Option<Given>, FarFault>
         requires { Speaks self.now.wire.heard.read }
         ensures told { IfOk result (λ given. (rs : List Reply) → AreReplies rs self.now.wire.heard.read → given ≡ given_in rs) }
@@ -146,12 +146,11 @@ impl<L: Link> Session<L> {
 impl<L: Link> FarBox<L> {
     ghost use Rattle.imap_client.specs.Sessions.{state_of, server_of};
 
-    /// Adds a message of 1 to 16777238 bytes, none of them NUL, with those of these flags that have a name, and tells its UID if the
-    /// server does.
+    /// Adds a message of 1 to 16777238 bytes, none of them NUL, with those of these flags that have a name. Returns its UID if the server
+    /// reports it.
     ///
-    /// The server gets the message once it has asked for it. `Refused`: it has no UID left. `Protocol`: it says that the
-    /// message was added before it has asked for it, or tells a UID of another UIDVALIDITY, or one that was given before,
-    /// too.
+    /// The server gets the message once it has asked for it. `Refused`: it has no UID left. `Protocol`: it says that the message was added
+    /// before it has asked for it, or reports a UID of another UIDVALIDITY, or one that was given before, too.
     pub fn append(&mut self, bytes: &[u8], flags: Flags) -> Result<Option<Uid>, FarFault>
         requires { IsMessage bytes.now }
         ensures was_honest { L.honest self.new.session.wire.link → L.honest self.old.session.wire.link }

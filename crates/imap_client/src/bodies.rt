@@ -56,7 +56,7 @@ impl<L: Link> FarBox<L> {
 
     /// The bytes of a message, or none where it is not there: one UID FETCH. They are lent until the next call.
     ///
-    /// `Protocol`: the server tells them as NIL, or quoted with a backslash, too.
+    /// `Protocol`: the server reports them as NIL, or quoted with a backslash, too.
     pub fn fetch(&mut self, uid: Uid) -> Result<Option<&[u8]>, FarFault>
         ensures* behind { sem 𝓛 (follows_so (the_row L.row L.Link) (the_row L.row L.Link) self.entry.ghost_name none (λ _ _. ⊤)
             (λ after. (L.honest after.session.wire.link → L.honest self.old.session.wire.link)

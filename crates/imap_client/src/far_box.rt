@@ -47,8 +47,8 @@ pub struct FarBox<L: Link> {
     pub(crate) is_selected: bool,
     pub(crate) name: Vec<u8>,
     pub(crate) validity: u32,
-    // A UID that is above those of all messages of which the server has told: those that were there when the mailbox was
-    // selected, and those that were added since, where their UIDs were told.
+    // A UID that is above those of all messages that the server has reported: those that were there when the mailbox was selected, and
+    // those that were added since, where their UIDs were reported.
     pub(crate) next: u32,
     // Where the bytes of the message that was fetched last stand in the replies that were read last.
     pub(crate) body: FoundBody,
@@ -81,7 +81,7 @@ impl<L: Link> Session<L> {
     /// back, and the map is dropped.
     ///
     /// `Refused`: there is no such mailbox. `ReadOnly`: it cannot be changed, or cannot keep each flag that has a name.
-    /// `Protocol`: UIDNEXT or UIDVALIDITY was not told, too.
+    /// `Protocol`: UIDNEXT or UIDVALIDITY was not reported, too.
     pub fn select(
         self,
         name: &[u8],
@@ -269,7 +269,7 @@ impl<L: Link> FarBox<L> {
         self.session.login(user, password)
     }
 
-    /// Selects the mailbox of this name, over the session as it stands. Behind a fault the box is closed.
+    /// Selects the mailbox of this name, over the session as it stands. After a fault the box is closed.
     ///
     /// Faults: as those of `Session::select`.
     pub fn enter(&mut self, name: &[u8]) -> Result<(), FarFault>
@@ -314,15 +314,15 @@ impl<L: Link> FarBox<L> {
         self.session.is_ready()
     }
 
-    /// The UIDVALIDITY that was told when the mailbox was selected.
+    /// The UIDVALIDITY that was reported when the mailbox was selected.
     pub fn validity(&self) -> u32
         ensures { result ≡ self.now.validity }
     {
         self.validity
     }
 
-    /// The least UID that the next message can get, as far as it is known: UIDNEXT as it was told when the mailbox was selected
-    /// (RFC 9051, section 2.3.1.1), or one above the UID that was told of a copy since.
+    /// The least UID that the next message can get, as far as it is known: UIDNEXT as SELECT reported it (RFC 9051, section 2.3.1.1), or
+    /// one above the UID that was reported for a copy since.
     pub fn next(&self) -> u32
         ensures { result ≡ self.now.next }
     {
@@ -350,7 +350,7 @@ impl<L: Link> FarBox<L> {
         (session, keywords)
     }
 
-    /// Sets those of these flags of a message that have a name. A message that is not there is passed over.
+    /// Sets those of these flags of a message that have a name. A message that is not there is skipped.
     pub fn add_flags(&mut self, uid: Uid, flags: Flags) -> Result<(), FarFault>
         ensures was_honest { L.honest self.new.session.wire.link → L.honest self.old.session.wire.link }
         ensures letters { L.honest self.new.session.wire.link → KeepsMap (server_of self.old.session) (server_of self.new.session) }

@@ -30,8 +30,8 @@ use mailcore::listing::{Items, Listing};
 impl<L: Link> Session<L> {
     ghost use Rattle.imap_client.specs.Sessions.{state_of, server_of};
 
-    /// The messages of the selected mailbox, where flags have the names of this map. What is told of them is taken reply by reply, as it
-    /// is heard.
+    /// The messages of the selected mailbox, where flags have the names of this map. What is reported about them is taken reply by reply,
+    /// as it is heard.
     pub(crate) fn items(&mut self, keywords: &Keywords) -> Result<Items, FarFault>
         requires map { IsMap keywords.now }
         ensures was_honest { L.honest self.new.wire.link → L.honest self.old.wire.link }
@@ -58,10 +58,10 @@ impl<L: Link> Session<L> {
 impl<L: Link> FarBox<L> {
     ghost use Rattle.imap_client.specs.Sessions.{state_of, server_of};
 
-    /// What the mailbox lists, with those flags that have a name: one UID FETCH. It does not tell UIDNEXT: the next UID is the one that was told last, by SELECT or for
-    /// a message that was added, or one above the greatest UID that is listed, if that is more.
+    /// What the mailbox lists, with those flags that have a name: one UID FETCH. It does not report UIDNEXT: the next UID is the one that
+    /// was reported last, by SELECT or for a message that was added, or one above the greatest UID that is listed, if that is more.
     ///
-    /// `Protocol`: a message is told without its flags or its size, or under 4294967295, too.
+    /// `Protocol`: a message is reported without its flags or its size, or under 4294967295, too.
     pub fn list(&mut self) -> Result<Listing, FarFault>
         ensures was_honest { L.honest self.new.session.wire.link → L.honest self.old.session.wire.link }
         ensures letters { L.honest self.new.session.wire.link → KeepsMap (server_of self.old.session) (server_of self.new.session) }

@@ -44,9 +44,9 @@ impl<L: Link> Session<L> {
         Ok(())
     }
 
-    /// The names of all mailboxes, in the order in which the server tells them. Names outside the limits are passed over.
+    /// The names of all mailboxes, in the order in which the server returns them. Names outside the limits are skipped.
     ///
-    /// `Refused`: the server tells none.
+    /// `Refused`: the server returns none.
     pub fn list(&mut self) -> Result<Vec<MailboxName>, FarFault>
         ensures was_honest { L.honest self.new.wire.link → L.honest self.old.wire.link }
         ensures counts { L.stops self.old.wire.link ≤ L.stops self.new.wire.link }
@@ -62,7 +62,7 @@ impl<L: Link> Session<L> {
         Ok(names)
     }
 
-    // The names that the replies that were read tell.
+    // The names that the replies that were read return.
     fn names(&self) -> Result<Vec<MailboxName>, FarFault>
         requires { Speaks self.now.wire.heard.read }
         ensures told { IfOk result (λ names. (rs : List Reply) → AreReplies rs self.now.wire.heard.read → names.items ≡ names_in rs) }

@@ -27,7 +27,7 @@ use passed_marks::PassedMarks;
 impl<L: Link> Session<L> {
     ghost use Rattle.imap_client.specs.Sessions.{state_of, server_of};
 
-    /// Where the mark stands in the selected mailbox, behind the messages that were passed; those that are shown are passed then. The
+    /// Where the mark stands in the selected mailbox, after the messages that were passed; those that are shown are passed then. The
     /// next UID of the mailbox is at least `next`. The mark is sought reply by reply, as they are heard.
     pub(crate) fn mark(
         &mut self,
@@ -63,10 +63,10 @@ impl<L: Link> FarBox<L> {
     ghost use Rattle.imap_client.specs.Sessions.{state_of, server_of};
 
     /// The least UID of at least `from` whose message has the mark: one UID FETCH of the first 22 octets. It asks for the messages
-    /// behind those of which earlier searches know that they do not have it. A message below these that the server sends, since `*`
+    /// after those of which earlier searches know that they do not have it. A message below these that the server sends, since `*`
     /// names the last one, never counts.
     ///
-    /// `Protocol`: the server shows more than 22 octets of a message, or tells the mark under 4294967295, too.
+    /// `Protocol`: the server shows more than 22 octets of a message, or shows the mark under 4294967295, too.
     pub fn find_mark(&mut self, mark: Tuid, from: u32) -> Result<Option<Uid>, FarFault>
         ensures was_honest { L.honest self.new.session.wire.link → L.honest self.old.session.wire.link }
         ensures letters { L.honest self.new.session.wire.link → KeepsMap (server_of self.old.session) (server_of self.new.session) }

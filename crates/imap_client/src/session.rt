@@ -175,7 +175,7 @@ impl<L: Link> Session<L> {
         Ok(Command { tag, request })
     }
 
-    // Sends a command of one line and waits for its answer, which was read then. The sink takes what is told of messages.
+    // Sends a command of one line and waits for its answer, which was read then. The sink takes what is reported about messages.
     fn send<S: ReplySink>(&mut self, command: &Command, sink: &mut S) -> Result<Status, FarFault>
         requires plain { IsPlain command.now.request }
         requires stays { is_logout command.now.request ≡ false }
@@ -239,7 +239,7 @@ impl<L: Link> Session<L> {
     }
 
     /// Begins a call that sends this: sends it and waits for its answer, whatever its status. What was read then is the replies
-    /// that the call keeps, and the tagged one; the sink has taken what is told of messages. The session counts as failed until
+    /// that the call keeps, and the tagged one; the sink has taken what is reported about messages. The session counts as failed until
     /// `done`.
     pub(crate) fn ask_status<S: ReplySink>(
         &mut self,
@@ -287,7 +287,7 @@ impl<L: Link> Session<L> {
         self.judge(status)
     }
 
-    /// The same, where nobody is told.
+    /// The same, where the replies go to no sink.
     pub(crate) fn ask(&mut self, call: &Call<'_>) -> Result<(), FarFault>
         requires { CanAsk call.now }
         ensures was_honest { L.honest self.new.wire.link → L.honest self.old.wire.link }

@@ -121,7 +121,7 @@ back_none : (a b : List ℕ) → a ++ b ≡ [] → b ≡ []
 back_none [] b e = e
 back_none (x ∷ a) b e = cc
 
--- behind replies that are passed over
+-- after replies that are skipped
 pub none_astray : (tag text rest coming : List ℕ) (us : List Reply) → AreUntagged us → AreReplies us text → coming ≡ text ++ rest → Expects tag coming → Astray tag rest → ⊥
 none_astray tag text rest coming us u a e (inl none) s = nothing_astray tag rest (back_none text rest (sym e ∙ none)) s
 none_astray tag text rest coming us u a e (inr x) s = walk tag us x.passed x.last text rest coming u a x.untagged x.is x.spelled (sym e) s

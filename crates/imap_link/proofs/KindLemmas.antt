@@ -38,7 +38,7 @@ awaited_not Go a p = cc
 awaited_not (Mine status) a p = cc
 awaited_not Stray a p = a
 
--- what is waited for is not passed over
+-- what is waited for is not skipped
 pub awaited_stays : (tag : List ℕ) (r : Reply) → IsAwaited (kind_of tag r) → is_passed r ≡ true → ⊥
 awaited_stays tag r a p = awaited_not (kind_of tag r) a (sym (passes_is tag r) ∙ p)
 

@@ -71,7 +71,7 @@ pub bounded_on : (uses : Uses) (most : ℕ) (before heard : Buffer) (rs : List R
 bounded_on uses most before heard rs short a b =
     bounded_by uses (max 4096 most) heard rs before.read a (behind_may before.read (max 4096 (length before.unread)) (max 4096 most) (held_in heard) (omega (arith, short)) b)
 
--- what is left behind a whole reply
+-- what is left after a whole reply
 unread_short : (most : ℕ) (old : List ℕ) (b : Buffer) (len : ℕ) (G : List ℕ → Type 0) → WholeRead len G old b.read → Behind old most (held_in b) → length b.unread ≤ most
 unread_short most old b len G w d =
     let same : w.text ++ b.unread ≡ d.more =

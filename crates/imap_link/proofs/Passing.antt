@@ -1,4 +1,4 @@
--- Replies that are passed over, of which those that the call keeps stay.
+-- Replies that are skipped; of these, the ones that the call keeps stay.
 use Rattle.std.proofs.Common.{◌≡◌, ℕ, ◌-◌, Bool, true, false, List, [], ◌∷◌, ◌++◌, refl, sym, ◌∙◌, ap, subst, arith, append_assoc, append-nil, length, take, length-append, Some}
 use Rattle.std.specs.Prelude.{filter, if◌then◌else◌}
 use Rattle.std.proofs.lemmas.List.{take-append-le, take_all}
@@ -46,7 +46,7 @@ tagged_used uses (Fetch n items) t e = cc
 tagged_used uses (Other word text) t e = cc
 tagged_used uses (OtherNumbered n event text) t e = cc
 
--- a used reply behind others
+-- a used reply after others
 pub used_last : (uses : Uses) (rs : List Reply) (r : Reply) → is_used uses r ≡ true → filter (is_used uses) (rs ++ r ∷ []) ≡ filter (is_used uses) rs ++ r ∷ []
 used_last uses rs r e = filter-append (is_used uses) rs (r ∷ []) ∙ ap (λ (b : Bool). filter (is_used uses) rs ++ (if b then r ∷ [] else [])) e
 
@@ -98,7 +98,7 @@ module _ (uses : Uses) (tag : List ℕ) (kind : Kind) (used : Bool) (len : ℕ) 
       subst (λ (l : List Reply). AreReplies l (old ++ (if used then text else [])))
       (sym (filter-append (is_used uses) p.replies (reply ∷ []) ∙ ap (λ (v : Bool). filter (is_used uses) p.replies ++ (if v then reply ∷ [] else [])) b.used_is)) (kept_by used)
 
-  -- it is passed over
+  -- it is skipped
   passed_more : (now : List ℕ) → now ≡ old ++ (if used then text else []) → passes kind ≡ true → Passed uses U now H
   passed_more now is e = record {
     replies = p.replies ++ reply ∷ [];
@@ -137,7 +137,7 @@ pub unread_same : (used : Bool) (len : ℕ) (b now : Buffer) → now ≡ (if use
 unread_same true len b now e = ap (λ (x : Buffer). x.unread) e
 unread_same false len b now e = ap (λ (x : Buffer). x.unread) e
 
--- the same, of a link that kept its word and a sink that took the reply
+-- the same, of a link that behaved as specified and a sink that took the reply
 module _ {S : Type 0} (took : S → List Reply → S → Type 0) (s0 s1 s2 : S) (was_honest honest : Type 0) (was : honest → was_honest) (first mid now : Ends) (uses : Uses) (tag : List ℕ) (kind : Kind) (used : Bool) (len : ℕ)
     (old new : List ℕ) (b : Reads uses tag kind used len (λ reply. (s : S) (told : List Reply) → took s told s1 → took s (told ++ telling (reply ∷ [])) s2) (λ text. honest → GoesOn mid now text) old new)
     (p : Passed uses (λ told. took s0 told s1) old (λ text. was_honest → GoesOn first mid text)) where
@@ -178,7 +178,7 @@ text_of uses T P kept G a = record { passed = a.passed; untagged = a.untagged; l
 pub came_at : (uses : Uses) (T : List Reply → Type 0) (P : Reply → Type 0) (kept : List ℕ) (H : Type 0) (G : List ℕ → Type 0) → Came uses T P kept (λ text. H → G text) → H → Came uses T P kept G
 came_at uses T P kept H G a h = record { passed = a.passed; untagged = a.untagged; last = a.last; is = a.is; text = a.text; spelled = a.spelled; used = a.used; told = a.told; goes = a.goes h }
 
--- what was told
+-- what the replies reported
 pub came_told : (uses : Uses) (T : List Reply → Type 0) (tag : List ℕ) (was is : Told) (read : List ℕ) (H : Type 0) (old new : Ends) → was ≡ is
     → Came uses T (IsTold tag was) read (λ text. H → GoesOn old new text) → H → Came uses T (IsTold tag is) read (GoesOn old new)
 came_told uses T tag was is read H old new e a h =

@@ -1,4 +1,4 @@
--- What the server did, once it had told its news.
+-- What the server did, once it had reported its news.
 use Rattle.std.specs.Prelude.{filter}
 use Rattle.std.proofs.Common.{◌≡◌, inl, inr, ℕ, Bool, true, false, List, [], ◌∷◌, ◌++◌, refl, sym, ◌∙◌, ap, subst, length, Option, None, Some, if◌then◌else◌}
 use Rattle.mailcore.specs.declared.keywords.Keyword.{Keyword}
@@ -20,7 +20,7 @@ use Rattle.imap_link.specs.declared.uses.Uses.{Uses}
 use Rattle.imap_link.specs.UsedReplies.{is_used}
 use Rattle.imap_link.specs.Exchanges.{Performs, PerformsSo}
 
--- ---- the news is passed over
+-- ---- the news is skipped
 
 -- PERMANENTFLAGS is kept or not by the word before it alone
 by_kind : (uses : Uses) (kind : NoticeKind) (heard said : List (List ℕ)) (text : List ℕ)

@@ -20,7 +20,7 @@ at_then v front old heard mid h at = record {
   coming = at.coming;
 }
 
--- the news of a visit may have been told, before it and behind it
+-- the news of a visit may have been reported, before it and after it
 pub both_told : (v : Visitors) (s t : Server) → Visits v s t → Visits v (told s) (told t)
 both_told v s t h = record { user = h.user; password = h.password; keywords = h.keywords; condition = h.condition; gains = h.gains; nobody = h.nobody }
 
@@ -28,7 +28,7 @@ both_told v s t h = record { user = h.user; password = h.password; keywords = h.
 pub after_so : (v : Visitors) (P Q : Line → Type 0) (old : Line) → ((mid : Server) → Visits v old.end.server mid → P (visited old mid) → Q (visited old mid)) → AfterVisits v P old → AfterVisits v Q old
 after_so v P Q old f a = record { mid = a.mid; visits = a.visits; then = f a.mid a.visits a.then }
 
--- in the words of the server, once its news is told
+-- in the words of the server, once its news is reported
 pub among_told : (v : Visitors) (P : Line → Type 0) (Q : Server → Server → Type 0) (old new : Line) → ((mid : Server) → Visits v old.end.server mid → P (visited old mid) → Q (told mid) (told_server new)) → AfterVisits v P old
     → Among v Q (told_server old) (told_server new)
 among_told v P Q old new f a = record { mid = told a.mid; visits = both_told v old.end.server a.mid a.visits; then = f a.mid a.visits a.then }

@@ -18,7 +18,7 @@ use Rattle.imap_link.specs.Sinks.{telling}
 
 -- ---- one reply
 
--- A reply of so many bytes was read, behind those before; `Goes` says what became of its text.
+-- A reply of so many bytes was read, after those before; `Goes` says what became of its text.
 pub record WholeRead (len : ℕ) (Goes : List ℕ → Type 0) (old new : List ℕ) : Type 0 where
   pub reply : Reply
   pub text : List ℕ
@@ -34,7 +34,7 @@ pub record Reads (uses : Uses) (tag : List ℕ) (kind : Kind) (used : Bool) (len
   pub used_is : is_used uses whole.reply ≡ used
   pub told : T whole.reply
 
--- this text was heard: what is to be heard now stands behind it
+-- this text was heard: what is to be heard now follows it
 pub record GoesOn (old new : Ends) (text : List ℕ) : Type 0 where
   pub stays : Stays old.end new.end
   pub coming : old.coming ≡ text ++ new.coming
@@ -80,7 +80,7 @@ Expects tag coming = (coming ≡ []) ⊎ EndsIn (λ r. IsAwaited (kind_of tag r)
 -- ---- replies that the call does not keep are dropped
 
 -- What was read is the replies that the call keeps, of those that this record names. Their whole text is not kept, and
--- `Goes` says what became of it; T holds of those that tell of messages.
+-- `Goes` says what became of it; T holds of those that are about messages.
 pub record Passed (uses : Uses) (T : List Reply → Type 0) (kept : List ℕ) (Goes : List ℕ → Type 0) : Type 0 where
   pub replies : List Reply
   pub untagged : AreUntagged replies
@@ -113,7 +113,7 @@ pub record OneMore (most : ℕ) (bytes : List ℕ) : Type 0 where
   pub none : NoneWhole begun
   pub short : length piece ≤ most
 
--- such bytes stand behind these
+-- such bytes follow these
 pub record Behind (front : List ℕ) (most : ℕ) (bytes : List ℕ) : Type 0 where
   pub more : List ℕ
   pub parts : bytes ≡ front ++ more

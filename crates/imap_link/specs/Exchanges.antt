@@ -19,7 +19,7 @@ use Rattle.imap_link.specs.Buffers.{IsAnswerText}
 use Rattle.imap_link.specs.Sinks.{telling}
 use Rattle.imap_link.specs.Outcomes.{Outcome, Never}
 
--- Each server here is one that has told its news, if it had any: calls pass over that.
+-- Each server here is one that has reported its news, if it had any: calls skip that.
 
 -- the server did the command, with some replies
 pub record Performs (c : Command) (old new : Server) : Type 0 where
@@ -33,7 +33,7 @@ pub record PerformsSo (c : Command) (heard : List Reply) (old new : Server) : Ty
   pub heard_as : AreHeardAs old.keywords heard said
 
 -- The server did the command. These bytes are those of its replies that the call keeps, of which the last has this status, and
--- T holds of those that tell of messages.
+-- T holds of those that are about messages.
 pub record Replied (c : Command) (status : Status) (T : List Reply → Type 0) (bytes : List ℕ) (old new : Server) : Type 0 where
   pub text : IsAnswerText c.tag status bytes
   pub replies : List Reply
@@ -41,7 +41,7 @@ pub record Replied (c : Command) (status : Status) (T : List Reply → Type 0) (
   pub told : T (telling replies)
   pub did : PerformsSo c replies old new
 
--- the bytes are what is missing of the command, behind what the server has read; its call reads these replies
+-- the bytes are what is missing of the command, after what the server has read; its call reads these replies
 pub record Completes (c : Command) (uses : Uses) (tag from rest : List ℕ) : Type 0 where
   pub text : IsText c (from ++ rest)
   pub asks_no_more : goes_in (from ++ rest) ≡ goes_in from
@@ -55,14 +55,14 @@ Exchanges uses tag rest T result old coming new read =
     (c : Command) (from : List ℕ) → Completes c uses tag from rest → IsAt from (ends_of old coming)
     → Outcome (λ status. Replied c status T read) Never (Performs c) result (told_server old) (told_server new)
 
--- where it has an answer, nothing is on the way behind that
+-- if it has an answer, nothing is on the way after that
 abbrev pub StaysIdle : (uses : Uses) → (tag rest : List ℕ) → (old : Line) (old_coming : List ℕ) (new : Line) (new_coming : List ℕ) → Type 0
 StaysIdle uses tag rest old old_coming new new_coming =
     (c : Command) (from : List ℕ) → Completes c uses tag from rest → is_logout c.request ≡ false → IsAt from (ends_of old old_coming) → IsIdle (ends_of new new_coming)
 
 -- ---- a literal
 
--- the server waits for the literal, and nothing is on the way behind its `+`
+-- the server waits for the literal, and nothing is on the way after its `+`
 pub record Waits (front : List ℕ) (old new : Line) (coming : List ℕ) : Type 0 where
   pub quiet : Quiet (told_server old) (told_server new)
   pub at : IsAt front (ends_of new coming)

@@ -16,7 +16,7 @@ heard_fault wire.LineTooLong = TooLong
 heard_fault (wire.LiteralTooLong at) = TooLong
 heard_fault wire.NoMemory = NoMemory
 
--- what a stop or want of memory tells; an honest server gives cause for no other fault
+-- the faults of a stop or of too little memory; an honest server causes no other fault
 abbrev pub IsStop : FarFault → Type 0
 IsStop Stopped = Unit {0}
 IsStop Refused = ⊥
@@ -26,7 +26,7 @@ IsStop NoRev2 = ⊥
 IsStop ReadOnly = ⊥
 IsStop NoMemory = Unit {0}
 
--- what hearing replies tells; a refusal, and what a server lacks, are for the session to tell
+-- the faults that hearing replies reports; a refusal, and what a server lacks, are reported by the session
 abbrev pub IsHearing : FarFault → Type 0
 IsHearing Stopped = Unit {0}
 IsHearing Refused = ⊥

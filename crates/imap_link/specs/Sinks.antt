@@ -1,9 +1,9 @@
--- Who is told replies as they are heard.
+-- What is given replies as they are heard.
 use Rattle.std.specs.Prelude.{List, filter}
 use Rattle.imap_replies.specs.declared.reply.Reply.{Reply}
 use Rattle.imap_link.specs.UsedReplies.{messages_read, is_used}
 
--- those of the replies that tell of messages, `+` and tagged ones
+-- those of the replies that are about messages, `+` and tagged ones
 abbrev pub telling : List Reply → List Reply
 telling replies = filter (is_used messages_read) replies
 

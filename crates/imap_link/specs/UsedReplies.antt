@@ -28,7 +28,7 @@ opening_read = record answer_alone { opening = true }
 abbrev pub messages_read : Uses
 messages_read = record answer_alone { messages = true }
 
--- FETCH of whole messages: their octets are lent from the buffer; what else is told of messages, is taken as it is heard
+-- FETCH of whole messages: their octets are lent from the buffer; what else is reported about messages is taken as it is heard
 abbrev pub fetch_uses : FetchItems → Uses
 fetch_uses wanted.Listing = answer_alone
 fetch_uses wanted.Body = messages_read

@@ -9,6 +9,6 @@ use Rattle.imap_link.specs.Buffers.{WholeRead, GoesOn}
 abbrev pub ends_in : {L : Type 0} → (line : L → Line) → Wire L → Ends
 ends_in line wire = ends_of (line wire.link) wire.heard.unread
 
--- a whole reply of so many bytes was read; where the link is honest, what is to be heard now stands behind it
+-- a whole reply of so many bytes was read; where the link is honest, what is to be heard now follows it
 abbrev pub HearsWhole : {L : Type 0} → (honest : L → Type 0) → (line : L → Line) → (len : ℕ) → (old new : Wire L) → Type 0
 HearsWhole honest line len old new = WholeRead len (λ text. honest new.link → GoesOn (ends_in line old) (ends_in line new) text) old.heard.read new.heard.read

@@ -42,7 +42,7 @@ fn text_to_send(alloc: Global, copy: CopyPieces<'_>) -> Result<Vec<u8>, AllocErr
 /// the bytes that are sent are read. A link that cannot know that of the other end is not honest, and promises its counts of
 /// stops alone.
 pub trait Link {
-    /// The server and what lies between have kept their word so far.
+    /// The server and what lies between have behaved as specified so far.
     ghost honest: { Self → Type 0 };
 
     /// Both ends of the connection.
@@ -80,7 +80,7 @@ pub trait Link {
         }
     }
 
-    /// Writes the next bytes to the front of the piece, and tells how many; none at their end.
+    /// Writes the next bytes to the front of the piece, and returns how many; none at their end.
     fn recv(&mut self, piece: &mut [u8]) -> Result<usize, LinkFault>
         requires { 0 < length piece.old }
         ensures within { IfOk result (λ n. n ≤ length piece.new) }

@@ -1,4 +1,4 @@
-//! Who is told what a server says of messages, reply by reply as it is heard.
+//! What is given the replies about messages, one by one as they are heard.
 
 ghost use Rattle.std.specs.Prelude.{◌++◌, ◌∷◌, [], List, OnOk};
 ghost use Rattle.imap_replies.specs.declared.reply.Reply.{Reply};
@@ -7,14 +7,13 @@ ghost use Rattle.imap_link.specs.Sinks.{telling};
 use imap_replies::reply::Reply;
 use std::alloc::AllocError;
 
-/// Who is told the replies to a command, one after another, as they are heard. It takes what it needs of each, so that no reply
-/// has to be kept.
+/// What is given the replies to a command, one after another, as they are heard. It takes what it needs of each: no reply has to be kept.
 pub trait ReplySink {
-    /// Told these replies, in this order, the first became the second: FETCH replies, `+` and tagged ones. Others say nothing of
+    /// Given these replies, in this order, the first became the second: FETCH replies, `+` and tagged ones. Others say nothing about
     /// messages.
     ghost took: { Self → List Reply → Self → Type 0 };
 
-    /// Told nothing, it stays as it is.
+    /// Given no reply, it stays as it is.
     ghost none: { (sink : Self) → took sink [] sink };
 
     /// Takes one reply more.
@@ -24,7 +23,7 @@ pub trait ReplySink {
         ensures { OnOk result ((first : Self) (told : List Reply) → took first told self.old → took first (told ++ telling (reply.now ∷ [])) self.new) };
 }
 
-/// Nobody is told.
+/// It keeps nothing of the replies.
 #[derive(Drop)]
 pub struct NoSink {}
 

@@ -8,8 +8,8 @@ use imap_replies::reply::Reply;
 use imap_replies::response::{Code, ResponseText};
 use imap_replies::word::NoticeKind;
 
-/// The kinds of untagged replies that a call keeps until it has read them behind the tagged one. A reply of another kind is dropped as
-/// soon as it was heard.
+/// The kinds of untagged replies that a call keeps until it reads them, after the tagged one. A reply of another kind is dropped as soon as
+/// it was heard.
 #[derive(Clone, Copy)]
 pub struct Uses {
     /// CAPABILITY: what the server can do.
@@ -18,7 +18,7 @@ pub struct Uses {
     pub names: bool,
     /// `* OK` with a code that says something of the mailbox that is selected.
     pub opening: bool,
-    /// FETCH: what is told of messages, where their octets are lent. A listing is taken as it is heard (`ReplySink`).
+    /// FETCH: what is reported about messages, where their octets are lent. A listing is taken as it is heard (`ReplySink`).
     pub messages: bool,
 }
 

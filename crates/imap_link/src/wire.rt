@@ -79,7 +79,7 @@ impl<L: Link> Wire<L> {
         Ok(())
     }
 
-    /// Waits until a whole reply was read; tells its length.
+    /// Waits until a whole reply was read; returns its length.
     fn whole(&mut self) -> Result<usize, FarFault>
         ensures was_honest { L.honest self.new.link → L.honest self.old.link }
         ensures counts { L.stops self.old.link ≤ L.stops self.new.link }
@@ -100,7 +100,7 @@ impl<L: Link> Wire<L> {
         Err(FarFault::NoMemory)
     }
 
-    /// Waits until a whole reply was read, and has it taken; tells its kind, whether the call keeps it, and its length.
+    /// Waits until a whole reply was read, and has it taken; returns its kind, whether the call keeps it, and its length.
     fn hear<S: ReplySink>(
         &mut self,
         tag: &Tag,
@@ -125,8 +125,8 @@ impl<L: Link> Wire<L> {
         Ok((kind_of(&reply, tag), uses.takes(&reply), len))
     }
 
-    /// Waits until what a sender waits for was read, behind those of the replies before it that the call keeps.
-    /// `* BYE` is passed over where the command ends the connection, and else is a stop.
+    /// Waits until what a sender waits for was read, after those of the replies before it that the call keeps. `* BYE` is skipped if the
+    /// command ends the connection; otherwise it is a stop.
     fn wait<S: ReplySink>(
         &mut self,
         tag: &Tag,
@@ -165,8 +165,8 @@ impl<L: Link> Wire<L> {
         Err(FarFault::NoMemory)
     }
 
-    /// Sends what is missing of a command, and waits for the replies to it. What was read then is those that the call keeps, and the
-    /// tagged one; the sink has taken what is told of messages. Tells how the command ended.
+    /// Sends what is missing of a command, and waits for the replies to it. What was read then is those that the call keeps, and the tagged
+    /// one; the sink has taken what is reported about messages. Returns how the command ended.
     ///
     /// `Protocol`: the server asks for a literal where none waits, too.
     pub fn finish<S: ReplySink>(

@@ -48,14 +48,14 @@ reach_of set top low high ms start stop end between below above later most is = 
   back = λ k d from to. outside_unnamed set top low high (get_or ms k d).uid between (inr (leb-false (get_or ms k d).uid high (above k d (omega arith) to))) most is;
 }
 
--- ---- the messages before and behind
+-- ---- the messages before and after
 
 pub unnamed_before : (named : ℕ → Bool) (ms : List Message) (start end : ℕ) → IsReach named ms start end → start ≤ length ms → All (λ (m : Message). named m.uid ≡ false) (take start ms)
 unnamed_before named ms start end reach inside k d within =
     let long : length (take start ms) ≡ start = length-take-le start ms inside in
     ap (λ (m : Message). named m.uid) (get_or-take start ms k d (omega arith)) ∙ reach.front k d (omega arith) (omega arith)
 
--- from a place behind the last one on
+-- from a place after the last one on
 pub unnamed_behind : (named : ℕ → Bool) (ms : List Message) (start end place : ℕ) → IsReach named ms start end → end ≤ place → All (λ (m : Message). named m.uid ≡ false) (drop place ms)
 unnamed_behind named ms start end place reach behind k d within =
     let long = length-drop place ms in

@@ -16,7 +16,7 @@ far_of m = record { name = m.name; store = store_of m }
 abbrev pub all_of : List Mailbox → List FarMailbox
 all_of mailboxes = map far_of mailboxes
 
--- What a server can tell of: a name within the limits, UIDs that rise below the next one, numbers in their ranges, and
+-- What a server can serve: a name within the limits, UIDs that rise below the next one, numbers in their ranges, and
 -- messages that are octets of a literal.
 pub record IsServed (m : FarMailbox) : Type 0 where
   pub name : is_mailbox_name m.name ≡ true

@@ -101,7 +101,7 @@ module _ (xs zs : List ℕ) (opens : Opens Spelled xs) (none : NoPlace xs zs) wh
     pub whole_is_all : (c : Command) (used : ℕ) → WholeAt Spelled more c used → Spelled c more
     whole_is_all c used w = subst (Spelled c) (ap (λ (n : ℕ). take n more) (whole_all c used w) ∙ take_all (length more) more (omega arith)) w.spelled
 
-    -- a fault stands behind what was waited for, and no line end stands behind it but at the place
+    -- a fault follows what was waited for, and no line end follows it but at the place
     pub record FaultPlace (at : ℕ) : Type 0 where
       pub behind : length xs ≤ at
       pub within : at ≤ length text

@@ -228,7 +228,7 @@ begun_sound s line in_time scan begins fits = record {
   over = λ over. absurd (false≢true (sym in_time ∙ over));
 }
 
--- ---- bytes behind the begin of a line
+-- ---- bytes after the begin of a line
 
 pub scanned_on : (line new : Line) (bytes : List ℕ) → Waits line.bytes.items line.scanner → new.bytes.items ≡ line.bytes.items ++ bytes → new.scanner ≡ scanned line.scanner bytes → new.scanner ≡ scanned start new.bytes.items
 scanned_on line new bytes w taken scan =
@@ -330,7 +330,7 @@ took_more old mid new first after bytes before between out done count next t u i
   sound = u.took.sound;
 }
 
--- memory ran out behind some of them
+-- memory ran out after some of them
 pub took_part : (old : End) (mid : Server) (first : Unread) (bytes before between : List ℕ) (done : ℕ) → Took old (take done bytes) before between mid first → FeedsSome old bytes mid
 took_part old mid first bytes before between done t =
     subst (λ (l : List ℕ). FeedsSome old l mid) (take-append-drop done bytes) (feeds_some old (end_of mid first) (take done bytes) (drop done bytes) t.said t.feeds)

@@ -1,4 +1,4 @@
--- LIST: the names that match, and the replies that tell them.
+-- LIST: the names that match, and the replies that return them.
 use Rattle.std.proofs.Common.{◌≡◌, ◌<◌, ℕ, ◌+◌, true, List, [], ◌∷◌, length, map, filter, take, refl, sym, ◌∙◌, ap, subst, arith, get_or}
 use Rattle.std.specs.Prelude.{All}
 use Rattle.std.proofs.lemmas.List.{map-append, take_more, get_or-map, length-map}

@@ -43,7 +43,7 @@ use Rattle.imap_commands.specs.Verbs.{word_of}
 use Rattle.imap_commands.specs.Requests.{verb_of, items_word, mode_word, AString, RequestText}
 use Rattle.imap_commands.specs.Commands.{Spelled}
 
--- a text of which at most so many bytes are octets, and behind which no literal is under way
+-- a text of which at most so many bytes are octets, and after which no literal is under way
 pub record HasOctets (most : ℕ) (text : List ℕ) : Type 0 where
   pub plain : phase Plain text ≡ Plain
   pub few : length text ≤ outside text + most

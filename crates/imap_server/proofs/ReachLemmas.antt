@@ -1,4 +1,4 @@
--- UID FETCH tells nothing of the messages before and behind those that a set names.
+-- UID FETCH returns nothing about the messages before and after those that a set names.
 use Rattle.std.proofs.Common.{◌≡◌, ◌≤◌, ℕ, suc, ◌+◌, Bool, false, List, [], ◌∷◌, ◌++◌, length, take, drop, refl, sym, ◌∙◌, ap, subst, take-append-drop, arith, if◌then◌else◌}
 use Rattle.std.specs.Prelude.{All}
 use Rattle.mailcore.specs.declared.keywords.Keyword.{Keyword}

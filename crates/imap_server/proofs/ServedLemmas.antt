@@ -1,4 +1,4 @@
--- Lemmas on mailboxes that a server can tell of.
+-- Lemmas on mailboxes that a server can serve.
 use Rattle.std.proofs.Common.{ℕ, ◌<◌, List, All, map, sym, subst}
 use Rattle.std.proofs.lemmas.List.{get_or-map, length-map}
 

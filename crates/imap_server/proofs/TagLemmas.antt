@@ -49,7 +49,7 @@ pub no_tag_stop : (front : List ℕ) (s : Stop) → tag_at front ≡ Err s → T
 no_tag_stop front s h other t =
     not_read s (other, 32 ∷ t.more) (sym h ∙ tag_read front other t)
 
--- by the byte behind it
+-- by the byte after it
 abbrev pub is_space : Option ℕ → Bool
 is_space None = false
 is_space (Some c) = eqb c 32

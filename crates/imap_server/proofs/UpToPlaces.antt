@@ -1,4 +1,4 @@
--- A text that is read up to a place: bytes xs behind which more is waited for, and bytes zs of which none is a place.
+-- A text that is read up to a place: bytes xs after which more is waited for, and bytes zs of which none is a place.
 use Rattle.std.proofs.Common.{◌≡◌, ℕ, zero, suc, ◌+◌, ◌≤◌, Bool, true, false, eqb, List, [], ◌∷◌, ◌++◌, length, take, drop, Option, None, Some, refl, sym, ap, ◌∙◌, append-nil, take-append-drop, inl, inr, if◌then◌else◌, arith}
 use Rattle.std.proofs.lemmas.Bool.{cases_Bool}
 use Rattle.std.specs.Option.{unwrap_or}
@@ -59,7 +59,7 @@ place_within bytes s (Some n) e =
     let is = f.end_is in
     omega (arith, is, ap length f.parts, length-append f.front (f.byte ∷ f.back))
 
--- ---- where nobody is told to go on
+-- ---- where nobody is asked to go on
 
 not_asked : (p : Phase) (b : ℕ) → eqb b 10 ≡ false → asked Commands p b ≡ None
 not_asked Plain b h = refl

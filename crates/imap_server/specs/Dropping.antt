@@ -20,7 +20,7 @@ pub record EndsAt (before next : List ℕ) (count : ℕ) (last : List ℕ) : Typ
   pub y : ℕ
   pub return : last ≡ x ∷ y ∷ 13 ∷ []
 
--- Behind any bytes that end so, these bytes end the line, or it goes on.
+-- After any bytes that end so, these bytes end the line, or it goes on.
 abbrev pub PassesFrom : (before next : List ℕ) → Option ℕ → (last : List ℕ) → Type 0
 PassesFrom before next None last = Tail (before ++ next) last
 PassesFrom before next (Some count) last = EndsAt before next count last

@@ -18,7 +18,7 @@ use Rattle.imap_server.specs.Dropping.{loses_octets}
 use Rattle.imap_server.specs.Unreads.{IsSound, end_of}
 use Rattle.imap_server.specs.Writing.{Wrote}
 
--- the news was told, and then what was read was done
+-- the news was reported, and then what was read was done
 pub record Tells (old : Server) (item : Item) (replies : List Reply) (new : Server) : Type 0 where
   pub own : List Reply
   pub does : Does (told old) item own new
@@ -28,7 +28,7 @@ pub record Tells (old : Server) (item : Item) (replies : List Reply) (new : Serv
 abbrev pub TellsShort : Server → Command → List Reply → Server → Type 0
 TellsShort old command replies new = Tells old (Asks command) replies new × (list_all is_short replies ≡ true)
 
--- an answer of the server once it is told, behind the news
+-- an answer of the server once it has reported its news, after that news
 abbrev pub telling : (Server → Answer) → Server → Answer
 telling answer s = record { replies = news s ++ (answer (told s)).replies; after = (answer (told s)).after }
 

@@ -16,12 +16,12 @@ AreWritten (reply ∷ replies) = WrittenReply reply ⨾ AreWritten replies
 pub record Wrote (replies : List Reply) (old new : List ℕ) : Type 0 where
   pub appended : Appended (AreWritten replies) old new
 
--- the replies of an answer were appended, and this is the server behind it
+-- the replies of an answer were appended, and this is the server after it
 pub record Answered (answer : Answer) (old new : List ℕ) (after : Server) : Type 0 where
   pub wrote : Wrote answer.replies old new
   pub after_is : after ≡ answer.after
 
--- some replies were appended, and with them this server is behind
+-- some replies were appended, and this is the server after them
 pub record AnsweredBy (gives : List Reply → Server → Type 0) (old new : List ℕ) (after : Server) : Type 0 where
   pub replies : List Reply
   pub wrote : Wrote replies old new

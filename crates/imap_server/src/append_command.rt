@@ -106,14 +106,14 @@ impl Service {
         ensures ok { OnOk result (self.new ≡ record self.old { mailboxes = changed_there (added uid flags message.items) place self.old.mailboxes }) }
         ensures err { OnErr result (self.new ≡ self.old) }
     {
-        // They tell the prover that the values are in their ranges (docs/DECISIONS.md, "Forms").
+        // These calls show the prover that the values are in their ranges (docs/DECISIONS.md, "Forms").
         let _ = uid.get();
         let _ = flags.bits();
         add(&mut self.mailboxes[place], uid, flags, message)
     }
 }
 
-/// Tells how many messages the mailbox of this name has now, where it is the one that is selected.
+/// Reports how many messages the mailbox of this name has now, if it is the one that is selected.
 fn say_grown(
     condition: &Condition,
     name: &[u8],
@@ -137,7 +137,7 @@ fn say_appended(tag: Tag, validity: NonZero, uid: Uid, out: &mut Vec<u8>) -> Res
     say_done_with(tag, Code::AppendUid(validity, NonZero::from(uid)), out)
 }
 
-/// Adds the message behind the others, under the next UID.
+/// Adds the message after the others, under the next UID.
 fn add(mailbox: &mut Mailbox, uid: Uid, flags: Flags, message: Vec<u8>) -> Result<(), AllocError>
     requires { uid ≡ mailbox.old.next }
     ensures ok { OnOk result (far_of mailbox.new ≡ record (far_of mailbox.old) { store = added uid flags message.items (store_of mailbox.old) }) }

@@ -27,8 +27,7 @@ impl Dropped {
         }
     }
 
-    /// Passes over bytes up to the line end, and tells how many these are, the line end with them; or over all, where the
-    /// line goes on.
+    /// Skips bytes up to the line end. Returns how many these are, with the line end, or `None` if the line goes on; then all are skipped.
     pub(crate) fn pass(&mut self, bytes: &[u8]) -> Option<usize>
         ensures passes { Passes self.old.last bytes.now result self.new.last }
         ensures count { IfSome result (λ n. (0 < n) × (n ≤ length bytes.now)) }

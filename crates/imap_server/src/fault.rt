@@ -34,7 +34,7 @@ pub(crate) fn say_fault(fault: LineFault, out: &mut Vec<u8>) -> Result<(), Alloc
     }
 }
 
-/// The tag at the front of these bytes, where a space stands behind it.
+/// The tag at the front of these bytes, if a space follows it.
 pub(crate) fn tag_before(front: &[u8]) -> Option<Tag>
     ensures { TagIs front.now result }
 {

@@ -25,7 +25,7 @@ impl Line {
         }
     }
 
-    /// Takes the next bytes, up to and with the first place among them; tells how many these are, or that none of the bytes
+    /// Takes the next bytes, up to and with the first place among them; returns how many these are, or that none of the bytes
     /// is a place, and then all are taken.
     ///
     /// `AllocError`: memory ran out, and the line is as it was.

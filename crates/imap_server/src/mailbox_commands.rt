@@ -103,7 +103,7 @@ impl Service {
     }
 }
 
-/// Tells that what was selected is so no more.
+/// Reports that the mailbox that was selected is so no more.
 fn say_closed(condition: &Condition, out: &mut Vec<u8>) -> Result<(), AllocError>
     ensures { OnOk result (Wrote (closes (condition_of condition.now)) out.old.items out.new.items) }
 {
@@ -113,7 +113,7 @@ fn say_closed(condition: &Condition, out: &mut Vec<u8>) -> Result<(), AllocError
     Ok(())
 }
 
-/// Tells what a mailbox that is selected has.
+/// Reports what a mailbox that is selected has.
 fn say_opening(
     alloc: Global,
     mailbox: &Mailbox,

@@ -133,7 +133,7 @@ impl Service {
     }
 }
 
-/// Tells the items of those messages that the set names.
+/// Reports the items of those messages that the set names.
 fn say_messages(
     alloc: Global,
     mailbox: &Mailbox,
@@ -157,7 +157,7 @@ fn say_messages(
     Ok(())
 }
 
-/// Tells the items of a message.
+/// Reports the items of a message.
 fn say_message(
     alloc: Global,
     place: u32,
@@ -227,7 +227,7 @@ fn head(bytes: &[u8]) -> &[u8]
     }
 }
 
-/// Tells which messages go: those that the set names and that are marked as deleted.
+/// Reports which messages are removed: those that the set names and that are marked as deleted.
 fn say_removed(mailbox: &Mailbox, set: &UidSet, out: &mut Vec<u8>) -> Result<(), AllocError>
     requires { IsServed (far_of mailbox.now) }
     ensures { OnOk result (Wrote (removed (named_in (store_of mailbox.now) set.now) 1 mailbox.now.messages) out.old.items out.new.items) }
@@ -245,7 +245,7 @@ fn say_removed(mailbox: &Mailbox, set: &UidSet, out: &mut Vec<u8>) -> Result<(),
     Ok(())
 }
 
-/// Tells that the message at this place goes.
+/// Reports that the message at this place is removed.
 fn say_expunged(place: u32, out: &mut Vec<u8>) -> Result<(), AllocError>
     requires { 0 < place }
     ensures { OnOk result (Wrote (replies.Expunge place ∷ []) out.old.items out.new.items) }

@@ -1,4 +1,4 @@
-//! Messages that come to a mailbox from elsewhere, and what is told of them (RFC 9051, section 7.4.1).
+//! Messages that come to a mailbox from elsewhere, and what is reported of them (RFC 9051, section 7.4.1).
 
 use crate::mailbox_commands::count_of;
 use crate::service::Service;
@@ -17,7 +17,7 @@ impl Service {
     ghost use Rattle.imap_session.specs.Arrivals.{is_selected, Arrived};
     ghost use Rattle.imap_server.specs.Writing.{Wrote, AnsweredBy};
 
-    /// Tells how many messages the selected mailbox has, where some have arrived since that was told.
+    /// Reports how many messages the selected mailbox has, if some have arrived since that was reported.
     pub(crate) fn say_news(&self, out: &mut Vec<u8>) -> Result<(), AllocError>
         ensures { OnOk result (Wrote (news self.now) out.old.items out.new.items) }
     {
@@ -30,7 +30,7 @@ impl Service {
         }
     }
 
-    /// Does what the command asks for, where the news was told. Where memory runs out, it counts as not told.
+    /// Does what the command asks for, once the news was reported. If memory runs out, the news counts as not reported.
     pub(crate) fn answer_told(
         &mut self,
         command: Command,
@@ -80,7 +80,7 @@ impl Service {
         }
     }
 
-    /// There is news to tell, where the mailbox of this name is selected.
+    /// There is news to report, if the mailbox of this name is selected.
     fn note(&mut self, name: &[u8])
         ensures { self.new ≡ record self.old { has_news = is_selected name.now self.old.condition || self.old.has_news } }
     {

@@ -47,7 +47,7 @@ impl Service {
         Ok(unread)
     }
 
-    /// Reads some of the bytes, and tells how many.
+    /// Reads some of the bytes, and returns how many.
     fn read_some(
         &mut self,
         unread: Unread,
@@ -69,7 +69,7 @@ impl Service {
         }
     }
 
-    /// Reads some of the bytes behind the begin of a line.
+    /// Reads some of the bytes after the begin of a line.
     fn read_line(
         &mut self,
         line: Line,
@@ -121,7 +121,7 @@ impl Service {
         }
     }
 
-    /// Answers a command; nothing is unread behind it.
+    /// Answers a command; nothing is unread after it.
     fn answer_command(&mut self, command: Command, out: &mut Vec<u8>) -> Result<Unread, AllocError>
         ensures ok { IfOk result (λ after. IsNothing after × AnsweredBy (TellsShort self.old command) out.old.items out.new.items self.new) }
         ensures err { OnErr result (self.new ≡ self.old) }
@@ -150,7 +150,7 @@ impl Service {
         }
     }
 
-    /// Reads some of the bytes behind a line that is dropped.
+    /// Reads some of the bytes after a line that is dropped.
     fn read_dropped(
         &mut self,
         dropped: Dropped,

@@ -1,4 +1,4 @@
-//! Which mailboxes a server can tell of.
+//! Which mailboxes a server can serve.
 
 ghost use Rattle.std.specs.Prelude.{◌≡◌, ◌↔◌, true, All};
 ghost use Rattle.mailcore.specs.Ranges.{AreInRange};

@@ -17,7 +17,7 @@ use thiserror::Error;
 /// Why bytes were not read and answered.
 #[derive(Clone, Copy, Debug, PartialEq, Eq, Error)]
 pub enum ServerFault {
-    /// Memory ran out, and the connection is closed. The mailboxes are those behind the commands that were answered before.
+    /// Memory ran out, and the connection is closed. The mailboxes are those after the commands that were answered before.
     #[error("no memory")]
     NoMemory,
     /// There is no connection: none was made yet, or it was hung up, or memory ran out. (`Server::arrive`: memory ran out.)
@@ -120,7 +120,7 @@ impl Server {
     }
 
     /// Reads bytes that come over the connection, in any pieces, and answers what they complete: the replies as bytes.
-    /// Behind LOGOUT, and where the connection ended otherwise, nothing is answered.
+    /// After LOGOUT, and where the connection ended otherwise, nothing is answered.
     pub fn feed(&mut self, piece: &[u8]) -> Result<Vec<u8>, ServerFault>
         // The replies so far and the mailboxes are those of what was sent so far.
         ensures ok { IfOk result (λ out. Fed self.old piece.now out.items self.new) }
@@ -150,9 +150,9 @@ impl Server {
         }
     }
 
-    /// Adds a message that comes from elsewhere to the mailbox of this name (as other programs add some), under its next UID,
-    /// with those of the flags that have a name, and tells this UID. It is taken in any condition of the connection. Where the mailbox is selected, the replies to the next
-    /// command begin with `* n EXISTS`.
+    /// Adds a message that comes from elsewhere to the mailbox of this name (as other programs add some), under its next UID, with those of
+    /// the flags that have a name, and returns this UID. It is taken in any condition of the connection. If the mailbox is selected, the
+    /// replies to the next command begin with `* n EXISTS`.
     ///
     /// None, with nothing changed: no mailbox has the name (names compare as in commands), or the message has a byte 0 or more
     /// than 16777238 bytes, or no UID is left.

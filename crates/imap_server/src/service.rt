@@ -104,7 +104,7 @@ impl Service {
         self.condition = condition;
     }
 
-    /// Whether there is news to tell, from now on.
+    /// Sets whether there is news to report.
     pub(crate) fn set_news(&mut self, has_news: bool)
         ensures { self.new ≡ record self.old { has_news = has_news } }
     {

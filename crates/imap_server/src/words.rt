@@ -22,7 +22,7 @@ pub(crate) fn plain(text: &'static [u8]) -> ResponseText<'static>
     }
 }
 
-/// A text behind a code.
+/// A text after a code.
 pub(crate) fn coded<'a>(code: Code<'a>, text: &'static [u8]) -> ResponseText<'a>
     requires { list_all is_text text.now ≡ true }
     ensures { result ≡ ResponseText.Coded code.entry text.now }

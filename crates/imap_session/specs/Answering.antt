@@ -10,7 +10,7 @@ use Rattle.imap_replies.specs.declared.reply.Reply.TheVariants.{Continue, Tagged
 use Rattle.wire_strings.specs.declared.astring.AString.TheVariants.{Quoted}
 use Rattle.imap_session.specs.Servers.{Server}
 
--- the replies to a command, and the server behind it
+-- the replies to a command, and the server after it
 pub record Answer : Type 0 where
   pub replies : List Reply
   pub after : Server

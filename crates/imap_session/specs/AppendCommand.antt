@@ -22,7 +22,7 @@ grown Authenticated name count = []
 grown (Selected at) name count = if same_name at name then Exists count ∷ [] else []
 grown LoggedOut name count = []
 
--- the message is added under this UID; names that no flag has are passed over
+-- the message is added under this UID; names that no flag has are skipped
 abbrev pub appended : Server → FarMailbox → (uid : ℕ) → (tag name : List ℕ) (flags : List (List ℕ)) (message : List ℕ) → Answer
 appended s m uid tag name flags message = record {
   replies = grown s.condition name (length m.store.messages + 1) ++ done_with tag (codes_of.AppendUid m.store.validity uid) ∷ [];

@@ -19,7 +19,7 @@ pub data CannotArrive (name message : List ℕ) (s : Server) : Type 0 where
   NoLiteral : (IsLiteral message → ⊥) → CannotArrive name message s
   NoUid : (m : FarMailbox) → mailbox_at name s.mailboxes ≡ Some m → m.store.next ≡ 4294967295 → CannotArrive name message s
 
--- It stands behind the others, under the next UID, with those of the flags that have a name. Where its mailbox is selected, that is news.
+-- It is added after the others, under the next UID, with those of the flags that have a name. If its mailbox is selected, that is news.
 pub record ArrivedUnder (uid : ℕ) (name : List ℕ) (flags : ℕ) (message : List ℕ) (old new : Server) : Type 0 where
   pub mailbox : FarMailbox
   pub there : mailbox_at name old.mailboxes ≡ Some mailbox

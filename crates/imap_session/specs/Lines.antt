@@ -15,7 +15,7 @@ pub record Line : Type 0 where
   pub end : End
   pub unseen : List ℕ
 
--- the server, but for news that it has not told yet
+-- the server, but for news that it has not reported yet
 abbrev pub told_server : Line → Server
 told_server line = told line.end.server
 

@@ -68,7 +68,7 @@ opening keywords m tag =
     ∷ note (codes_of.UidValidity m.store.validity) (codes "validity")
     ∷ done_with tag codes_of.ReadWrite ∷ []
 
--- behind a refusal none is selected
+-- after a refusal none is selected
 abbrev pub selects_at : Option FarMailbox → Server → (tag name : List ℕ) → Answer
 selects_at (Some m) s tag name = record {
   replies = closes s.condition ++ opening s.keywords m tag;

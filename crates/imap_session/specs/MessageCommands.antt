@@ -41,7 +41,7 @@ fetches s = fetches_in (selected s) s
 
 -- ---- UID STORE
 
--- names that no flag has are passed over
+-- names that no flag has are skipped
 abbrev pub stores_in : Option FarMailbox → Server → (tag : List ℕ) → List SetItem → StoreMode → (flags : List (List ℕ)) → Answer
 stores_in None s tag set mode flags = out_of_place s tag
 stores_in (Some m) s tag set mode flags = record { replies = done tag ∷ []; after = with_selected (stored mode (named_set s.keywords flags) set) s }

@@ -18,7 +18,7 @@ pub data LineFault : Type 0 where
   Syntax : Option (List ℕ) → LineFault
   LiteralTooLong : List ℕ → LineFault
 
--- a command; a line that is none; what the connection ends at; and what is sent behind its end
+-- a command; a line that is none; what the connection ends at; and what is sent after its end
 pub data Item : Type 0 where
   Asks : Command → Item
   Faulty : LineFault → Item
@@ -67,7 +67,7 @@ abbrev pub FaultIs : LineFault → (at : ℕ) → (text : List ℕ) → Type 0
 FaultIs (Syntax tag) at text = SyntaxAt at text × TagIs (take at text) tag
 FaultIs (LiteralTooLong tag) at text = LiteralAt at text × TagIs (take at text) (Some tag)
 
--- the first line end at or behind this place is the end of the text
+-- the first line end at or after this place is the end of the text
 pub record EndsLine (at : ℕ) (text : List ℕ) : Type 0 where
   pub part : List ℕ
   pub ends : drop at text ≡ part ++ crlf
@@ -78,7 +78,7 @@ pub record EndsPlus (rest : List ℕ) : Type 0 where
   pub part : List ℕ
   pub ends : rest ≡ part ++ (codes "+}" ++ crlf)
 
--- so it is behind a literal that is too long alone
+-- this is so only after a literal that is too long
 abbrev pub OctetsFollow : LineFault → (rest : List ℕ) → Type 0
 OctetsFollow (Syntax tag) rest = ⊥
 OctetsFollow (LiteralTooLong tag) rest = EndsPlus rest
@@ -96,7 +96,7 @@ pub record IsLongLine (text : List ℕ) (said : List Reply) : Type 0 where
   pub last : take (suc passes.at) text ≡ text
   pub said_is : said ≡ goes_in (take passes.at text)
 
--- a line behind which octets follow that are no command
+-- a line that octets follow, which are no command
 pub record LosesOctets (text : List ℕ) (said : List Reply) : Type 0 where
   pub fault : LineFault
   pub line : IsFaultyLine fault text said

@@ -6,7 +6,7 @@ use Rattle.mailcore.specs.declared.keywords.Keyword.{Keyword}
 use Rattle.mailcore.specs.Stores.{Store}
 use Rattle.imap_session.specs.Mailboxes.{FarMailbox, mailbox_at, changed}
 
--- Before login, behind it, with the mailbox of this name selected, and where nothing more is read.
+-- Before login, after it, with the mailbox of this name selected, and where nothing more is read.
 pub data Condition : Type 0 where
   NotAuthenticated : Condition
   Authenticated : Condition
@@ -70,10 +70,10 @@ abbrev pub exists_of : Option FarMailbox → List Reply
 exists_of None = []
 exists_of (Some m) = Exists (length m.store.messages) ∷ []
 
--- what is told of arrivals before the replies to the next command
+-- what is reported of arrivals before the replies to the next command
 abbrev pub news : Server → List Reply
 news s = if s.has_news then exists_of (selected s) else []
 
--- the server once it is told
+-- the server once it has reported them
 abbrev pub told : Server → Server
 told s = record s { has_news = false }

@@ -29,7 +29,7 @@ Does s (Faulty fault) = Gives (only s (fault_reply fault))
 Does s Ends = Gives (ends s)
 Does s Late = Gives (stays_silent s)
 
--- behind the end of the connection nothing is read, and before it something is
+-- after the end of the connection nothing is read, and before it something is
 abbrev pub is_late : Item → Bool
 is_late (Asks command) = false
 is_late (Faulty fault) = false
@@ -41,7 +41,7 @@ pub record Portion : Type 0 where
   pub text : List ℕ
   pub said : List Reply
 
--- A portion is read and answered: what others did meanwhile is told behind `+ go`.
+-- A portion is read and answered: what others did meanwhile is reported after `+ go`.
 pub record Takes (old : Server) (portion : Portion) (replies : List Reply) (new : Server) : Type 0 where
   pub before : Server
   pub own : List Reply
@@ -82,7 +82,7 @@ pub record End : Type 0 where
 abbrev pub IsUnread : End → (unread : List ℕ) → (said : List Reply) → Type 0
 IsUnread end = Holds (is_over end.server.condition) end.kept
 
--- These bytes come behind those that are unread, and the server says these replies.
+-- These bytes come after those that are unread, and the server says these replies.
 pub record FeedsFrom (old : End) (unread : List ℕ) (said : List Reply) (piece : List ℕ) (out : List Reply) (new : End) : Type 0 where
   pub replies : List Reply
   pub rest : List ℕ

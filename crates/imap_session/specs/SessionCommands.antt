@@ -16,7 +16,7 @@ tells_capabilities s tag = record { replies = Capability (Some (REV2 ∷ [])) �
 abbrev pub does_nothing : Server → (tag : List ℕ) → Answer
 does_nothing s tag = only s (done tag)
 
--- LOGOUT too; nothing is read behind it
+-- LOGOUT too; nothing is read after it
 abbrev pub logs_out : Server → (tag : List ℕ) → Answer
 logs_out s tag = record { replies = bye (codes "bye") ∷ done tag ∷ []; after = record s { condition = LoggedOut } }
 

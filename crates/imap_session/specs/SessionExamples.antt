@@ -1,5 +1,5 @@
 -- An example: a session with a server that has one mailbox with one message, computed from the definitions. Each command
--- is shown with the replies to it and the server behind it.
+-- is shown with the replies to it and the server after it.
 use Rattle.std.specs.Prelude.{◌≡◌, ℕ, true, false, List, [], ◌∷◌, codes, None, Some, refl}
 use mathlib.Core.Logic.{inr}
 use Rattle.wire_tokens.specs.declared.uid_set.SetEnd.TheVariants.{Number, Greatest}

@@ -22,7 +22,7 @@ pub record Opens (unread : List ℕ) (said : List Reply) : Type 0 where
   pub fits : outside unread ≤ 65536
   pub said_is : said ≡ goes_in unread
 
--- no line end stands at or behind this place
+-- no line end stands at or after this place
 abbrev pub NoLineEnd : ℕ → List ℕ → Type 0
 NoLineEnd at text = (a b : List ℕ) → drop at text ≡ a ++ (crlf ++ b) → ⊥
 

@@ -11,7 +11,7 @@ use Rattle.visitors.specs.Visitors.{Visitors, IsForeign}
 use Rattle.imap_session.specs.Mailboxes.{FarMailbox}
 use Rattle.imap_session.specs.Servers.{Server}
 
--- A mailbox has more messages, behind the others, under UIDs from the next one on. None of them bears a mark of the run.
+-- A mailbox has more messages, after the others, under UIDs from the next one on. None of them bears a mark of the run.
 pub record Gains (v : Visitors) (old new : Store) : Type 0 where
   pub more : List Message
   pub messages : new.messages ≡ old.messages ++ more
@@ -28,7 +28,7 @@ AllGain v [] (n ∷ ns) = ⊥
 AllGain v (m ∷ ms) [] = ⊥
 AllGain v (m ∷ ms) (n ∷ ns) = (n.name ≡ m.name) × Gains v m.store n.store × AllGain v ms ns
 
--- Others were there. Whether there is news of it, or the server has told it, is left open.
+-- Others were there. Whether there is news of it, or the server has reported it, is left open.
 pub record Visits (v : Visitors) (old new : Server) : Type 0 where
   pub user : new.user ≡ old.user
   pub password : new.password ≡ old.password

@@ -1,4 +1,4 @@
--- The same bytes are the same answer, and nothing stands behind it.
+-- The same bytes are the same answer, and nothing follows it.
 use Rattle.std.proofs.Common.{◌≡◌, inl, inr, ℕ, true, List, [], ◌∷◌, ◌++◌, codes, refl, sym, ◌∙◌, ap, subst, append_assoc, Some}
 use Rattle.imap_replies.specs.declared.reply.Reply.{Reply}
 use Rattle.imap_replies.specs.declared.reply.Reply.TheVariants.{Continue, Tagged, Notice, Capability, Enabled, List as Listed, Flags, Exists, Expunge, Fetch, Other, OtherNumbered}
@@ -54,7 +54,7 @@ module _ (t u : List ℕ) where
   both_apart r q rs qs rest same (inr h) (inr k) last next =
       let tails = next h.1 k.1 in (ap (λ (s : Reply). s ∷ rs) same ∙ ap (λ (l : List Reply). q ∷ l) tails.0, tails.1)
 
-  -- the same bytes are the same answer, and nothing stands behind it
+  -- the same bytes are the same answer, and nothing follows it
   pub answer_apart : (rs qs : List Reply) (x y rest : List ℕ) → AreReplies rs x → AreReplies qs y → IsAnswer t rs → IsAnswer u qs → x ++ rest ≡ y → (rs ≡ qs) × (rest ≡ [])
   answer_apart [] qs x y rest a b h k e = absurd h
   answer_apart (r ∷ rs) [] x y rest a b h k e = absurd k

@@ -93,7 +93,7 @@ first_of : (x : List ℕ) (bytes rest : List ℕ) → bytes ++ rest ≡ x → x 
 first_of x [] rest e n = refl
 first_of x (b ∷ bytes) rest e n = cc
 
--- the first reply that comes asks for the literal, and nothing comes behind it
+-- the first reply that comes asks for the literal, and nothing comes after it
 pub go_heard : (from : List ℕ) (old mid new : Ends) (reply : Reply) → is_over old.end.server.condition ≡ false → AskedOr from old mid → Hears (reply ∷ []) mid new → IsGo reply from new
 go_heard from old mid new reply on (inl none) h =
     absurd (reply_some reply h.spelled.front h.spelled.first (first_of h.bytes h.spelled.front h.spelled.back (sym h.spelled.parts) (first_of mid.coming h.bytes new.coming (sym h.heard) none.coming)))

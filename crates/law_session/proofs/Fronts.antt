@@ -21,7 +21,7 @@ pub outside_front : (p : Phase) (a b : List ℕ) → outside_from p a ≤ outsid
 outside_front p [] b = omega arith
 outside_front p (c ∷ a) b = let h = outside_front (next p c) a b in omega arith
 
--- a text is the part before a place and what stands behind it
+-- a text is the part before a place and what follows it
 pub cut : (n : ℕ) (text more : List ℕ) → text ++ more ≡ take n text ++ (drop n text ++ more)
 cut n text more = ap (λ (l : List ℕ). l ++ more) (sym (take-append-drop n text)) ∙ append_assoc (take n text) (drop n text) more
 

@@ -1,4 +1,4 @@
--- The message under a UID, behind each operation on a mailbox.
+-- The message under a UID, after each operation on a mailbox.
 use Rattle.std.proofs.Common.{◌≡◌, inl, inr, ℕ, Bool, true, false, not, cond, eqb, List, [], ◌∷◌, ◌++◌, filter, refl, sym, ◌∙◌, ap, subst, Option, Some, None, arith}
 use Rattle.std.specs.Prelude.{find}
 use Rattle.std.specs.List.{list_any}
@@ -64,7 +64,7 @@ find-gone uids uid (m ∷ ms) h =
       | inr gone ↦ subst (λ (b : Bool). find (has_uid uid) (cond b (m ∷ filter (stays uids) ms) (filter (stays uids) ms)) ≡ None) (sym gone) rest
     ]
 
--- ---- where one is added behind the others
+-- ---- where one is added after the others
 
 pub find-added : (uid : ℕ) (x : Message) (ms : List Message) → eqb x.uid uid ≡ false → find (has_uid uid) (ms ++ x ∷ []) ≡ find (has_uid uid) ms
 find-added uid x [] h = ap (λ (b : Bool). cond b (Some x) None) h

@@ -1,4 +1,4 @@
--- A command leaves it open what is to be told.
+-- A command does not change which news is to be reported.
 use Rattle.std.proofs.Common.{◌≡◌, inl, inr, ℕ, ◌&&◌, Bool, true, false, List, refl, ◌∙◌, ap, Option, Some, None, if◌then◌else◌}
 use Rattle.std.specs.Prelude.{nat_eq, nat_le}
 use Rattle.std.specs.Cmp.Lexicographic.{pointwise}

@@ -57,7 +57,7 @@ module _ (v : Visitors) where
   pub nobody_visits : (s : Server) → Visits v s s
   nobody_visits s = record { user = refl; password = refl; keywords = refl; condition = refl; gains = all_none s.mailboxes; nobody = λ _. refl }
 
-  -- UIDs behind others
+  -- UIDs after others
   rise_behind : (from : ℕ) (us : List ℕ) (mid : ℕ) (vs : List ℕ) (next : ℕ) → Rise from us mid → Rise mid vs next → Rise from (us ++ vs) next
   rise_behind from [] mid [] next le rise = omega arith
   rise_behind from [] mid (w ∷ vs) next le rise = (omega arith, rise.1)
@@ -97,7 +97,7 @@ module _ (v : Visitors) where
     nobody = λ alone. k.nobody alone ∙ h.nobody alone;
   }
 
-  -- and the server told of it
+  -- and the server reported it
   pub visits_told : (s t : Server) → Visits v s t → Visits v s (told t)
   visits_told s t h = record { user = h.user; password = h.password; keywords = h.keywords; condition = h.condition; gains = h.gains; nobody = h.nobody }
 

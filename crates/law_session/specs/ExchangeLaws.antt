@@ -25,7 +25,7 @@ StoppedIsHalf =
     (c : Command) (from rest : List ℕ) (old : Line) (new : Server) (heard : List ℕ)
     → IsText c (from ++ rest) → IsAt from (ends_of old heard) → FeedsSome old.end rest new → MayHave (DidCommand c) old.end.server new
 
--- Two answers in the same bytes are one, and nothing stands behind it.
+-- Two answers in the same bytes are one, and nothing follows it.
 abbrev pub AnswersAreApart : Type 0
 AnswersAreApart =
     (t u : List ℕ) (rs qs : List Reply) (x y rest : List ℕ) → AreReplies rs x → AreReplies qs y → IsAnswer t rs → IsAnswer u qs

@@ -50,7 +50,7 @@ pub record Continues (old new : Store) : Type 0 where
   pub next : old.next ≤ new.next
   pub bodies : (uid : ℕ) → uid < old.next → Remains (bytes_of uid new) (bytes_of uid old)
 
--- the mailboxes go on, each at its place, and others may stand behind them
+-- the mailboxes go on, each at its place, and others may follow them
 abbrev pub AllContinue : (old new : List FarMailbox) → Type 0
 AllContinue [] new = Unit {0}
 AllContinue (m ∷ ms) [] = ⊥

@@ -12,7 +12,7 @@ NobodyMayVisit = (v : Visitors) (s : Server) → Visits v s s
 abbrev pub VisitsFollow : Type 0
 VisitsFollow = (v : Visitors) (s t u : Server) → Visits v s t → Visits v t u → Visits v s u
 
--- a visit of which the server has told is one
+-- a visit that the server has reported is still a visit
 abbrev pub VisitsAreTold : Type 0
 VisitsAreTold = (v : Visitors) (s t : Server) → Visits v s t → Visits v s (told t)
 

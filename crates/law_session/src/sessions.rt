@@ -9,7 +9,7 @@ pub fn pieces_join()
     ensures { law.PiecesJoin }
 {}
 
-/// A new connection has no unread bytes; what is unread is told by what the server keeps, but for a line that is dropped.
+/// A new connection has no unread bytes. What is unread is what the server keeps, unless it drops a line.
 pub fn new_connections_are_empty()
     ensures empty { law.NewEndsAreEmpty }
     ensures known { law.UnreadIsKept }
@@ -50,7 +50,7 @@ pub fn replies_fit()
 pub fn visits_follow()
     ensures nobody { visit.NobodyMayVisit }
     ensures follow { visit.VisitsFollow }
-    // That the server told of it changes nothing of that.
+    // It counts as such a visit, too, once the server has reported it.
     ensures told { visit.VisitsAreTold }
     ensures arrival { visit.ArrivalsVisit }
 {}

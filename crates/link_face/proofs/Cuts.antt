@@ -51,7 +51,7 @@ no_cut b text x y h e = no_cut_in b x y (let P : List ℕ → Type 0 = λ l. All
 pub no_space : (command tag word name behind : List ℕ) → All (λ (d : ℕ). d ≢ 32) command → IsInParts command tag word name behind → ⊥
 no_space command tag word name behind h p = no_cut 32 command tag _ h p.together
 
--- what stands behind the tag
+-- what follows the tag
 behind_tag : (command t r tag word name behind : List ℕ) → command ≡ t ++ 32 ∷ r → All (λ (d : ℕ). d ≢ 32) t → IsInParts command tag word name behind
     → r ≡ word ++ 34 ∷ (name ++ 34 ∷ behind)
 behind_tag command t r tag word name behind e h p = let s = same_cut 32 t tag r _ h p.no_space (sym e ∙ p.together) in s.behind
@@ -60,7 +60,7 @@ pub no_quote : (command t r tag word name behind : List ℕ) → command ≡ t +
     → IsInParts command tag word name behind → ⊥
 no_quote command t r tag word name behind e h n p = no_cut 34 r word _ n (behind_tag command t r tag word name behind e h p)
 
--- the word, and what stands behind the first quote
+-- the word, and what follows the first quote
 behind_word : (command t r w q tag word name behind : List ℕ) → command ≡ t ++ 32 ∷ r → All (λ (d : ℕ). d ≢ 32) t → r ≡ w ++ 34 ∷ q → All (λ (d : ℕ). d ≢ 34) w
     → IsInParts command tag word name behind → SameCut w word q (name ++ 34 ∷ behind)
 behind_word command t r w q tag word name behind e h f n p =

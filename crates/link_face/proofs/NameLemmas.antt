@@ -1,4 +1,4 @@
--- What stands behind a text.
+-- What follows a text.
 use Rattle.std.proofs.Common.{◌≡◌, ℕ, List, ◌++◌, Option, None, Some, refl, ap, append_assoc}
 use Rattle.link_face.specs.Names.{joined}
 

@@ -15,7 +15,7 @@ ahead_by : (p : Bool) (at n : ℕ) (s : Scanner) (bytes : List ℕ) → (place_f
 ahead_by true at n s bytes next e = let same = some_apart (suc at) n e in omega (arith, same)
 ahead_by false at n s bytes next e = let h = next e in omega (arith, h)
 
--- a place stands behind at least one byte
+-- a place comes after at least one byte
 ahead : (bytes : List ℕ) (at : ℕ) (s : Scanner) (n : ℕ) → place_from at s bytes ≡ Some n → at < n
 ahead [] at s n e = cc
 ahead (b ∷ bytes) at s n e = ahead_by (is_place s b) at n (after s b) bytes (λ h. ahead bytes (suc at) (after s b) n h) e
@@ -33,7 +33,7 @@ shorter bytes s n e =
     let same : length (take (length bytes - n) (drop n bytes)) ≡ length (drop n bytes) = ap length (rest_is bytes n) in
     omega (arith, same, some, within, length-drop n bytes)
 
--- `&bytes[n..]` behind the first n bytes
+-- `&bytes[n..]` after the first n bytes
 pub scanned_on : (s : Scanner) (bytes : List ℕ) (n : ℕ) → scanned (scanned s (take n bytes)) (take (length bytes - n) (drop n bytes)) ≡ scanned s bytes
 scanned_on s bytes n =
     ap (scanned (scanned s (take n bytes))) (rest_is bytes n)

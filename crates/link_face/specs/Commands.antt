@@ -12,7 +12,7 @@ is_naming word = pointwise nat_eq word (codes "SELECT ") || pointwise nat_eq wor
 abbrev pub is_plain : (name : List ℕ) → Bool
 is_plain name = list_all (λ b. not (b == 92)) name
 
--- The tag, the word with the space behind it, what stands between the first two quotes, and the rest.
+-- The tag, the word with the space after it, what stands between the first two quotes, and the rest.
 pub record IsInParts (command tag word name behind : List ℕ) : Type 0 where
   pub together : command ≡ tag ++ 32 ∷ (word ++ 34 ∷ (name ++ 34 ∷ behind))
   pub no_space : All (λ b. b ≢ 32) tag

@@ -1,4 +1,4 @@
--- A link behind which a client hears only replies that it reads.
+-- A link that hands out to a client only replies that the client reads.
 use Rattle.std.specs.Prelude.{◌≡◌, ◌≤◌, ℕ, List, ◌++◌}
 use Rattle.wire_reader.specs.Lexical.{outside}
 use Rattle.imap_replies.specs.declared.reply.Reply.{Reply}
@@ -20,7 +20,7 @@ Turns raw (Replace bytes) = IsSpelled bytes.items
 Turns raw Omit = Unit {0}
 Turns raw Stop = Unit {0}
 
--- so is what it hears in place of one
+-- so is what it hears instead of one
 abbrev pub IsHeard : Turn → Type 0
 IsHeard Keep = ⊥
 IsHeard (Replace bytes) = IsSpelled bytes.items

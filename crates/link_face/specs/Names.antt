@@ -35,7 +35,7 @@ abbrev pub run_text : (octets : List ℕ) → List ℕ
 run_text [] = []
 run_text (o ∷ os) = 38 ∷ map swapped (encode_of standard_no_pad (o ∷ os)) ++ 45 ∷ []
 
--- the characters behind a run of these octets
+-- the characters after a run of these octets
 abbrev pub written : (run chars : List ℕ) → List ℕ
 written run [] = run_text run
 written run (c ∷ cs) = if is_printable c then run_text run ++ plain c ++ written [] cs else written (run ++ utf16_octets c) cs
@@ -49,7 +49,7 @@ near_name far = if is_name_text far then Some (written [] (chars far)) else None
 
 -- ---- to UTF-8
 
--- the first text, and the second behind it
+-- the first text, and the second after it
 abbrev pub joined : Option (List ℕ) → Option (List ℕ) → Option (List ℕ)
 joined None rest = None
 joined (Some text) rest = option_map (λ bs. text ++ bs) rest
@@ -69,7 +69,7 @@ abbrev pub run_value : List ℕ → Option (List ℕ)
 run_value [] = Some (codes "&")
 run_value (b ∷ bs) = option_and_then text_of (option_and_then (units_behind None) (result_ok (decode_of standard_no_pad (map swapped (b ∷ bs)))))
 
--- the bytes behind those of a run, within it, or outside of a run
+-- the bytes after those of a run, within it, or outside of a run
 abbrev pub read : (is_within : Bool) (run bytes : List ℕ) → Option (List ℕ)
 read true run [] = None
 read false run [] = Some []

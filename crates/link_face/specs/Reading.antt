@@ -1,4 +1,4 @@
--- What is left to read, behind what was read.
+-- What is left to read, after what was read.
 use Rattle.std.specs.Prelude.{ℕ, List, Option, Some}
 use Rattle.link_face.specs.declared.modified_utf7.Reader.{Reader}
 use Rattle.link_face.specs.declared.run.Units.{Units}

@@ -32,7 +32,7 @@ part_of (Fetch n row) room = room.others
 part_of (Other word text) room = room.others
 part_of (OtherNumbered n event text) room = room.others
 
--- a number stands behind the star and the space, as in EXISTS and FETCH
+-- a number follows the star and the space, as in EXISTS and FETCH
 abbrev pub is_numbered : List ℕ → Bool
 is_numbered [] = false
 is_numbered (star ∷ []) = false

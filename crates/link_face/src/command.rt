@@ -33,10 +33,10 @@ pub(crate) fn with_far_name(alloc: Global, command: &[u8]) -> Result<Option<Vec<
 #[derive(Clone, Copy)]
 struct Named<'c> {
     tag: &'c [u8],
-    /// Its word, and the space behind it.
+    /// Its word, and the space after it.
     word: &'c [u8],
     name: &'c [u8],
-    /// What stands behind the name.
+    /// What follows the name.
     behind: &'c [u8],
 }
 

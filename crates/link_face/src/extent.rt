@@ -98,7 +98,7 @@ impl Search {
         }
     }
 
-    /// Whether there is room for a literal whose length has these digits, behind so many bytes of the reply.
+    /// Whether there is room for a literal whose length has these digits, after so many bytes of the reply.
     fn has_room(&self, len: usize, digits: &[u8]) -> bool {
         let owed = self.scanner.owed() as usize;
         if owed == 0 {

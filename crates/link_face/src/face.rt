@@ -23,7 +23,7 @@ use mailcore::copy_pieces::CopyPieces;
 use std::alloc::{AllocError, Global};
 use std::rc::Rc;
 
-/// So many bytes of a reply that is not read are told at most.
+/// At most so many bytes of a reply that cannot be read are reported.
 const UNREAD_MAX: usize = 200;
 
 /// What came over a link and was not handed out.
@@ -79,8 +79,8 @@ impl Face {
         self.is_lost = false;
     }
 
-    /// What is sent in place of these bytes: a command with the name of its mailbox in UTF-8. None: they are sent as they are, as the
-    /// octets of a literal always are.
+    /// What is sent instead of these bytes: a command with the name of its mailbox in UTF-8. None: they are sent as they are, as the octets
+    /// of a literal always are.
     ///
     /// `AllocError`: memory ran out.
     pub(crate) fn to_send(&mut self, bytes: &[u8]) -> Result<Option<Vec<u8>>, AllocError>
@@ -117,7 +117,7 @@ impl Face {
         self.room = Room::whole();
     }
 
-    /// Turns replies until one is ready, and tells whether one is: else more has to come.
+    /// Turns replies until one is ready. Returns whether one is; if not, more has to come.
     ///
     /// `Stopped`: a reply is too long or cannot be read, or there is no room for it, and nothing more is read of this connection.
     /// `NoMemory`.
@@ -205,7 +205,7 @@ impl Face {
         Ok(())
     }
 
-    /// These bytes, a reply or none, are ready in place of the reply of so many bytes at the front, if there is room for them.
+    /// Makes these bytes, a reply or none, ready instead of the reply of so many bytes at the front, if there is room for them.
     fn replace(&mut self, len: usize, bytes: Vec<u8>) -> Result<(), LinkFault>
         requires within { len ≤ length self.old.incoming }
         requires none { self.old.ready ≡ [] }
@@ -224,7 +224,7 @@ impl Face {
         }
     }
 
-    /// These bytes, a reply or none, are ready in place of the reply of so many bytes at the front.
+    /// Makes these bytes, a reply or none, ready instead of the reply of so many bytes at the front.
     fn replace_front(&mut self, len: usize, bytes: Vec<u8>) -> Result<(), LinkFault>
         requires within { len ≤ length self.old.incoming }
         requires none { self.old.ready ≡ [] }

@@ -55,7 +55,7 @@ impl<L: Link> FaceLink<L> {
         &self.link
     }
 
-    /// Takes the next bytes of the link, and tells whether there were any.
+    /// Takes the next bytes of the link, and returns whether there were any.
     fn more(&mut self) -> Result<bool, LinkFault>
         ensures was_honest { L.honest self.new.link → L.honest self.old.link }
         ensures counts { L.stops self.old.link ≤ L.stops self.new.link }
@@ -77,7 +77,7 @@ impl<L: Link> FaceLink<L> {
         }
     }
 
-    /// Waits until a reply is ready, and tells whether one is: else the bytes ended.
+    /// Waits until a reply is ready. Returns whether one is; if not, the bytes ended.
     fn wait(&mut self) -> Result<bool, LinkFault>
         ensures was_honest { L.honest self.new.link → L.honest self.old.link }
         ensures was_unchanged { self.new.face.changed ≡ false → self.old.face.changed ≡ false }

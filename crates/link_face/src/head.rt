@@ -1,6 +1,6 @@
 //! How a reply begins (RFC 9051, section 7).
 
-/// What a reply is, by its first words. What stands behind them is lent, with the space and the line end.
+/// What a reply is, by its first words. What follows them is lent, with the space and the line end.
 #[derive(Clone, Copy)]
 pub(crate) enum Head<'a> {
     /// `+`: a continuation request.
@@ -13,7 +13,7 @@ pub(crate) enum Head<'a> {
     List(&'a [u8]),
     /// FLAGS.
     Flags(&'a [u8]),
-    /// A number, the word behind it, and the rest.
+    /// A number, the word after it, and the rest.
     Numbered(&'a [u8], &'a [u8], &'a [u8]),
     /// Another reply, or an empty line.
     Other,
@@ -80,7 +80,7 @@ fn split_word(bytes: &[u8]) -> (&[u8], &[u8]) {
     }
 }
 
-/// The bytes behind a space, if one stands at the front.
+/// The bytes after a space, if one stands at the front.
 pub(crate) fn behind_space(bytes: &[u8]) -> &[u8] {
     bytes.strip_prefix(b" ").unwrap_or(bytes)
 }

@@ -8,11 +8,11 @@ use std::alloc::{AllocError, Global};
 use std::marker::Model;
 use std::mem;
 
-/// Bytes that came: a reply, whole or begun, and what stands behind it.
+/// Bytes that came: a reply, whole or begun, and what follows it.
 #[derive(Drop)]
 pub(crate) struct Incoming {
     bytes: Vec<u8>,
-    /// How many of them were taken out: they go once more come, so that what is behind them is not moved for each reply.
+    /// How many of them were taken out: they go once more come, so that what follows them is not moved for each reply.
     taken: usize,
     search: Search,
 }

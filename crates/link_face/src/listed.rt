@@ -12,7 +12,7 @@ use wire_strings::line_text::all_text;
 use wire_strings::string_writing::write_quoted;
 use wire_tokens::appending::append;
 
-/// The most bytes of a name that is handed out, and of one that is told.
+/// The most bytes of a name that is handed out, and of one that is reported as skipped.
 const NAME_MAX: usize = 255;
 
 /// A mailbox that a server lists.
@@ -27,7 +27,7 @@ pub(crate) struct Listed<'a> {
 }
 
 impl<'a> Listed<'a> {
-    /// Reads what stands behind LIST; extended data behind the name are passed over (RFC 9051, section 6.3.9.1).
+    /// Reads what follows LIST; extended data after the name is skipped (RFC 9051, section 6.3.9.1).
     pub(crate) fn read(bytes: &'a [u8]) -> Option<Listed<'a>> {
         let (attributes, rest) = read_list(behind_space(bytes))?;
         let (delimiter, rest) = read_token(behind_space(rest))?;

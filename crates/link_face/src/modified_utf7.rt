@@ -145,7 +145,7 @@ impl Reader {
         }
     }
 
-    /// Reads a byte, and tells whether it may stand there.
+    /// Reads a byte, and returns whether it may stand there.
     #[tactic(auto, using(crate::proofs::NameLemmas::joined_joined))]
     fn take(&mut self, b: u8) -> Result<bool, AllocError>
         ensures read { result ≡ Ok true → (bytes : List ℕ) → name_with self.old (b ∷ bytes) ≡ name_with self.new bytes }

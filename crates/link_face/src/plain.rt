@@ -38,7 +38,7 @@ pub(crate) fn flags_line(alloc: Global, rest: &[u8]) -> Result<Option<Vec<u8>>, 
     Ok(Some(out))
 }
 
-/// EXISTS or EXPUNGE without spaces behind it; none for another event, or where more stands there.
+/// EXISTS or EXPUNGE without spaces after it; none for another event, or if more follows it.
 ///
 /// `AllocError`: memory ran out.
 pub(crate) fn counted(

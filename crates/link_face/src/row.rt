@@ -21,7 +21,7 @@ pub(crate) struct Row<'a> {
 }
 
 impl<'a> Row<'a> {
-    /// The items that stand behind FETCH. None: these are none of RFC 9051.
+    /// The items that follow FETCH. None: these are none of RFC 9051.
     pub(crate) fn read(bytes: &'a [u8]) -> Option<Row<'a>> {
         let items = bytes.strip_prefix(b" (")?;
         let mut row = Row {
@@ -89,7 +89,7 @@ impl<'a> Row<'a> {
         Ok(if is_whole { Some(out) } else { None })
     }
 
-    /// Appends the items behind UID, and tells whether these are all that one of the commands asks for.
+    /// Appends the items after UID, and returns whether these are all that one of the commands asks for.
     fn append_items(&self, alloc: Global, out: &mut Vec<u8>) -> Result<bool, AllocError> {
         if let Some(body) = self.body {
             append(b" BODY[] ", out)?;
@@ -104,7 +104,7 @@ impl<'a> Row<'a> {
         self.append_listing(out)
     }
 
-    /// Appends the items of a listing, and tells whether both are there.
+    /// Appends the items of a listing, and returns whether both are there.
     fn append_listing(&self, out: &mut Vec<u8>) -> Result<bool, AllocError> {
         let (Some(words), Some(size)) = (self.flags, number_at(self.size)) else {
             return Ok(false);
@@ -128,14 +128,14 @@ fn number_at(value: Option<&[u8]>) -> Option<u32> {
     }
 }
 
-/// Reads the name of an item, and the space behind it; a section in brackets may hold spaces and brackets.
+/// Reads the name of an item, and the space after it; a section in brackets may hold spaces and brackets.
 fn read_name(bytes: &[u8]) -> Option<(&[u8], &[u8])> {
     let end = name_length(bytes)?;
     let (name, rest) = bytes.split_at_checked(end)?;
     Some((name, rest.strip_prefix(b" ")?))
 }
 
-/// How many bytes the name of an item has: up to the first space, or to the first one behind a section.
+/// How many bytes the name of an item has: up to the first space, or to the first one after a section.
 fn name_length(bytes: &[u8]) -> Option<usize> {
     let end = bytes.iter().position(|b| matches!(*b, b' ' | b'['))?;
     if bytes[end] == b' ' {

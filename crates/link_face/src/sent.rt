@@ -51,7 +51,7 @@ impl Sent {
         self.note(b"\r\n");
     }
 
-    /// The bytes up to the next place of the scanner are sent, or all if there is none; gives those behind it.
+    /// The bytes up to the next place of the scanner are sent, or all if there is none; gives those after it.
     #[tactic(auto, using(crate::proofs::SentLemmas::within_place, crate::proofs::SentLemmas::shorter, crate::proofs::SentLemmas::scanned_on))]
     fn pass_place<'b>(&mut self, bytes: &'b [u8]) -> Option<&'b [u8]>
         ensures { MatchOption result (self.new.scanner ≡ scanned self.old.scanner bytes.now)

@@ -8,7 +8,7 @@ use std::alloc::{AllocError, Global};
 use wire_strings::line_text::is_text;
 use wire_tokens::appending::append;
 
-/// A response code with its brackets, and the text behind it.
+/// A response code with its brackets, and the text after it.
 #[derive(Clone, Copy)]
 struct Coded<'a> {
     code: &'a [u8],
@@ -44,7 +44,7 @@ impl<'a> Status<'a> {
         Ok(out)
     }
 
-    /// The tag and the word, and the space behind each.
+    /// The tag and the word, and the space after each.
     fn begun(&self, alloc: Global) -> Result<Vec<u8>, AllocError> {
         let mut out = Vec::new(alloc);
         append(self.tag, &mut out)?;
@@ -55,7 +55,7 @@ impl<'a> Status<'a> {
     }
 }
 
-/// The response code at the front, and what stands behind it.
+/// The response code at the front, and what follows it.
 fn split_code(text: &[u8]) -> Option<Coded<'_>> {
     let rest = match permanent_flags(text) {
         Some((_, rest)) => rest,
@@ -68,7 +68,7 @@ fn split_code(text: &[u8]) -> Option<Coded<'_>> {
     Some(Coded { code, text })
 }
 
-/// The words in brackets of the code PERMANENTFLAGS, among which atoms with `]` may stand, and what stands behind them.
+/// The words in brackets of the code PERMANENTFLAGS, among which atoms with `]` may stand, and what follows them.
 fn permanent_flags(text: &[u8]) -> Option<(&[u8], &[u8])> {
     let (word, rest) = text.split_at_checked(b"[PERMANENTFLAGS".len())?;
     if word.eq_ignore_ascii_case(b"[PERMANENTFLAGS") {

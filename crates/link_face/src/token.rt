@@ -39,7 +39,7 @@ impl Token<'_> {
     }
 }
 
-/// Reads the token at the front; gives it and the bytes behind it. None: none stands there, or it does not end.
+/// Reads the token at the front; gives it and the bytes after it. None: none stands there, or it does not end.
 pub(crate) fn read_token(bytes: &[u8]) -> Option<(Token<'_>, &[u8])> {
     match bytes {
         [b'(', rest @ ..] => Some((Token::Open, rest)),
@@ -54,7 +54,7 @@ pub(crate) fn read_token(bytes: &[u8]) -> Option<(Token<'_>, &[u8])> {
     }
 }
 
-/// Passes the value at the front over, which may be a list of others; gives the bytes behind it. None: it does not end.
+/// Skips the value at the front, which may be a list of others; gives the bytes after it. None: it does not end.
 pub(crate) fn skip_value(bytes: &[u8]) -> Option<&[u8]> {
     let mut depth = 0u32;
     let mut rest = bytes;
@@ -71,7 +71,7 @@ pub(crate) fn skip_value(bytes: &[u8]) -> Option<&[u8]> {
     None
 }
 
-/// Reads a list of words in brackets; gives what stands between these, and the bytes behind.
+/// Reads a list of words in brackets; gives what stands between these, and the bytes after them.
 pub(crate) fn read_list(bytes: &[u8]) -> Option<(&[u8], &[u8])> {
     let rest = bytes.strip_prefix(b"(")?;
     let (words, rest) = rest.split_at_checked(memchr(b')', rest)?)?;
@@ -92,7 +92,7 @@ fn ends_word(b: u8) -> bool {
     b <= b' ' || matches!(b, b'(' | b')' | b'"' | b'{')
 }
 
-/// Reads a quoted string behind its first quote.
+/// Reads a quoted string after its first quote.
 fn read_quoted(bytes: &[u8]) -> Option<(Token<'_>, &[u8])> {
     let mut behind_slash = false;
     for (i, b) in bytes.iter().enumerate() {
@@ -107,7 +107,7 @@ fn read_quoted(bytes: &[u8]) -> Option<(Token<'_>, &[u8])> {
     None
 }
 
-/// Reads a literal behind its `{`.
+/// Reads a literal after its `{`.
 fn read_literal(bytes: &[u8]) -> Option<(Token<'_>, &[u8])> {
     let (len, rest) = bytes.split_at_checked(memchr(b'}', bytes)?)?;
     let rest = rest.strip_prefix(b"}\r\n")?;
@@ -131,7 +131,7 @@ fn with_digit(number: u32, digit: u8) -> u32 {
         .saturating_add(u32::from(digit.wrapping_sub(b'0')))
 }
 
-/// The bytes without the backslash before each that stands behind one.
+/// The bytes without the backslashes that quote the byte after them.
 fn unescaped(alloc: Global, raw: &[u8]) -> Result<Vec<u8>, AllocError> {
     let mut value = Vec::with_capacity(alloc, raw.len())?;
     let mut behind_slash = false;

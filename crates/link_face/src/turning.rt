@@ -28,7 +28,7 @@ pub enum Turn {
     Replace(Vec<u8>),
     /// Nothing.
     Omit,
-    /// Nothing, and the connection is given up: the reply tells of a message and cannot be read, or is none.
+    /// Nothing, and the connection is given up: the reply is about a message and cannot be read, or is no reply.
     Stop,
 }
 
@@ -91,7 +91,7 @@ fn no_reply<'a>(fault: WireFault) -> Result<Option<Reply<'a>>, AllocError>
     }
 }
 
-/// What a client hears in place of this reply.
+/// What a client hears instead of this reply.
 fn rewritten(alloc: Global, raw: &[u8]) -> Result<Turn, AllocError>
     ensures { IfOk result IsHeard }
 {
@@ -134,7 +134,7 @@ fn numbered(alloc: Global, number: &[u8], event: &[u8], rest: &[u8]) -> Result<T
     }
 }
 
-/// This text, which tells of a message, as what a client hears: never is it left out if it is no reply.
+/// What a client hears of this text, which is about a message. A text that is no reply is never left out: the connection is given up.
 fn told(alloc: Global, text: Option<Vec<u8>>) -> Result<Turn, AllocError>
     ensures { IfOk result IsHeard }
 {

@@ -37,13 +37,13 @@ impl Words {
         }
     }
 
-    /// Takes out the text of the last NO, BAD or BYE, of at most 200 bytes. None: nothing was said since it was taken out last, or
-    /// memory was wanting to note it.
+    /// Takes out the text of the last NO, BAD or BYE, of at most 200 bytes. None: nothing was said since it was taken out last, or memory
+    /// ran out when it was noted.
     pub fn take_last(&self) -> Option<Vec<u8>> {
         self.last.take()
     }
 
-    /// Takes out the texts with the code ALERT, of at most 200 bytes each, in the order in which they came. Behind 16 of them no
+    /// Takes out the texts with the code ALERT, of at most 200 bytes each, in the order in which they came. After 16 of them no
     /// others are noted until they are taken out.
     pub fn take_alerts(&self) -> Vec<Vec<u8>> {
         self.alerts.replace(Vec::new(self.alloc))
@@ -52,13 +52,13 @@ impl Words {
     /// Takes out the names of mailboxes that the server listed, that can be selected, and that are not synchronised: their names
     /// are beyond the limits of the names of mailboxes (1 to 255 printable ASCII characters in modified UTF-7, without `*`, `%`,
     /// `"` and `\`, and between slashes neither nothing nor `.` nor `..`). They stand as the server wrote them, of at most 255 bytes
-    /// each, each once, in the order in which they came. Behind 100 of them no others are noted until they are taken out.
+    /// each, each once, in the order in which they came. After 100 of them no others are noted until they are taken out.
     pub fn take_skipped(&self) -> Vec<Vec<u8>> {
         self.skipped.replace(Vec::new(self.alloc))
     }
 
-    /// Takes out the front of the last reply over which a connection was given up, up to the end of its first line, of at most 200
-    /// bytes. None: none was given up since it was taken out last, or memory was wanting to note it.
+    /// Takes out the front of the last reply over which a connection was given up, up to the end of its first line, of at most 200 bytes.
+    /// None: none was given up since it was taken out last, or memory ran out when it was noted.
     pub fn take_unread(&self) -> Option<Vec<u8>> {
         self.unread.take()
     }
@@ -71,7 +71,7 @@ impl Words {
         is_unread
     }
 
-    /// Notes what a reply says to people, if it does. Where memory is wanting it is not noted.
+    /// Notes what a reply says to people, if it does. If memory runs out, it is not noted.
     pub(crate) fn note(&self, raw: &[u8]) {
         let _ = match head_of(raw) {
             Head::Status(status) => self.note_status(status),
@@ -80,7 +80,7 @@ impl Words {
         };
     }
 
-    /// Notes the front of a reply over which the connection is given up. Where memory is wanting it is not noted.
+    /// Notes the front of a reply over which the connection is given up. If memory runs out, it is not noted.
     pub(crate) fn note_unread(&self, raw: &[u8]) {
         let line = raw.split(|b| *b == b'\n').next().unwrap_or(raw);
         if let Ok(text) = Vec::from_slice(self.alloc, front(line.trim_ascii_end())) {
@@ -134,7 +134,7 @@ impl Words {
     }
 }
 
-/// The text behind the code ALERT.
+/// The text after the code ALERT.
 fn alert_in(text: &[u8]) -> Option<&[u8]> {
     let (code, rest) = text.split_at_checked(b"[ALERT]".len())?;
     if code.eq_ignore_ascii_case(b"[ALERT]") {

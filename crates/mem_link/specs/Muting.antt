@@ -35,7 +35,7 @@ pub record IsFitting (reply : Reply) (text : List ℕ) : Type 0 where
   pub spelled : ReplyText reply text
   pub fits : outside text ≤ 65536
 
--- behind these bytes the replies in the rest are left
+-- after these bytes the replies in the rest are left
 pub record IsLeft (said : List Reply) (out rest : List ℕ) : Type 0 where
   pub left : List Reply
   pub spelled : AreReplies left rest
@@ -47,7 +47,7 @@ pub record IsHeard (said : List Reply) (out : List ℕ) : Type 0 where
   pub heard_as : (keywords : List Keyword) → AreHeardAs keywords heard said
   pub spelled : AreReplies heard out
 
--- what came of an answer stands behind what was unread
+-- what came of an answer follows what was unread
 pub record Hears (answer old new : List ℕ) : Type 0 where
   pub out : List ℕ
   pub heard : (said : List Reply) → AreReplies said answer → IsHeard said out

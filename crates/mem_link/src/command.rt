@@ -45,7 +45,7 @@ pub(crate) struct Counts {
 }
 
 impl CommandName {
-    /// That of the command whose line begins with these bytes: the word behind the tag, or behind `UID`, in upper case as
+    /// That of the command whose line begins with these bytes: the word after the tag, or after `UID`, in upper case as
     /// `imap_commands` writes it.
     pub(crate) fn read(line: &[u8]) -> Option<CommandName> {
         let mut words = line.split(|byte| *byte == b' ').skip(1);
@@ -53,7 +53,7 @@ impl CommandName {
             b"UID" => words.next()?,
             word => word,
         };
-        // Of a command without arguments the line ends behind its name.
+        // Of a command without arguments the line ends after its name.
         match word.strip_suffix(b"\r\n".as_slice()).unwrap_or(word) {
             b"CAPABILITY" => Some(CommandName::Capability),
             b"LOGIN" => Some(CommandName::Login),
@@ -99,7 +99,7 @@ impl Counts {
         }
     }
 
-    /// Counts a command that is sent, and tells which one it is.
+    /// Counts a command that is sent, and returns which one it is.
     pub(crate) fn push(&mut self, name: CommandName) -> Nth {
         let next = self.next(name);
         self.sent[name.place()] = next.number;

@@ -1,4 +1,4 @@
-//! Replies without APPENDUID, as a server says them that does not tell UIDs (RFC 9051, section 6.3.12, leaves that to the server).
+//! Replies without APPENDUID, as a server sends them that does not report UIDs (RFC 9051, section 6.3.12, leaves that to the server).
 
 ghost use Rattle.std.specs.Prelude.{◌≡◌, ◌<◌, ◌≤◌, true, IfOk, IfSome, IsNone, OnOk, List, length, map, take};
 ghost use Rattle.std.specs.List.{list_all};
@@ -26,7 +26,7 @@ use wire_tokens::tag::Tag;
 /// The longest text that a reply without a code is given, in bytes. The server of this process has none so long.
 const LONGEST: usize = 1024;
 
-/// The same replies, where each tagged OK comes without APPENDUID. The text behind the code stays. One that begins with `[` cannot stand
+/// The same replies, where each tagged OK comes without APPENDUID. The text after the code stays. One that begins with `[` cannot stand
 /// without a code, and one of more than 1024 bytes is none of a server in this process: such a reply stays as it is.
 ///
 /// `AllocError`: memory ran out. (So it is where the bytes are no replies, too, which no server of this process says.)

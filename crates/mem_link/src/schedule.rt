@@ -22,7 +22,7 @@ pub enum LinkStop {
         /// How many octets the server reads, or all of them if there are fewer. It does not read the end of the command.
         octets: usize,
     },
-    /// In the tagged reply to an APPEND, or behind it.
+    /// In the tagged reply to an APPEND, or after it.
     InReply {
         /// Which APPEND, counted from 1.
         append: u64,
@@ -50,7 +50,7 @@ impl LinkStop {
         }
     }
 
-    /// How many bytes more can be received, where it stops behind some.
+    /// How many bytes more can be received, if it stops after some.
     fn room(self, received: usize) -> Option<usize> {
         match self {
             LinkStop::Received(count) => count.checked_sub(received),

@@ -63,7 +63,7 @@ impl Sent {
         }
     }
 
-    /// Counts what is sent, and tells what it is.
+    /// Counts what is sent, and returns what it is.
     pub(crate) fn push(&mut self, bytes: &[u8]) -> Sending {
         let before = self.bytes;
         self.bytes = before.saturating_add(bytes.len());
@@ -102,7 +102,7 @@ impl Sent {
         sending
     }
 
-    /// A literal goes on, and its command ends if something stands behind it.
+    /// A literal goes on, and its command ends if something follows it.
     fn go_on(&mut self, before: usize, len: usize, octets: Octets) -> Sending {
         let ends = octets.ends_in(len);
         if !ends {

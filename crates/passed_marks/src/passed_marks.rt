@@ -1,4 +1,4 @@
-//! The marks of messages that a search went past, so that a search for another mark goes on behind them.
+//! The marks of messages that a search went past, so that a search for another mark begins after them.
 
 ghost use Rattle.std.specs.Prelude.{◌≡◌, ◌<◌, ◌≤◌, ◌+◌, true, false, List, ℕ, All, OnOk, max};
 ghost use Rattle.mailcore.specs.declared.mailbox.Message.{Message};
@@ -16,7 +16,7 @@ use std::collections::HashSet;
 pub struct PassedMarks {
     /// The first UID of the range.
     pub from: u32,
-    /// The UID behind its last one.
+    /// The UID after its last one.
     pub below: u32,
     /// The marks of its messages, also of those that are gone by now.
     pub marks: HashSet<Tuid>,
@@ -47,8 +47,8 @@ impl PassedMarks {
         }
     }
 
-    /// Begins a search for a mark from a UID on, which goes on behind the range: that stays where the search may pass it, and is
-    /// else an empty one at the UID.
+    /// Begins a search for a mark from a UID on, which goes on after the range. The range stays if the search may pass it; otherwise it
+    /// becomes an empty one at the UID.
     pub fn begin(&mut self, mark: Tuid, from: u32)
         ensures reaches { (self.new.from ≤ from) × (from ≤ self.new.below) }
         ensures passed { (next : ℕ) (messages : List Message) → ArePassed next messages self.old → ArePassed next messages self.new }
@@ -63,7 +63,7 @@ impl PassedMarks {
         }
     }
 
-    /// The search went past the message with this UID, which bears this mark, or none, and is the first one behind the range.
+    /// The search went past the message with this UID, which bears this mark, or none, and is the first one after the range.
     pub fn pass(&mut self, uid: Uid, mark: Option<Tuid>) -> Result<(), AllocError>
         ensures range { OnOk result ((self.new.from ≡ self.old.from) × (self.new.below ≡ uid + 1)) }
         ensures passed { (next : ℕ) (messages : List Message) → uid < next → ArePassed next messages self.old
@@ -77,8 +77,7 @@ impl PassedMarks {
         Ok(())
     }
 
-    /// The search went past all messages behind the range up to this UID, which is behind them. Each of them bears one of these
-    /// marks, or none.
+    /// The search went past all messages after the range and before this UID. Each of them bears one of these marks, or none.
     pub fn pass_all(&mut self, marks: &[Tuid], below: u32) -> Result<(), AllocError>
         ensures range { OnOk result ((self.new.from ≡ self.old.from) × (self.new.below ≡ max self.old.below below)) }
         ensures passed { (next : ℕ) (messages : List Message) → below ≤ next → ArePassed next messages self.old

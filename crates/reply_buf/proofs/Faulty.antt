@@ -41,7 +41,7 @@ fault_tells xs faults.LineTooLong t w = faulty xs (Err faults.LineTooLong) t w (
 fault_tells xs (faults.LiteralTooLong at) t w = faulty xs (Err (faults.LiteralTooLong at)) t w (λ a n h. h) (λ h. h)
 fault_tells xs faults.NoMemory t w = tt
 
--- ---- bytes behind those at which a fault was told
+-- ---- bytes after those at which a fault was reported
 
 pub faulty_longer : (bytes more : List ℕ) → IsFaulty bytes → IsFaulty (bytes ++ more)
 faulty_longer bytes more f reply front back rest h fits e = f reply front back (more ++ rest) h fits (sym (append_assoc bytes more rest) ∙ e)

@@ -1,4 +1,4 @@
--- What a look at the front of some of the bytes tells of all of them.
+-- What a look at the front of some of the bytes says about all of them.
 use Rattle.std.proofs.Common.{◌≡◌, ℕ, List, ◌++◌, refl, subst, arith, take, drop, take-append-drop, length-append, sym, ◌∙◌, Result, Ok, Err}
 use Rattle.std.proofs.lemmas.List.{take-append-le}
 use Rattle.wire_reader.specs.declared.answer.Read.{Read}

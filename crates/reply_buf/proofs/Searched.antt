@@ -48,7 +48,7 @@ empty_back : (l m : List ℕ) (b c : ℕ) → b ∷ [] ≡ c ∷ (l ++ m) → m 
 empty_back [] m b c e = cc
 empty_back (x ∷ l) m b c e = cc
 
--- a reply that ends behind bytes in which none is whole ends at a place behind these
+-- a reply that ends after bytes in which none is whole ends at a place after these
 module _ (xs : List ℕ) (none : NoneWhole xs) (r : Reply) (front back : List ℕ) (h : ReplyText r front) (fits : outside front ≤ 65536) where
   at_seam : (more : List ℕ) → xs ++ more ≡ front → more ≡ [] → ⊥
   at_seam more e n = none r front [] h fits (sym (append-nil xs) ∙ ap (λ (l : List ℕ). xs ++ l) (sym n) ∙ e ∙ sym (append-nil front))
@@ -67,7 +67,7 @@ module _ (xs : List ℕ) (none : NoneWhole xs) (r : Reply) (front back : List �
         | inr f ↦ behind_by ends.front more e ends.parts ends.outside n f.more f.is f.rest
       ]
 
--- behind bytes in which none is whole no place has come
+-- after bytes in which none is whole no place has come
 pub none_between : (xs ys : List ℕ) → NoneWhole xs → NoPlace xs ys → NoneWhole (xs ++ ys)
 none_between xs ys none n r front back h fits e = elim (fronts xs ys front back e) [
   | inl f ↦ ends_at_place xs none r front back h fits f.more f.is (subst (NoPlace xs) f.rest n)

@@ -1,4 +1,4 @@
--- What the bytes of a buffer are to who sees the part that was read and what stands behind it.
+-- What the bytes of a buffer are to who sees the part that was read and what follows it.
 use Rattle.std.proofs.Common.{◌≡◌, ◌≤◌, ℕ, ◌+◌, ◌-◌, List, ◌++◌, sym, ◌∙◌, ap, arith, length, take, drop, length-drop, length-take-le}
 use Rattle.std.proofs.lemmas.List.{take_all, take-take, drop-drop, drop-take, drop-append-le}
 use Rattle.reply_buf.specs.Buffers.{Buffer}

@@ -4,7 +4,7 @@ use Rattle.wire_reader.specs.declared.answer.Read.{Read}
 use Rattle.wire_reader.specs.declared.answer.Read.TheVariants.{Whole, WantsLiteral, Partial}
 use Rattle.wire_reader.specs.declared.answer.WireFault.{WireFault}
 
--- the bytes of the replies that were read and not dropped, and those that stand behind them
+-- the bytes of the replies that were read and not dropped, and those that follow them
 pub record Buffer : Type 0 where
   pub read : List ℕ
   pub unread : List ℕ

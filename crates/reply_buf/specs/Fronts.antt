@@ -34,7 +34,7 @@ IsBreach LineTooLong bytes = IsFaulty bytes
 IsBreach (LiteralTooLong at) bytes = IsFaulty bytes
 IsBreach NoMemory bytes = Unit {0}
 
--- what a look at their front tells: of a reply, its length alone
+-- what a look at their front returns: of a reply, its length alone
 abbrev pub Looks : List ℕ → Result (Read (Unit {0})) WireFault → Type 0
 Looks bytes (Ok (Whole _ len)) = IsWhole bytes len
 Looks bytes (Ok (WantsLiteral n)) = ⊥

@@ -16,7 +16,7 @@ use std::alloc::Global;
 use std::marker::Model;
 use wire_reader::answer::{Read, WireFault};
 
-/// What came from a server: replies that were read and are kept until `forget`, and the bytes behind them.
+/// What came from a server: replies that were read and are kept until `forget`, and the bytes after them.
 ///
 /// Replies are read where they lie, and no reply has a vector of its own. Each byte is scanned once, whatever the pieces are
 /// in which it comes. Bytes that were dropped make room once they are more than half of all.
@@ -96,10 +96,10 @@ impl ReplyBuf {
         self.next = len;
     }
 
-    /// Reads the next reply, but tells its length alone; `last` reads its text.
+    /// Reads the next reply, but returns its length alone; `last` reads its text.
     ///
-    /// A line that breaks the protocol is told once it has ended: until then `Partial` is told of it, where `next` tells the fault at once.
-    /// After a fault the same is told again, and after `NoMemory` it can be tried again.
+    /// A line that breaks the protocol is reported once it has ended. Until then the answer is `Partial`, where `next` reports the fault at
+    /// once. After a fault the same fault is reported again, and after `NoMemory` it can be tried again.
     pub fn step(&mut self) -> Result<Read<()>, WireFault>
         ensures looks { Looks self.old.unread result }
         ensures moves { Moves result self.old self.new }
@@ -135,7 +135,7 @@ impl ReplyBuf {
         }
     }
 
-    /// What `step` tells, without reading: a look at the front of the bytes that were not read.
+    /// What `step` returns, without reading: a look at the front of the bytes that were not read.
     fn found(&mut self) -> Result<Read<()>, WireFault>
         ensures looks { Looks self.old.unread result }
         ensures same { self.new ≡ self.old }

@@ -49,7 +49,7 @@ impl Search {
 
     /// Looks at the front of the bytes, of which those before were looked at already: at each further place.
     ///
-    /// After a fault it has gone past the bytes at which it was told.
+    /// After a fault it has gone past the bytes at which the fault was reported.
     pub(crate) fn look(&mut self, alloc: Global, bytes: &[u8]) -> Result<Read<()>, WireFault>
         requires { IsSearched self.old bytes.now }
         ensures looks { Looks bytes.now result }
@@ -68,7 +68,7 @@ impl Search {
     }
 }
 
-/// Reads the reply at the front of the bytes; tells its length alone.
+/// Reads the reply at the front of the bytes; returns its length alone.
 fn read_length(alloc: Global, bytes: &[u8]) -> Result<Read<()>, WireFault>
     ensures { Looks bytes.now result }
 {

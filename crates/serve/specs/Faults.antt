@@ -4,7 +4,7 @@ use Rattle.std.specs.declared.io.ErrorKind.TheVariants.{OutOfMemory}
 use Rattle.serve.specs.declared.fault.ServeFault.{ServeFault}
 use Rattle.serve.specs.declared.fault.ServeFault.TheVariants.{Connection, NoMemory}
 
--- want of memory is told as such, and any other error as one of the connection
+-- too little memory is reported as such, and any other error as one of the connection
 abbrev pub told : ErrorKind → ServeFault
 told OutOfMemory = NoMemory
 told _ = Connection

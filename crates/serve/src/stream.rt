@@ -16,7 +16,7 @@ use std::io::{ErrorKind, Read, Write};
 /// How many bytes are read at a time.
 const PIECE_BYTES: usize = 4096;
 
-/// What becomes of a connection behind a piece.
+/// What becomes of a connection after a piece.
 #[derive(Clone, Copy, PartialEq, Eq)]
 pub(crate) enum Turn {
     /// More may come.
@@ -25,8 +25,8 @@ pub(crate) enum Turn {
     Ends,
 }
 
-/// Serves one connection: greets, and answers what `input` gives, until it ends or the server reads no more (behind LOGOUT,
-/// and where it ends the connection). Then the server is hung up, and so it is behind a fault.
+/// Serves one connection: greets, and answers what `input` gives, until it ends or the server reads no more (after LOGOUT,
+/// and where it ends the connection). Then the server is hung up, and so it is after a fault.
 ///
 /// `Connection`: reading or writing failed. `NoMemory`: memory ran out. What was answered before is done.
 pub fn serve_stream<R: Read, W: Write>(

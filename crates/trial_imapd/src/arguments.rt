@@ -11,7 +11,7 @@ pub const USAGE: &str = "trial-imapd ADDR FILE COUNT";
 /// What is asked for.
 #[derive(Drop)]
 pub enum Request {
-    /// The usage is told.
+    /// The usage is printed.
     Help,
     /// Connections are served.
     Serve(Task),

@@ -19,7 +19,7 @@ pub enum Failure {
     /// This line of the world is a bad one.
     #[error("world line {0}")]
     World(usize),
-    /// The usage cannot be told.
+    /// The usage cannot be printed.
     #[error("cannot write")]
     Output,
     /// A growth was refused.

@@ -1,4 +1,4 @@
-//! What is told on a terminal: where the server listens, and each connection.
+//! What is printed on a terminal: where the server listens, and each connection.
 
 use serve::fault::ServeFault;
 use std::io::{IsTerminal, Write};
@@ -19,14 +19,14 @@ impl<'a> Notes<'a> {
         }
     }
 
-    /// Tells where the server listens. That nobody reads it is no fault.
+    /// Prints where the server listens. It is no fault if nobody reads it.
     pub fn listening(&self, address: &str) {
         if self.is_told {
             let _ = writeln!(self.rt.stderr(), "trial-imapd: listens on {address}");
         }
     }
 
-    /// Tells how a connection ended; the first has the number 1.
+    /// Prints how a connection ended; the first has the number 1.
     pub fn served(&self, number: u32, ended: Result<(), ServeFault>) {
         if !self.is_told {
             return;

@@ -40,7 +40,7 @@ fn open_server(rt: &HostRuntime, file: &str) -> Result<Server, Failure> {
     let world = read_world(alloc, &text, Waiting::Kept)?;
     let mut mailboxes = Vec::new(alloc);
     mailboxes.push(world.far)?;
-    // What a world says of a far mailbox, a server can tell.
+    // A server can serve each far mailbox that a world describes.
     if !are_served(&mailboxes) {
         return Err(Failure::cannot_open(file, alloc));
     }
@@ -70,7 +70,7 @@ fn serve_all(
     Ok(())
 }
 
-/// Serves a connection, and tells the client that no more comes.
+/// Serves a connection, and then ends its output, so that the client knows that no more comes.
 fn serve_one(server: &mut Server, stream: &TcpStream) -> Result<(), ServeFault> {
     let mut input = stream;
     let mut output = stream;
