@@ -1,4 +1,4 @@
-//! What calls answer, as it is told.
+//! The answers of calls, as they are reported.
 
 use imap_link::fault::FarFault;
 use mailcore::listing::{Item, Listing};
@@ -72,7 +72,7 @@ fn tell_bytes(told: &mut Told, bytes: &[u8]) {
     }
 }
 
-/// `validity V, next N`, and for each message `; UID FLAGS`, behind which one that is not fit to be copied is told `unfit`.
+/// `validity V, next N`, and for each message `; UID FLAGS`, with `unfit` after it if the message is not fit to be copied.
 pub fn tell_listing(told: &mut Told, listing: &Listing) {
     told.text("validity ");
     told.number(u64::from(listing.validity));

@@ -106,7 +106,7 @@ impl<L: Link + Drop> Client<L> {
         self.stand = stand;
     }
 
-    /// Keeps what stands in place of what the call would take.
+    /// Puts back what the call cannot take.
     fn keep_other(&mut self, stand: Stand<L>, line: &mut Words<'_>, told: &mut Told) {
         self.stand = stand;
         tell_not_made(line, told);
@@ -197,7 +197,7 @@ fn selected<L: Link + Drop>(
     }
 }
 
-/// The call cannot be made: what else its line says is passed over.
+/// The call cannot be made; the rest of its line is skipped.
 fn tell_not_made(line: &mut Words<'_>, told: &mut Told) {
     if !line.is_over() {
         let _ = line.rest();

@@ -8,9 +8,9 @@ use test_scripts::told::Told;
 /// What an end of the bytes does.
 #[derive(Clone, Copy)]
 struct Effect {
-    /// The place of the first call that answers otherwise; behind all calls where none does.
+    /// The place of the first call that answers otherwise; after all calls where none does.
     place: usize,
-    /// Whether this call stops, and those behind it are stopped and send nothing.
+    /// Whether this call stops, and those after it are stopped and send nothing.
     stops: bool,
 }
 
@@ -21,7 +21,7 @@ struct Run {
     effect: Effect,
 }
 
-/// Plays these lines with each beginning of what the server says in them, and tells what comes of it.
+/// Plays these lines with each beginning of what the server says in them, and reports what comes of it.
 pub fn tell_cuts(alloc: Global, lines: &str, told: &mut Told) -> Result<(), Failure> {
     let whole = Record::of(alloc, lines, usize::MAX)?;
     tell_runs(alloc, lines, &whole, told)
@@ -46,7 +46,7 @@ fn tell_runs(alloc: Global, lines: &str, whole: &Record, told: &mut Told) -> Res
     Ok(())
 }
 
-/// What it does that the bytes end behind so many.
+/// What an end of the bytes after so many does.
 fn effect_at(alloc: Global, lines: &str, whole: &Record, room: usize) -> Result<Effect, Failure> {
     let cut = Record::of(alloc, lines, room)?;
     Ok(effect_of(whole, &cut))
@@ -67,7 +67,7 @@ fn effect_of(whole: &Record, cut: &Record) -> Effect {
     }
 }
 
-/// Whether the call at this place stops, and those behind it are stuck.
+/// Whether the call at this place stops, and those after it are stuck.
 fn stops_at(cut: &Record, place: usize) -> bool {
     let mut answers = cut.answers.as_str().lines().skip(place);
     let stops = match answers.next() {
@@ -87,7 +87,7 @@ fn is_stuck(call: &str, answer: &str) -> bool {
 }
 
 impl Run {
-    /// Tells the cuts of a run, up to this one.
+    /// Reports the cuts of a run, up to this one.
     fn tell(self, told: &mut Told, whole: &Record, end: usize) {
         if self.from >= end {
             return;

@@ -7,7 +7,7 @@ use mailcore::side::Side;
 use std::alloc::{AllocError, Global};
 use test_scripts::told::Told;
 
-/// What a server holds, told in the calls of a client that lists it.
+/// What a server holds, as a client that lists it reports it.
 #[derive(Drop)]
 pub struct Held {
     /// How a client goes on whose call was cut: it connects anew, and lists the mailboxes and each of them.
@@ -31,7 +31,7 @@ impl Held {
         }
     }
 
-    /// Tells what a server with these mailboxes holds.
+    /// Adds what a server with these mailboxes holds.
     pub fn tell(&mut self, alloc: Global, mailboxes: &[Mailbox]) -> Result<(), AllocError> {
         self.tell_names(alloc, mailboxes)?;
         for mailbox in mailboxes {
@@ -87,7 +87,7 @@ impl Held {
             && self.bodies.as_str() == other.bodies.as_str()
     }
 
-    /// Whether something could not be told for want of memory.
+    /// Whether something could not be reported since memory ran out.
     pub fn is_lost(&self) -> bool {
         self.calls.is_lost()
             || self.answers.is_lost()
@@ -95,7 +95,7 @@ impl Held {
             || self.bodies.is_lost()
     }
 
-    /// Tells the mailboxes that are others than before.
+    /// Reports the mailboxes that have changed.
     pub fn tell_change(&self, before: &Held, told: &mut Told) {
         for line in self.listings.as_str().lines() {
             let mut others = before.listings.as_str().lines();

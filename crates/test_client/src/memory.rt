@@ -45,7 +45,7 @@ impl Memory {
         }
     }
 
-    /// Plays a line: one of the server, or a call, whose answer is told.
+    /// Plays a line: one of the server, or a call, whose answer is reported.
     pub fn play(&mut self, line: &mut Words<'_>, told: &mut Told) -> Result<(), Failure> {
         match line.word() {
             "mailbox" => self.mailboxes.push(read_mailbox(self.alloc, line)?)?,

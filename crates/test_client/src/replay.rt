@@ -17,7 +17,7 @@ pub struct Came {
     pub last: Told,
     /// The answers of those that look what stands then.
     pub look: Told,
-    /// What the server holds behind them.
+    /// What the server holds after them.
     pub held: Held,
     /// How many calls of the link have stopped.
     pub stops: usize,

@@ -29,7 +29,7 @@ struct Unbroken<'a> {
 }
 
 impl Scene<'_> {
-    /// Tells what comes of the call, unbroken and cut.
+    /// Reports what comes of the call, unbroken and cut.
     pub fn tell(self, told: &mut Told) -> Result<(), Failure> {
         let before = replay(self.alloc, self.lines, "", "", None)?;
         self.tell_behind(&before.held, told)
@@ -56,7 +56,7 @@ impl Scene<'_> {
         Ok(())
     }
 
-    /// Cuts the call behind each byte that is sent or received.
+    /// Cuts the call after each byte that is sent or received.
     fn cut_each(self, unbroken: Unbroken<'_>, is_sent: bool) -> Result<Tally, Failure> {
         let mut tally = Tally::new();
         for place in 0..usize::MAX {

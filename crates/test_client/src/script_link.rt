@@ -32,7 +32,7 @@ impl<'t> ScriptLink<'t> {
         LinkFault::Stopped
     }
 
-    // Writes the next bytes to the front of the piece, and tells how many; none at their end.
+    // Writes the next bytes to the front of the piece, and returns how many; none at their end.
     fn take(&self, piece: &mut [u8]) -> usize
         ensures { result ≤ length piece.new }
     {

@@ -25,7 +25,7 @@ impl<'t> Stage<'t> {
         }
     }
 
-    /// Takes a line of what goes over the link in the next call; tells whether it is one.
+    /// Takes a line of what goes over the link in the next call; returns whether it is one.
     pub fn talk(&self, word: &str, line: &mut Words<'_>) -> Result<bool, Failure> {
         match self.tape.try_borrow_mut() {
             Ok(mut tape) => tape.talk(word, line),
@@ -43,7 +43,7 @@ impl<'t> Stage<'t> {
         self.client.make(word, line, told)
     }
 
-    /// Ends a call. Tells what was sent in it though the script does not say so, and what was not, though it does; gives whether
+    /// Ends a call. Reports what was sent in it though the script does not say so, and what was not, though it does. Returns whether
     /// anything was sent.
     pub fn end_call(&self, told: &mut Told) -> Result<bool, Failure> {
         match self.tape.try_borrow_mut() {

@@ -11,7 +11,7 @@ pub enum Cut {
     WithEffect,
     /// The call is cut, and the effect does not stand.
     Without,
-    /// Something is not as it must be, which is told so.
+    /// Something is not as it must be; this text says what.
     Wrong(&'static str),
     /// The call needs no more bytes, and comes to what it does without a cut, or does not.
     Behind(bool),
@@ -37,7 +37,7 @@ impl Tally {
         }
     }
 
-    /// Counts a cut behind so many bytes; tells whether it is behind the last of them.
+    /// Counts a cut after so many bytes; returns whether it is after the last of them.
     pub fn add(&mut self, place: usize, cut: Cut) -> bool {
         match cut {
             Cut::Earlier | Cut::Behind(true) => {}
@@ -58,7 +58,7 @@ impl Tally {
         }
     }
 
-    /// Tells what came of the cuts in this direction.
+    /// Reports what came of the cuts in this direction.
     pub fn tell(&self, told: &mut Told, direction: &str) {
         let cuts = self.with_effect.saturating_add(self.without);
         told.begin();

@@ -11,7 +11,7 @@ use test_scripts::words::Words;
 /// The most bytes of a piece where a script does not say it.
 pub const PIECE: usize = 4096;
 
-/// What the server says behind what it waits for.
+/// What the server says after what it waits for.
 #[derive(Drop)]
 struct Turn {
     awaited: Vec<u8>,
@@ -68,7 +68,7 @@ impl Tape {
         *self = Tape::new(self.alloc, usize::MAX);
     }
 
-    /// Takes a line of what goes over the link in the next call; tells whether it is one.
+    /// Takes a line of what goes over the link in the next call; returns whether it is one.
     pub fn talk(&mut self, word: &str, line: &mut Words<'_>) -> Result<bool, Failure> {
         match word {
             "S:" => self.add(true, line.rest(), b"\r\n")?,
@@ -92,7 +92,7 @@ impl Tape {
         Ok(())
     }
 
-    /// Adds to what the server says, or waits for. What it waits for behind what it says begins a turn.
+    /// Adds to what the server says, or waits for. What it waits for after what it says begins a turn.
     fn add(&mut self, is_said: bool, bytes: &[u8], end: &[u8]) -> Result<(), AllocError> {
         let begins = match self.turns.last() {
             Some(turn) => !is_said && !turn.said.is_empty(),
@@ -116,7 +116,7 @@ impl Tape {
         Ok(())
     }
 
-    /// Begins a new connection; what was said on an earlier one is lost. Tells whether the server can be reached.
+    /// Begins a new connection; what was said on an earlier one is lost. Returns whether the server can be reached.
     pub fn connect(&mut self) -> bool {
         self.said.clear();
         self.received = 0;
@@ -124,7 +124,7 @@ impl Tape {
         self.is_reachable
     }
 
-    /// Sends these bytes; tells whether all of them went.
+    /// Sends these bytes; returns whether all of them went.
     pub fn send(&mut self, bytes: &[u8]) -> bool {
         self.answer();
         self.has_sent = true;
@@ -154,7 +154,7 @@ impl Tape {
         }
     }
 
-    /// Writes the next bytes to the front of the piece, and tells how many; none at their end.
+    /// Writes the next bytes to the front of the piece, and returns how many; none at their end.
     pub fn receive(&mut self, piece: &mut [u8]) -> usize
         ensures { result ≤ length piece.new }
     {
@@ -166,8 +166,8 @@ impl Tape {
         count
     }
 
-    /// The call has ended. Tells what was sent in it though the server does not wait for it, and what was not, though it does;
-    /// gives whether anything was sent.
+    /// The call has ended. Reports what was sent in it though the server does not wait for it, and what was not, though it does. Returns
+    /// whether anything was sent.
     pub fn end_call(&mut self, told: &mut Told) -> bool {
         tell_lines(told, "sent ", &self.sent);
         for turn in self.turns.iter().skip(self.came) {
@@ -186,13 +186,13 @@ impl Tape {
         self.spoken
     }
 
-    /// Whether something did not go over the link for want of memory.
+    /// Whether something did not go over the link since memory ran out.
     pub fn is_lost(&self) -> bool {
         self.is_lost
     }
 }
 
-/// An answer for each line in these bytes, behind these words.
+/// An answer for each line in these bytes, after these words.
 fn tell_lines(told: &mut Told, words: &str, bytes: &[u8]) {
     for line in bytes.split_inclusive(|byte| *byte == b'\n') {
         told.begin();

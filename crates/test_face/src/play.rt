@@ -77,14 +77,14 @@ impl Player for Faces {
     }
 }
 
-/// Tells what the server gets.
+/// Reports what the server gets.
 fn tell_sent(sent: &[u8], told: &mut Told) {
     for line in sent.split(|b| *b == b'\n') {
         tell_line(told, "", line);
     }
 }
 
-/// Tells how much a client hears where one line comes so often.
+/// Reports how much a client hears if one line comes so often.
 fn tell_often(alloc: Global, line: &mut Words<'_>, told: &mut Told) -> Result<(), Failure> {
     let count = line.count();
     let text = line.rest();
@@ -102,7 +102,7 @@ fn tell_often(alloc: Global, line: &mut Words<'_>, told: &mut Told) -> Result<()
     Ok(())
 }
 
-/// Tells what a client hears where these bytes come.
+/// Reports what a client hears if these bytes come.
 fn tell_heard(alloc: Global, bytes: &[u8], told: &mut Told) -> Result<(), Failure> {
     let heard = Hearing::of(alloc, bytes, usize::MAX)?;
     if heard.bytes.is_empty() {
@@ -125,7 +125,7 @@ fn tell_heard(alloc: Global, bytes: &[u8], told: &mut Told) -> Result<(), Failur
     tell_cuts(alloc, bytes, &heard, told)
 }
 
-/// Tells whether the link gave up, and over which reply.
+/// Reports whether the link gave up, and over which reply.
 fn tell_end(heard: &Hearing, told: &mut Told) {
     if heard.gave_up {
         told.answer("gives up");
@@ -135,7 +135,7 @@ fn tell_end(heard: &Hearing, told: &mut Told) {
     }
 }
 
-/// Tells where other bytes are heard if these come in pieces.
+/// Reports where other bytes are heard if these come in pieces.
 fn tell_pieces(
     alloc: Global,
     bytes: &[u8],
@@ -154,7 +154,7 @@ fn tell_pieces(
     Ok(())
 }
 
-/// Tells where bytes that are cut give other bytes than a beginning.
+/// Reports where bytes that are cut give other bytes than a beginning.
 fn tell_cuts(alloc: Global, bytes: &[u8], whole: &Hearing, told: &mut Told) -> Result<(), Failure> {
     if bytes.len() >= CUT_MAX {
         return Ok(());

@@ -8,8 +8,8 @@ use test_scripts::failure::Failure;
 use test_scripts::told::Told;
 use test_scripts::words::Words;
 
-/// Plays these lines with each beginning of what the server says in them, and tells at which places the bytes end so that the runs
-/// answer the same.
+/// Plays these lines with each beginning of what the server says in them, and reports at which places the bytes end so that the runs answer
+/// the same.
 pub(crate) fn tell_cuts(alloc: Global, lines: &str, told: &mut Told) -> Result<(), Failure> {
     let spoken = spoken_in(alloc, lines)?;
     let mut last = Told::new(alloc);
@@ -58,7 +58,7 @@ fn play_all(
     Ok(())
 }
 
-/// Plays a line. What was not sent, since the bytes ended, is not told.
+/// Plays a line. What was not sent, since the bytes ended, is not reported.
 fn play_line(
     alloc: Global,
     stage: &mut Stage<'_>,
@@ -73,7 +73,7 @@ fn play_line(
     Ok(())
 }
 
-/// Tells what was answered at the places from one on, up to another one.
+/// Reports what was answered at the places from one on, up to another one.
 fn tell(told: &mut Told, from: usize, end: usize, answers: &Told) {
     if from >= end {
         return;

@@ -32,7 +32,7 @@ impl<'t> Stage<'t> {
         }
     }
 
-    /// Plays a line that begins with this word, and tells what it answers. Gives whether it was a run. `Script`: it has no meaning here.
+    /// Plays a line that begins with this word, and reports the answer. Returns whether it was a run. `Script`: it has no meaning here.
     pub(crate) fn play(
         &mut self,
         word: &str,
@@ -87,7 +87,7 @@ impl<'t> Stage<'t> {
         Ok(())
     }
 
-    /// Ends a run. Tells what was sent in it though the script does not say so, and what was not, though it does.
+    /// Ends a run. Reports what was sent in it though the script does not say so, and what was not, though it does.
     pub(crate) fn end_run(&self, told: &mut Told) -> Result<(), Failure> {
         match self.tape.try_borrow_mut() {
             Ok(tape) if tape.is_lost() => Err(Failure::NoMemory),

@@ -9,7 +9,7 @@
 //! | Line | Answer |
 //! |---|---|
 //! | `mailbox VALIDITY NEXT NAME` | a mailbox of the next server |
-//! | `message UID FLAGS "BYTES"` | a message of this mailbox, behind the others |
+//! | `message UID FLAGS "BYTES"` | a message of this mailbox, after the others |
 //! | `C: TEXT` | TEXT as it stands, with its line end, is sent |
 //! | `part TEXT` | the same without the line end |
 //! | `bytes "BYTES"`, `times N "BYTES"` | these bytes are sent; so many times, at once |
@@ -19,7 +19,7 @@
 //!
 //! | Line | Answer |
 //! |---|---|
-//! | `server` | a server with these mailboxes, for the user `u` with the password `p`, stands in place of the last one |
+//! | `server` | a server with these mailboxes, for the user `u` with the password `p`, replaces the last one |
 //! | `connect` | a connection begins: the greeting |
 //! | `pieces N` | from here on bytes are fed in pieces of N |
 //! | `hang up` | the connection ends |
@@ -33,11 +33,11 @@
 //!
 //! | Line | Answer |
 //! |---|---|
-//! | `stop before NAME K`, `stop after NAME K` | the next link stops at the K-th command of this name, before it is done or behind it |
+//! | `stop before NAME K`, `stop after NAME K` | the next link stops at the K-th command of this name, before it is done or after it |
 //! | `stop literal K B` | it stops where the server has read B octets of the literal of the K-th APPEND |
 //! | `stop reply K B` | it stops where B bytes of the tagged reply to the K-th APPEND have come |
 //! | `stop sent N`, `stop received N` | it stops where so many bytes were sent, or received |
-//! | `link memory`, `link memory N`, `link loopback` | a link to a server with these mailboxes, for the user `u` with the password `p`, stands in place of the last one: in memory (where at most N bytes come at once), or over a loopback connection |
+//! | `link memory`, `link memory N`, `link loopback` | a link to a server with these mailboxes, for the user `u` with the password `p`, replaces the last one: in memory (where at most N bytes come at once), or over a loopback connection |
 //! | `reconnect` | a new connection: `ok`, or why not |
 //! | `receive` | what comes by one call, or why nothing does |
 //! | `count` | how many bytes come by calls up to the first that gives fewer than 4096 |

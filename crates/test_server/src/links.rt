@@ -41,7 +41,7 @@ impl Links {
         }
     }
 
-    /// `memory`, `memory N` or `loopback`: a link stands in place of the last one.
+    /// `memory`, `memory N` or `loopback`: a link replaces the last one.
     fn set_link(&mut self, line: &mut Words<'_>) -> Result<(), Failure> {
         let alloc = self.rt.alloc();
         let server = make_server(alloc, &mut self.mailboxes)?;

@@ -34,7 +34,7 @@ pub fn add_message(
     }
 }
 
-/// A server that takes these mailboxes, for the user `u` with the password `p`. `Script`: it cannot tell of them.
+/// A server that takes these mailboxes, for the user `u` with the password `p`. `Script`: it cannot serve them.
 pub fn make_server(alloc: Global, mailboxes: &mut Vec<Mailbox>) -> Result<Server, Failure>
     ensures { IfOk result (λ server. AreServed server.server.mailboxes) }
 {

@@ -82,7 +82,7 @@ impl Write for Output {
     }
 }
 
-/// Serves what a client sends from memory. `until read K` or `until write K`: the K-th call fails, and each behind it.
+/// Serves what a client sends from memory. `until read K` or `until write K`: the K-th call fails, and each after it.
 pub fn serve_memory(
     alloc: Global,
     server: &mut Server,

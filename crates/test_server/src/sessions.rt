@@ -123,7 +123,7 @@ impl Player for Sessions {
     }
 }
 
-/// Feeds bytes in pieces, and answers the replies. Behind a fault nothing more is fed.
+/// Feeds bytes in pieces, and answers the replies. After a fault nothing more is fed.
 fn feed(server: &mut Server, sent: &[u8], piece: usize, told: &mut Told)
     requires { 0 < piece }
 {

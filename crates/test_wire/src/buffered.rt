@@ -9,8 +9,8 @@ use test_scripts::told::Told;
 /// How many bytes a piece has.
 const SIZES: &[usize] = &[1, 2, 7];
 
-/// Tells, for each size of the pieces, what the buffer answers at the end, how many bytes it holds then, and how many once
-/// those that were read are dropped; and where the reader answers otherwise to the whole.
+/// Reports, for each size of the pieces, what the buffer answers at the end, how many bytes it holds then, and how many once those that
+/// were read are dropped; and the answer of the reader to the whole, if it is another one.
 pub fn answer_buffered(alloc: Global, told: &mut Told, bytes: &[u8]) -> Result<(), Failure> {
     let whole = shown(alloc, &read_reply(alloc, bytes))?;
     for size in SIZES {
@@ -28,7 +28,7 @@ pub fn answer_buffered(alloc: Global, told: &mut Told, bytes: &[u8]) -> Result<(
     Ok(())
 }
 
-/// Tells the next answer, and that of the reader where it is another one.
+/// Reports the next answer, and that of the reader if it is another one.
 fn tell_next(
     alloc: Global,
     told: &mut Told,
@@ -64,7 +64,7 @@ fn put_pieces(buffer: &mut ReplyBuf, bytes: &[u8], size: usize) -> Result<(), Fa
     Ok(())
 }
 
-/// An answer as it is told, and its reply as it is written.
+/// An answer as it is reported, and its reply as it is written.
 fn shown(alloc: Global, answer: &Result<Read<Reply<'_>>, WireFault>) -> Result<Told, Failure> {
     let mut shown = Told::new(alloc);
     tell_answer(&mut shown, answer);

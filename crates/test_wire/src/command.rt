@@ -9,7 +9,7 @@ use mailcore::keywords::Keywords;
 use test_scripts::told::Told;
 use wire_tokens::flag_list::FlagList;
 
-/// Tells what a command is and how it is written.
+/// Reports what a command is and how it is written.
 pub fn tell_command(tokens: &mut Tokens, told: &mut Told, command: &Command) {
     told.begin();
     tell_bytes(told, "is tag ", command.tag.text());

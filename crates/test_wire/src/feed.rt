@@ -44,7 +44,7 @@ impl Buffer {
         self.is_lost |= is_lost;
     }
 
-    /// Reads at the next place; tells whether there is one.
+    /// Reads at the next place; returns whether there is one.
     fn read_up_to_place(&mut self) -> bool {
         let new = self.bytes.get(self.scanned..).unwrap_or_default();
         let Some(count) = self.scanner.advance(new) else {

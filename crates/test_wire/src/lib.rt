@@ -7,7 +7,7 @@
 //!
 //! ```text
 //! atom "INBOX\0d\0a"                        the token at the front of the bytes
-//! command "A1 NOOP\0d\0a"                   the command there; reply alike
+//! command "A1 NOOP\0d\0a"                   the command there; reply does the same
 //! make tag 33*"a"                           the value of whole bytes, if it is one
 //! write line-text "done"                    a text and the line end
 //! has "IDLE" names "IMAP4rev2 idle\0d\0a"   whether one of the names is this, without case
@@ -17,19 +17,18 @@
 //! ```
 //!
 //! The tokens are number, nz, atom, tag, names, flags, permanent-flags, attributes, delimiter, quoted, string, nstring, text,
-//! line-text, plain-text, code-text and set. Of each is told what its reader takes, what the value is, and how it is written
-//! again.
+//! line-text, plain-text, code-text and set. Reported of each is what its reader takes, what the value is, and how it is written again.
 //!
-//! The lines of a script of `wire`, with [`play::run`]. An example stands behind the letter of its reader, without quotes.
+//! The lines of a script of `wire`, with [`play::run`]. An example follows the letter of its reader, without quotes.
 //!
 //! ```text
 //! C A1 NOOP\0d\0a        what the reader of commands answers: to the whole, to each beginning, where a scanner stops, and to
 //!                        the bytes with each one changed to others, a line for each
 //! R * 2 EXISTS\0d\0a     the same of the reader of replies
-//! c A1 NOOP\0d\0a        what the reader of commands answers to the whole alone; r alike of replies
+//! c A1 NOOP\0d\0a        what the reader of commands answers to the whole alone; r does the same for replies
 //! b * 2 EXISTS\0d\0a     what a buffer of replies answers to the whole, where it comes in pieces of 1, 2 and 7 bytes, a line for
 //!                        each size: how many bytes it holds then, and how many once those that were read are dropped; where
-//!                        the reader of replies answers otherwise, or of another reply, its answer stands behind
+//!                        the reader of replies answers otherwise, or of another reply, its answer follows
 //! listings 4             makes four FETCH replies of a listing
 //! body 50                makes a FETCH reply with a body of 50 octets
 //! read all               reads what was made, from memory

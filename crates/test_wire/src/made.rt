@@ -12,8 +12,7 @@ use test_scripts::told::Told;
 use test_scripts::words::Words;
 use wire_tokens::names::read_names;
 
-/// Tells what is made of the bytes and how it is written; nothing where they make none. The line is refused where there is no
-/// such kind.
+/// Reports what is made of the bytes and how it is written; nothing if they make none. The line is refused if there is no such kind.
 pub fn make(
     tokens: &mut Tokens,
     kind: &str,
@@ -74,7 +73,7 @@ fn make_copy(tokens: &mut Tokens, names: &Names<'_>, told: &mut Told) -> Result<
     list.names().write(&mut tokens.out)
 }
 
-/// The same of what keeps the bytes: a text, a pattern, or else a message. Of a pattern a LIST command is told too.
+/// The same of what keeps the bytes: a text, a pattern, or else a message. Of a pattern a LIST command is reported too.
 pub fn make_of_vec(tokens: &mut Tokens, kind: &str, bytes: Vec<u8>, told: &mut Told) -> Option<()> {
     match kind {
         "text" => {

@@ -1,4 +1,4 @@
-//! Replies that are made, for want of a server that sends so many.
+//! Replies that are made, since no server sends so many.
 
 use std::alloc::Global;
 use test_scripts::told::Told;

@@ -31,7 +31,7 @@ fn has(list: &str, name: &[u8], bytes: &[u8]) -> Option<bool> {
     }
 }
 
-/// `UID greatest UID`, and `set` with bytes or `alone`: tells whether the set at the front names the first, where the second is the
+/// `UID greatest UID`, and `set` with bytes or `alone`: reports whether the set at the front names the first, where the second is the
 /// greatest of the mailbox; `alone` is the set of the first.
 pub fn read_named(alloc: Global, line: &mut Words<'_>, told: &mut Told) -> Result<(), Failure> {
     let uid = line.uid();

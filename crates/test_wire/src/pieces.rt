@@ -14,7 +14,7 @@ pub fn read_pieces(alloc: Global, line: &mut Words<'_>) -> Result<Vec<u8>, Failu
 
 fn push_pieces(alloc: Global, bytes: &mut Vec<u8>, text: &str) -> Result<(), Failure> {
     let mut times = Some(0);
-    // Between quotes, which no escaped text holds, stand a number of times and a text in turn; nothing stands behind the last.
+    // Between quotes, which no escaped text holds, stand a number of times and a text in turn; nothing follows the last.
     for (index, part) in text.split('"').enumerate() {
         if index % 2 == 0 {
             times = read_times(part);

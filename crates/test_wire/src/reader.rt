@@ -30,14 +30,14 @@ impl Reader {
         }
     }
 
-    /// Tells the answer to the whole.
+    /// Reports the answer to the whole.
     pub fn answer_whole(&mut self, told: &mut Told, bytes: &[u8]) {
         told.begin();
         self.answer(told, bytes);
         told.end();
     }
 
-    /// Tells the answers to the beginnings, the places, and for each byte the answers to the bytes with it changed.
+    /// Reports the answers to the beginnings, the places, and for each byte the answers to the bytes with it changed.
     pub fn answer_parts(&mut self, told: &mut Told, bytes: &mut [u8]) {
         self.answer_beginnings(told, bytes);
         tell_places(told, bytes);
@@ -81,7 +81,7 @@ impl Reader {
     }
 }
 
-/// Adds the letter of an answer, and the number behind it if it has one.
+/// Adds the letter of an answer, and the number after it if it has one.
 pub fn tell_answer<T>(told: &mut Told, answer: &Result<Read<T>, WireFault>) {
     let (letter, number) = match answer {
         Ok(Read::Whole(_, used)) => ("w ", Some(*used)),
@@ -104,7 +104,7 @@ fn put(bytes: &mut [u8], place: usize, byte: u8) {
     }
 }
 
-/// Tells the places of the bytes, found by a scanner that is fed in pieces: for each the number of bytes up to and with it.
+/// Reports the places of the bytes, found by a scanner that is fed in pieces: for each the number of bytes up to and with it.
 fn tell_places(told: &mut Told, bytes: &[u8]) {
     let mut scanner = Scanner::new();
     let mut rest = bytes;

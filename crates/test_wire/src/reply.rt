@@ -10,7 +10,7 @@ use imap_wire::{
 use mailcore::keywords::Keywords;
 use test_scripts::told::Told;
 
-/// Tells what a reply is and how it is written.
+/// Reports what a reply is and how it is written.
 pub fn tell_reply(tokens: &mut Tokens, told: &mut Told, reply: &Reply<'_>) {
     told.begin();
     told.text("is ");
@@ -96,7 +96,7 @@ fn tell_items(tokens: &mut Tokens, told: &mut Told, items: &[FetchItem<'_>]) {
     }
 }
 
-/// Adds the text behind a word, if one stands there.
+/// Adds the text after a word, if one stands there.
 fn tell_rest(told: &mut Told, text: &Option<LineText<'_>>) {
     if let Some(text) = text {
         tell_bytes(told, ", text ", text.bytes());

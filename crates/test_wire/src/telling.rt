@@ -1,4 +1,4 @@
-//! How bytes, numbers and flags are told.
+//! How bytes, numbers and flags are reported.
 
 use mailcore::flags::Flags;
 use test_scripts::told::Told;

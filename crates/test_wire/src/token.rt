@@ -27,7 +27,7 @@ use wire_tokens::number::{number, nz, write_number};
 use wire_tokens::tag::read_tag;
 use wire_tokens::uid_set::uid_set;
 
-/// Tells what the reader of this token answers. The line is refused where there is none.
+/// Reports what the reader of this token answers. The line is refused if there is none.
 pub fn tell_token(
     tokens: &mut Tokens,
     token: &str,

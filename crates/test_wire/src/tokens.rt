@@ -54,7 +54,7 @@ impl Tokens {
         self.note(done);
     }
 
-    /// Tells what was written; what has no writer writes nothing.
+    /// Reports what was written; what has no writer writes nothing.
     pub fn tell_written(&mut self, told: &mut Told, done: Result<(), AllocError>) {
         self.note(done);
         match self.out.strip_prefix(BEFORE) {
@@ -128,7 +128,7 @@ impl Tokens {
         }
     }
 
-    /// Tells how a text that ends a line is written from its bytes alone.
+    /// Reports how a text that ends a line is written from its bytes alone.
     fn write_line_text(&mut self, bytes: &[u8], told: &mut Told) {
         if all_text(bytes) {
             let done = write_line_text(bytes, &mut self.out);
@@ -138,7 +138,7 @@ impl Tokens {
         }
     }
 
-    /// Tells what the reader of lines answers, and gives what it read.
+    /// Reports what the reader of lines answers, and gives what it read.
     fn whole<T>(&mut self, told: &mut Told, answer: Result<Read<T>, WireFault>) -> Option<T> {
         match answer {
             Ok(Read::Whole(value, used)) => {
@@ -180,7 +180,7 @@ impl Player for Tokens {
     }
 }
 
-/// Tells where a reader of tokens stopped in so many bytes, in the words for lines.
+/// Reports where a reader of tokens stopped in so many bytes, in the words for lines.
 fn tell_stop(told: &mut Told, stop: Stop, length: usize) {
     match stop {
         Stop::Ends(None) => told.answer("partial"),
