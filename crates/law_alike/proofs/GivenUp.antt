@@ -1,4 +1,4 @@
--- A run that begins behind a plan which was given up.
+-- A run that begins after a plan was given up.
 use Rattle.std.proofs.Common.{◌≡◌, ◌⊎◌, ◌<◌, ◌∙◌, ◌^◌, ◌++◌, inl, inr, ℕ, List, map, Option, Some, None, arith}
 use Rattle.std.specs.Prelude.{All, ◌≢◌}
 use Rattle.std.proofs.lemmas.List.Elements.{All-append, All-map, All-weaker}

@@ -44,7 +44,7 @@ use Rattle.law_alike.proofs.CalledNext.{called_new}
 use Rattle.law_alike.proofs.Runs.{held_pairs}
 use Rattle.law_alike.specs.Others.{BegunHasOrder, HasOrder, IsLeft, IsOthers, OthersAreLeft, OthersAreSpared, OthersStay, OthersAreCopiedNext, OverIsInOrder}
 
--- ---- messages that rise are told apart by their UIDs
+-- ---- messages that rise are identified by their UIDs
 
 one_uid : (ms : List Message) (a b : Message) → AllPairs (λ x y. x.uid < y.uid) ms → Contains ms a → Contains ms b → a.uid ≡ b.uid → a ≡ b
 one_uid [] a b rising (k, below, is) c same = absurd (omega (arith, below))

@@ -14,7 +14,7 @@ pub record HoldsWorld (w : World) (d : Device) : Type 0 where
   pub files : Holds d.files w.state Missing
   pub unnamed : d.named ≡ []
 
--- the device holds a world that a run may begin with, and a number comes behind that of its state
+-- the device holds a world that a run may begin with, and a number comes after that of its state
 pub record Begins (w : World) (d : Device) : Type 0 where
   pub held : HoldsWorld w d
   pub sound : IsOpening w

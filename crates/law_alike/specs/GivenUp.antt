@@ -1,4 +1,4 @@
--- A run that begins behind a plan which was given up, in a law that a function of `src/lib.rt` shows.
+-- A run that begins after a plan was given up, in a law that a function of `src/lib.rt` shows.
 use Rattle.std.specs.Prelude.{◌≡◌, ◌<◌, ◌+◌, All}
 use Rattle.mailcore.specs.declared.side.Side.{Side}
 use Rattle.rules.specs.declared.state.SyncState.{SyncState}
@@ -13,7 +13,7 @@ use Rattle.book.specs.LostSides.{Lost}
 use Rattle.outside.specs.Devices.{Device, box}
 use Rattle.run_states.specs.Openings.{world_at}
 
--- A plan of the run behind this state, over mailboxes with which a run might begin: they have the UIDVALIDITYs of the plan, and the UIDs of
+-- A plan of the run after this state, over mailboxes with which a run might begin: they have the UIDVALIDITYs of the plan, and the UIDs of
 -- its logged copies were given, as were those of their sources.
 pub record IsPlanOver (j : Journal) (s : SyncState) (d : Device) : Type 0 where
   pub sound : IsOpening (world_at d s)

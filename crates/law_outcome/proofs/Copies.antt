@@ -71,7 +71,7 @@ zip_copies side t s from k (u ∷ uids) (mark ∷ theirs) (other ∷ marks) (x �
 
 -- ---- marks that are found
 
--- messages below are passed over
+-- messages below are skipped
 pub marks_behind : (from : ℕ) (ms more : List Message) → All (λ m. m.uid < from) ms → marks_from from (ms ++ more) ≡ marks_from from more
 marks_behind from [] more below = refl
 marks_behind from (m ∷ ms) more below =

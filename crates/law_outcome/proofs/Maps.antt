@@ -42,7 +42,7 @@ max_sent next t h a b = elim (cases_lt a b) [
   ]
 ]
 
--- ---- the map of a list: `next`, `next` + 1, .. go to its UIDs, and what comes behind goes to `bound`, `bound` + 1, ..
+-- ---- the map of a list: `next`, `next` + 1, .. go to its UIDs, and what comes after goes to `bound`, `bound` + 1, ..
 
 pub to_of : (next : ℕ) (us : List ℕ) (bound : ℕ) → ℕ → ℕ
 to_of next [] bound i = cond (ltb i next) i (i - next + bound)
@@ -126,7 +126,7 @@ follows-split t k (u ∷ us) vs h =
     let r = follows-split t (k + 1) us vs h.1 in
     ((h.0, r.0), subst (λ n. Follows t n vs) (let e : k + 1 + length us ≡ k + suc (length us) = omega arith in e) r.1)
 
--- ---- rising lists, one behind the other
+-- ---- rising lists, one after the other
 
 rise-lower : (least lower : ℕ) (us : List ℕ) (bound : ℕ) → lower ≤ least → Rise least us bound → Rise lower us bound
 rise-lower least lower [] bound l h = omega arith

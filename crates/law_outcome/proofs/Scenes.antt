@@ -1,4 +1,4 @@
--- A scene whose messages have other UIDs: what is asked of it by a UID is answered alike by the UID's image.
+-- A scene whose messages have other UIDs: a question about a UID has the same answer as that about the UID's image.
 use Rattle.std.proofs.Common.{◌≡◌, ◌<◌, ℕ, Bool, true, false, cond, eqb, ltb, List, [], ◌∷◌, Option, Some, map, refl, sym, ap, ◌∙◌}
 use Rattle.std.specs.Prelude.{All, find, not, ◌&&◌, ◌||◌, ◌==◌, nat_lt, is_some}
 use Rattle.std.specs.List.{list_any}

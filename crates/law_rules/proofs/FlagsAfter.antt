@@ -102,7 +102,7 @@ old_settled pull push s n r = record {
     by_push : (push : Bool) → push ≡ true → taken (taken_if pull s n r) (taken_if push n s r) (recorded_after pull push s n r) ≡ taken_if push n s r
     by_push push e = rw e (far_kept pull s n r)
 
--- ---- a new pair: the flags are alike on both sides and recorded so
+-- ---- a new pair: the flags are the same on both sides, and are recorded
 
 same_taken : (a : ℕ) → a < 2 ^ FLAGS → taken a a a ≡ a
 same_taken a h = taken_bits a a a a h (λ i k. two (λ x. taken_flag x x x ≡ x) refl refl (bit_at a i) (bit_at-lt a i))

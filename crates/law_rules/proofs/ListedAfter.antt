@@ -1,4 +1,4 @@
--- What the mailboxes list after a run: the messages that stay, and behind them the copies.
+-- What the mailboxes list after a run: the messages that stay, and then the copies.
 use Rattle.std.proofs.Common.{◌≡◌, ℕ, ◌+◌, ◌<◌, ◌≤◌, false, List, [], ◌∷◌, ◌++◌, Option, Some, None, length, map, refl, sym, ap, ◌∙◌, inl, inr, arith}
 use Rattle.std.specs.Prelude.{Contains, ◌==◌}
 use Rattle.std.specs.Option.{option_map}

@@ -33,7 +33,7 @@ use Rattle.law_rules.proofs.ListedAfter.{pulled_copied, pushed_copied, near_copy
 use Rattle.law_rules.proofs.RunAfter.{after_is, old_after, copies_to, old_from, stored_below, stored_above, copied_from, from_flags, at_most_greatest}
 use Rattle.law_rules.proofs.NothingCalled.{nothing_called}
 
--- what the law is told
+-- the premises of the law
 record Told (w : World) (options : Options) (uids : Side → List ℕ) (marks : List (List ℕ)) (next : Side → ℕ) (entries : List Entry) : Type 0 where
   world : IsWorld w
   below : NamesBelow w

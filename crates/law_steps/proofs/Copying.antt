@@ -40,7 +40,7 @@ source-with b Push ms = refl
 
 -- ---- bytes
 
--- in a mailbox whose UIDs rise each message is found under its own, whatever stands behind
+-- in a mailbox whose UIDs rise each message is found under its own, whatever follows
 pub bytes_there : (ms ns : List Message) → AreRising ms → (m : Message) → Contains ms m → bytes_at m.uid (ms ++ ns) ≡ Some m.bytes
 bytes_there [] ns rising m c = absurd (Contains-none m c)
 bytes_there (z ∷ ms) ns rising m c = elim (Contains-cases z m ms c) [
@@ -59,7 +59,7 @@ copies_of d ms marks = new_steps d (map (item_of (source d)) ms) marks
 pub uid_given-new : (d : Direction) (u flags : ℕ) (mark : List ℕ) (uid : ℕ) → uid_given (target d) (New d u flags mark) (Some uid) ≡ uid ∷ []
 uid_given-new d u flags mark uid = ap (λ b. cond b (uid ∷ []) []) (is_side-same (target d))
 
--- each copy stands behind the messages of the target
+-- each copy follows the messages of the target
 pub copied_all : (d : Direction) (ms : List Message) (marks : List (List ℕ)) (results : List (Option ℕ)) (more : List Step) (b : Boxes) → length ms ≡ length marks → length (copies_of d ms marks) ≤ length results →
     Fit (copies_of d ms marks ++ more) results → ((m : Message) → Contains ms m → bytes_at m.uid (box b (source d)) ≡ Some m.bytes) →
     after (copies_of d ms marks) results b ≡ with_box b (target d) (box b (target d) ++ copies_under (target d) (given (target d) (copies_of d ms marks) results) marks ms)

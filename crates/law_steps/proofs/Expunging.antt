@@ -49,11 +49,11 @@ in_changed side s b m c =
     let f = filter_contains (λ (x : Message). stays side s x.uid) (box b side) r.0 r.1 in
     (r.0, f.0, ap (λ (x : Message). x.uid) r.2, sym (ap (λ (x : Message). x.flags) r.2))
 
--- behind a step that copies nothing
+-- after a step that copies nothing
 plain_back : (side : Side) (s : Step) (r : Option ℕ) (b : Boxes) (m : Message) → makes_copy s ≡ false → Contains (box (step_after b s r) side) m → WasThere side s b m
 plain_back side s r b m e c = in_changed side s b m (subst (λ (ms : List Message). Contains ms m) (step-changed side s r b e) c)
 
--- or behind a copy, which has a UID of its own
+-- or after a copy, which has a UID of its own
 copy_back : (ms : List Message) (copy m : Message) → m.uid < copy.uid → Contains (ms ++ copy ∷ []) m → Contains ms m
 copy_back ms copy m l c = elim (Contains-append_cases ms (copy ∷ []) m c) [
   | inl k ↦ k
@@ -93,7 +93,7 @@ all_back side (s ∷ steps) (r ∷ results) b m g c =
     let j = one_back side s r b i.0 (subst (λ v. All (λ u. v < u) (uid_given side s r)) (sym i.2) here) i.1 in
     (j.0, j.1, j.2 ∙ i.2, i.3 ∙ ap (λ v. flags_all side steps v i.0.flags) (sym j.2) ∙ ap (λ x. flags_all side steps j.0.uid x) j.3)
 
--- ---- behind an expunge nothing changes flags
+-- ---- after an expunge nothing changes flags
 
 rank_le : (a b : ℕ × ℕ × ℕ) → IsBelow a b → a.0 ≤ b.0
 rank_le a b (inl h) = omega (arith, h)
@@ -152,7 +152,7 @@ is_below w options side u h e =
     some None k = k
     some (Some x) k = refl
 
--- and deleted behind all steps
+-- and deleted after all steps
 pub is_deleted : (w : World) (options : Options) (marks : List (List ℕ)) (side : Side) (n : Message) → IsInOrder w → is_expunged (scene_of w options) side n.uid ≡ true → Contains (store w side).messages n →
     has (flags_all side (all_steps (scene_of w options) marks) n.uid n.flags) DELETED ≡ true
 is_deleted w options marks side n h e c =

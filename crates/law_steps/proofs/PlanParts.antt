@@ -1,4 +1,4 @@
--- The whole plan: the messages that stay, with their flags after, and behind them the copies.
+-- The whole plan: the messages that stay, with their flags after, and then the copies.
 use Rattle.std.proofs.Common.{◌≡◌, ℕ, Bool, true, false, List, ◌++◌, length, map, take, drop, refl, sym, ap, ◌∙◌, subst, append_assoc}
 use Rattle.std.specs.Prelude.{All, Contains, not, ◌&&◌, ◌==◌}
 use Rattle.std.proofs.lemmas.Bool.{and_right, ne_eqb}

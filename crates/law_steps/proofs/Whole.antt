@@ -1,4 +1,4 @@
--- The whole plan, step after step: the messages that stay, with their flags after, and behind them the copies.
+-- The whole plan, step after step: the messages that stay, with their flags after, and then the copies.
 use Rattle.std.proofs.Common.{◌≡◌, ℕ, ◌+◌, ◌<◌, ◌≤◌, Bool, true, false, cond, List, [], ◌∷◌, ◌++◌, Option, length, map, drop, refl, sym, ap, ◌∙◌, subst, arith, append-nil, length-take, length-drop}
 use Rattle.std.specs.Prelude.{All, Contains, filter, not}
 use Rattle.std.proofs.lemmas.List.{length-append}

@@ -95,7 +95,7 @@ StepInHalves =
 
 -- ---- the whole plan
 
--- the messages that stay, and behind them the copies under the UIDs that were given
+-- the messages that stay, and then the copies under the UIDs that were given
 abbrev pub PlanReachesOutcome : Type 0
 PlanReachesOutcome =
     (w : World) (options : Options) (marks : List (List ℕ)) (results : List (Option ℕ)) (far_next near_next : ℕ) →

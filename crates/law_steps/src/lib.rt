@@ -5,7 +5,7 @@ ghost use Rattle.law_steps.specs.Keywords as keyword;
 ghost use Rattle.law_steps.specs.Laws as law;
 ghost use Rattle.law_steps.specs.OwnLaws as own_law;
 
-/// Steps behind others begin where those end, and one more result is one more step.
+/// Steps after others begin where those end, and one more result is one more step.
 pub fn steps_follow()
     ensures append { law.AfterAppend }
     ensures more { law.AfterMore }
@@ -28,7 +28,7 @@ pub fn steps_again()
     ensures halves { law.StepInHalves }
 {}
 
-/// The steps of a whole plan, one after another, leave the messages that stay, with their flags after, and behind them
+/// The steps of a whole plan, one after another, leave the messages that stay, with their flags after, and then
 /// one copy of each new message, under the UIDs that were given.
 pub fn plan_reaches_outcome()
     ensures messages { law.PlanReachesOutcome }

@@ -97,7 +97,7 @@ content-copy_text mark bs end is = ap content (copy_text-lines mark bs end) ∙ 
 
 -- ---- marks
 
--- a text and what stands behind it
+-- a text and what follows it
 cut_behind : (n : ℕ) (t more : List ℕ) → length t ≡ n → (take n (t ++ more) ≡ t) × (drop n (t ++ more) ≡ more)
 cut_behind n t more is = (
   ap (λ k. take k (t ++ more)) (sym is) ∙ take-append_seam t more,

@@ -15,7 +15,7 @@ abbrev pub begins : ℕ → List ℕ → Bool
 begins letter [] = false
 begins letter (x ∷ xs) = eqb x letter
 
--- the text behind its first letter if it has been taken
+-- the text after its first letter if that has been taken
 abbrev pub behind : Bool → List ℕ → List ℕ
 behind taken text = cond taken (drop 1 text) text
 
@@ -161,7 +161,7 @@ letters-front i before taken h none =
     ∙ ap (λ n. letters_from 0 (take i LETTERS) before ++ cond (has (with taken before i) n) (letter_at i ∷ []) []) (let e : length (take i LETTERS) + 0 ≡ i = omega (arith, long) in e)
     ∙ ap (λ t. letters_from 0 (take i LETTERS) before ++ cond t (letter_at i ∷ []) []) (has-with_same taken before i h none)
 
--- a text is its first letter, if that is taken, and what is behind
+-- a text is its first letter, if that is taken, and what follows
 taken_text : (x : ℕ) (front rest : List ℕ) (taken : Bool) → begins x rest ≡ taken → (front ++ cond taken (x ∷ []) []) ++ behind taken rest ≡ front ++ rest
 taken_text x front rest false is = ap (λ f. f ++ rest) (append-nil front)
 taken_text x front [] true is = cc

@@ -8,7 +8,7 @@ use Rattle.std.proofs.lemmas.List.{at_drop_more, get_or-set_same, get_or-set_oth
 use Rattle.mailcore.specs.MailboxPatterns.{matches, behind_any, behind_level, behind_same}
 use Rattle.mailcore.specs.PatternRows.{IsRow, reaches, reaches_end}
 
--- ---- one character more, at a character of the name and behind it
+-- ---- one character more, at a character of the name and after the name
 
 abbrev behind_by : (star percent : Bool) (p : ℕ) (name : List ℕ) → List (List ℕ)
 behind_by star percent p name = cond star (behind_any name) (cond percent (behind_level name) (behind_same p name))

@@ -1,4 +1,4 @@
--- Lists that rise by a key: the last element has the greatest, and one above it may stand behind.
+-- Lists that rise by a key: the last element has the greatest, and one above it may follow.
 use Rattle.std.proofs.Common.{◌≡◌, ℕ, suc, ◌-◌, ◌<◌, ◌≤◌, true, List, [], ◌∷◌, ◌++◌, length, map, get_or, sym, ap, ◌∙◌, inl, inr, arith}
 use Rattle.std.specs.Prelude.{All, AllPairs, nat_lt}
 use Rattle.std.specs.List.{list_all}

@@ -14,7 +14,7 @@ use Rattle.mailcore.specs.FlagSet.{FLAGS, common, has, union}
 
 -- ---- keywords
 
--- the place of a letter from a on: behind the six
+-- the place of a letter from a on: after the six
 abbrev pub place_of : ℕ → ℕ
 place_of letter = letter - 91
 
@@ -82,7 +82,7 @@ flags_named keywords name = named_by keywords (flag_named name) name
 abbrev pub with_named : List Keyword → ℕ → List ℕ → ℕ
 with_named keywords set name = union set (flags_named keywords name)
 
--- the flags that have these names; a name that no flag has is passed over
+-- the flags that have these names; a name that no flag has is ignored
 abbrev pub named_set : List Keyword → List (List ℕ) → ℕ
 named_set keywords names = fold (with_named keywords) 0 names
 
@@ -99,7 +99,7 @@ six_names flags some = map imap_name (filter (λ flag. has flags (place flag)) s
 abbrev pub keyword_names : ℕ → List Keyword → List (List ℕ)
 keyword_names flags keywords = map (λ k. k.name) (filter (λ k. has flags (place_of k.letter)) keywords)
 
--- the names of the flags of a set, those of keywords behind the six; a letter without a name has none
+-- the names of the flags of a set, those of keywords after the six; a letter without a name has none
 abbrev pub names_of : List Keyword → ℕ → List (List ℕ)
 names_of keywords flags = six_names flags written_order ++ keyword_names flags keywords
 

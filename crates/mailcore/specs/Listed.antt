@@ -22,6 +22,6 @@ AreBelow messages next = All (λ m. m.uid < next) messages
 abbrev pub item_of : Side → Message → Item
 item_of side m = record { uid = m.uid; flags = m.flags; fit = fit side m.bytes }
 
--- a message with this UID may stand behind these
+-- a message with this UID may follow these
 abbrev pub may_end : List Message → (next uid : ℕ) → Bool
 may_end messages next uid = nat_lt uid next && list_all (λ m. nat_lt m.uid uid) messages

@@ -21,7 +21,7 @@ pub record IsMatched (pattern name : List ℕ) : Type 0 where
 
 -- ---- the same, computed
 
--- what may be left of a name behind the part that a character of the pattern stands for
+-- what may be left of a name after the part that a character of the pattern stands for
 abbrev pub behind_any : List ℕ → List (List ℕ)
 behind_any [] = [] ∷ []
 behind_any (c ∷ cs) = (c ∷ cs) ∷ behind_any cs

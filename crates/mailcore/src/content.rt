@@ -19,7 +19,7 @@ pub(crate) fn line_end_bytes(end: LineEnd) -> &'static [u8]
     }
 }
 
-// Puts the content of `message`, with these line ends, behind what `out` holds. After an error a
+// Puts the content of `message`, with these line ends, after what `out` holds. After an error a
 // part of it may stand there.
 fn append_content(out: &mut Vec<u8>, message: &[u8], end: LineEnd) -> Result<(), AllocError>
     ensures { OnOk result (out.new.items ≡ out.old.items ++ spec.with_line_ends end (spec.content message.now)) }
@@ -35,7 +35,7 @@ fn append_content(out: &mut Vec<u8>, message: &[u8], end: LineEnd) -> Result<(),
 
 /// What `message` says: its lines without the mark lines of its header, each line end one LF.
 ///
-/// The error is want of memory.
+/// The error: memory ran out.
 pub fn content(alloc: Global, message: &[u8]) -> Result<Vec<u8>, AllocError>
     ensures { IfOk result (λ v. v.items ≡ spec.content message.now) }
 {

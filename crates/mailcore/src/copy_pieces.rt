@@ -10,7 +10,7 @@ use crate::side::LineEnd;
 use crate::tuid::{TUID_LENGTH, Tuid};
 use std::alloc::AllocError;
 
-/// What begins a copy: the line of its mark, and how the lines behind it end.
+/// What begins a copy: the line of its mark, and how the lines after it end.
 #[derive(Clone, Copy)]
 pub struct CopyHead {
     mark: [u8; TUID_LENGTH],
@@ -91,7 +91,7 @@ impl<'a> CopyPieces<'a> {
         len
     }
 
-    /// Puts the text behind what a buffer holds. After an error a part of it may stand there.
+    /// Puts the text after what a buffer holds. After an error a part of it may stand there.
     pub fn append_to(self, out: &mut Vec<u8>) -> Result<(), AllocError>
         ensures { OnOk result (out.new.items ≡ out.old.items ++ text_left self.entry) }
     {

@@ -29,7 +29,7 @@ impl From<AllocError> for CoreFault {
 /// Why an element was not added to a list in order.
 #[derive(Clone, Copy, Debug, PartialEq, Eq, Error)]
 pub enum PushFault {
-    /// It may not stand behind the elements that are there.
+    /// It may not follow the elements that are there.
     #[error("out of order")]
     OutOfOrder,
     /// A growth was refused.

@@ -8,7 +8,7 @@ ghost use Rattle.mailcore.specs.KeywordNames.{flags_named, is_keyword_letter, ke
 use crate::keywords::Keywords;
 use std::marker::Model;
 
-/// A flag that is kept alike on both sides (RFC 9051, section 2.3.2).
+/// A flag that is synchronised (RFC 9051, section 2.3.2).
 #[derive(Clone, Copy, PartialEq, Eq)]
 pub enum Flag {
     /// `\Draft`, letter D.
@@ -242,7 +242,7 @@ impl Flags {
     }
 
     /// The set of the flag with this IMAP name, one of the six or a keyword of the map, or the empty set if no flag has it: other flags
-    /// are passed over.
+    /// are ignored.
     pub fn from_imap(name: &[u8], keywords: &Keywords) -> Flags
         ensures { result ≡ flags_named keywords.now name.now }
     {

@@ -73,7 +73,7 @@ impl Items {
         &self.list
     }
 
-    /// Adds a message behind the others. `OutOfOrder`: its UID is not above theirs.
+    /// Adds a message after the others. `OutOfOrder`: its UID is not above theirs.
     pub fn push(&mut self, item: Item) -> Result<(), PushFault>
         ensures ok { OnOk result (self.new ≡ self.old ++ item ∷ []) }
         ensures above { OnOk result (list_all (λ i. nat_lt i.uid item.uid) self.old ≡ true) }

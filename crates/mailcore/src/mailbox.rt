@@ -79,7 +79,7 @@ impl Messages {
         self.list
     }
 
-    /// Adds a message behind the others. `OutOfOrder`: its UID is not above theirs.
+    /// Adds a message after the others. `OutOfOrder`: its UID is not above theirs.
     pub fn push(&mut self, message: Message) -> Result<(), PushFault>
         ensures ok { OnOk result (self.new ≡ self.old ++ message ∷ []) }
         ensures above { OnOk result (list_all (λ m. nat_lt m.uid message.uid) self.old ≡ true) }
@@ -132,7 +132,7 @@ impl Mailbox {
         }
     }
 
-    /// Adds a message behind the others. `OutOfOrder`: its UID is not above theirs, or not below the next one.
+    /// Adds a message after the others. `OutOfOrder`: its UID is not above theirs, or not below the next one.
     pub fn push(&mut self, message: Message) -> Result<(), PushFault>
         ensures ok { OnOk result (self.new.messages ≡ self.old.messages ++ message ∷ []) }
         ensures fits { OnOk result (may_end self.old.messages self.old.next message.uid ≡ true) }

@@ -57,7 +57,7 @@ fn put_before(pattern: &[u8], c: u8, row: &mut [bool])
     }
 }
 
-/// Whether a pattern with this character before it matches at a character of a name: `here` and `after` tell whether the
+/// Whether a pattern with this character before it matches at a character of a name: `here` and `after` say whether the
 /// pattern without it matches here and one place on, and `next` whether the pattern with it matches one place on.
 fn reaches(p: u8, c: u8, here: bool, after: bool, next: bool) -> bool
     ensures { result ≡ reaches p c here after next }
@@ -69,7 +69,7 @@ fn reaches(p: u8, c: u8, here: bool, after: bool, next: bool) -> bool
     }
 }
 
-/// The same behind the name.
+/// The same after the name.
 fn reaches_end(p: u8, here: bool) -> bool
     ensures { result ≡ reaches_end p here }
 {

@@ -15,10 +15,10 @@ use std::hash::{BuildHasherDefault, FoldHasher};
 // How many draws in a row may give marks that are listed before a drawing is given up.
 const MAX_DRAWS: usize = 64;
 
-// The marks that are drawn, to tell a repeat without a walk over them.
+// The marks that are drawn, to find a repeat without a walk over them.
 type Known = HashSet<Tuid, BuildHasherDefault<FoldHasher>, Global>;
 
-/// Draws `count` marks from `rng`, no two alike.
+/// Draws `count` marks from `rng`, all different.
 ///
 /// A draw takes two words of `next_u64`: the bytes of its mark are the eight of the first, low byte
 /// first, and the lowest byte of the second. A draw whose mark is listed already is thrown away.
@@ -34,12 +34,12 @@ pub fn draw_marks<R: Rng>(alloc: Global, rng: &mut R, count: usize) -> Result<Ve
     ensures are_marks { IfOk result (λ marks. All IsMark marks.items) }
     ensures distinct { IfOk result (λ marks. AllPairs (λ one other. one ≢ other) marks.items) }
 
-    // A run of repeats is answered by the fault, unless memory was wanting first.
+    // A run of repeats is answered by the fault, unless memory ran out first.
     ensures repeats { IsErrOf result CoreFault.MarksRepeat → (repeats : Repeats (R.stream rng.old) count)
         × (R.stream rng.new ≡ after_pairs (R.stream rng.old) (repeats.pairs + RUN_LENGTH)) }
     ensures no_marks { Repeats (R.stream rng.old) count → IsErr result }
 
-    // Want of memory shows before the generator moves.
+    // If memory runs out, it does so before the generator moves.
     ensures no_memory { IsErrOf result CoreFault.NoMemory → R.stream rng.new ≡ R.stream rng.old }
 {
     let mut marks = Vec::with_capacity(alloc, count)?;

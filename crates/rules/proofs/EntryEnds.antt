@@ -1,4 +1,4 @@
--- An entry may stand behind others in order if it is above the last one and its near UID is free.
+-- An entry may follow others in order if it is above the last one and its near UID is free.
 use Rattle.std.proofs.Common.{◌≡◌, ℕ, suc, ◌-◌, ◌<◌, ◌≤◌, Bool, true, false, List, [], ◌∷◌, length, Option, Some, None, refl, sym, ap, ◌∙◌, subst, inl, inr, arith}
 use Rattle.std.specs.Prelude.{AllPairs, not, ◌&&◌, ◌||◌, ◌==◌, nat_lt, is_none, is_some, unwrap_or}
 use Rattle.std.specs.List.{list_all, list_any, slice_get}

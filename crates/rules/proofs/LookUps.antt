@@ -1,4 +1,4 @@
--- What looks an element up, and what stands behind a look-up.
+-- What looks an element up, and which element a look-up has found.
 use Rattle.std.proofs.Common.{◌≡◌, ℕ, ◌<◌, Bool, true, List, Option, Some, None, refl, sym, ap, ◌∙◌, arith}
 use Rattle.std.specs.Prelude.{Contains, find, ◌&&◌, ◌==◌, is_some, unwrap_or}
 use Rattle.std.specs.Option.{option_map}

@@ -13,7 +13,7 @@ use Rattle.rules.specs.Renaming.{IsRenaming, entry_under}
 
 -- ---- messages
 
--- bytes of a copy, and the same but for its mark, the 12 characters behind `X-TUID: `
+-- bytes of a copy, and the same but for its mark, the 12 characters after `X-TUID: `
 pub record DifferInMark (a b : List ℕ) : Type 0 where
   pub mark : List ℕ
   pub other : List ℕ

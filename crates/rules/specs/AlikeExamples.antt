@@ -1,4 +1,4 @@
--- Worked examples, computed: what is found after a run that was stopped, and the outcome that it is alike to.
+-- Worked examples, computed: what is found after a run that was interrupted, and the outcome that it is alike to.
 use Rattle.std.specs.Prelude.{◌≡◌, refl, ℕ, Bool, true, false, List, [], ◌∷◌, ◌++◌, codes, Some, map, ◌==◌, if◌then◌else◌}
 use Rattle.mailcore.specs.declared.side.Side.{Side}
 use Rattle.mailcore.specs.declared.side.Side.TheVariants.{Far, Near}

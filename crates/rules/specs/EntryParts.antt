@@ -1,4 +1,4 @@
--- When an entry may stand behind others in order: what is asked of the last alone, and of all.
+-- When an entry may follow others in order: what is asked of the last alone, and of all.
 use Rattle.std.specs.Prelude.{ℕ, Bool, true, false, not, ◌<◌, ◌&&◌, ◌||◌, ◌==◌, nat_lt, ◌≡◌, List, Option, Some, None, is_none}
 use Rattle.std.specs.List.{list_any}
 use Rattle.std.specs.Ordering.{nat_cmp}
@@ -9,7 +9,7 @@ use Rattle.rules.specs.declared.near_uids.NearUids.{NearUids}
 use Rattle.rules.specs.declared.near_uids.NearUids.TheVariants.{Unknown, UpTo, Known}
 use Rattle.rules.specs.Entries.{uid_of, is_same}
 
--- in order behind another, and with another far UID
+-- in order after another, and with another far UID
 abbrev pub is_above : Entry → Entry → Bool
 is_above a b =
     (nat_lt (uid_of Far a) (uid_of Far b) || (uid_of Far a == uid_of Far b && nat_lt (uid_of Near a) (uid_of Near b)))

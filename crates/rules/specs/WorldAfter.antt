@@ -33,14 +33,14 @@ abbrev pub marks_to : World → Options → Side → (marks : List (List ℕ)) �
 marks_to w options Near marks = take (length (new_messages w options Pull)) marks
 marks_to w options Far marks = drop (length (new_messages w options Pull)) marks
 
--- the messages of a side after the run: those that stay, and behind them the copies
+-- the messages of a side after the run: those that stay, and then the copies
 abbrev pub messages_under : World → Options → Side → (uids : List ℕ) → (marks : List (List ℕ)) → List Message
 messages_under w options side uids marks =
     staying w options side ++ copies_under side uids (marks_to w options side marks) (new_messages w options (towards side))
 
 -- ---- entries
 
--- the entries that are not dropped, and behind them those of the new pairs
+-- the entries that are not dropped, and then those of the new pairs
 abbrev pub entries_under : World → Options → (uids : Side → List ℕ) → List Entry
 entries_under w options uids =
     entries_after (scene_of w options)

@@ -81,7 +81,7 @@ pub struct ListedPair {
 #[derive(Drop)]
 pub struct Entries {
     list: Vec<Entry>,
-    // What is known of the near UIDs of the list, so that `push` need not go over it: nothing behind `from_vec`, which takes no memory.
+    // What is known of the near UIDs of the list, so that `push` need not go over it: nothing after `from_vec`, which takes no memory.
     near: NearUids,
 }
 
@@ -138,7 +138,7 @@ impl Entries {
         list
     }
 
-    /// Adds an entry behind the others. `OutOfOrder`: it may not stand there, since it has no side, is not above
+    /// Adds an entry after the others. `OutOfOrder`: it may not stand there, since it has no side, is not above
     /// the others, or names a UID that another names.
     pub fn push(&mut self, entry: Entry) -> Result<(), PushFault>
         ensures ok { OnOk result (self.new ≡ self.old ++ entry ∷ []) }
@@ -168,7 +168,7 @@ fn may_stand_last(known: &NearUids, entries: &[Entry], entry: &Entry) -> bool
     entry.has_a_side() && follows_all(known, entries, entry)
 }
 
-/// In order behind others: they rise, so that the last one stands for all but their near UIDs.
+/// In order after others: they rise, so that the last one stands for all but their near UIDs.
 fn follows_all(known: &NearUids, entries: &[Entry], entry: &Entry) -> bool
     requires pairs { ArePairs entries.now }
     requires known { KnowsNear known.now entries.now }
@@ -187,7 +187,7 @@ fn is_above_last(entries: &[Entry], entry: &Entry) -> bool
     }
 }
 
-/// Whether the entry is in order behind another, and has another far UID.
+/// Whether the entry is in order after another, and has another far UID.
 fn is_above(other: &Entry, entry: &Entry) -> bool
     ensures above { result ≡ is_above other.now entry.now }
     ensures positive { (uid : ℕ) → entry.now.far ≡ Some uid → 0 < uid }

@@ -5,7 +5,7 @@ use Rattle.std.proofs.lemmas.Bool.{ne_eqb, eq-eqb, cases_eq}
 use Rattle.std.proofs.lemmas.List.Elements.{All-nil, All-cons, All-head, All-tail}
 use Rattle.texts.specs.Cut.{Sides, onto_front, cut_first, cut_last, or_here}
 
--- ---- the byte stands at a place and not before it, or not behind it
+-- ---- the byte stands at a place and not before it, or not after it
 
 pub cut_first-none : (byte : ℕ) (text : List ℕ) → ((k : ℕ) → k < length text → get_or text k 0 ≢ byte) → cut_first byte text ≡ None
 cut_first-none byte [] none = refl

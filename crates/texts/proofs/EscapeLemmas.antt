@@ -49,7 +49,7 @@ escape_not_empty b = not_empty_by (is_plain b) b
 others : (b : ℕ) (bytes : List ℕ) → AreBytes (b ∷ bytes) → AreBytes bytes
 others b bytes all = λ k d h. all (suc k) d (omega arith)
 
--- behind a text that begins with these bytes stands nothing that begins with a byte: it is the text of no bytes
+-- after a text that begins with these bytes nothing follows that begins with a byte: it is the text of no bytes
 pub none_spelled : (front rest : List ℕ) → 0 < length rest
     → ((b : ℕ) → b < 256 → (z : List ℕ) → escape_of b ++ z ≢ rest)
     → (bytes : List ℕ) → AreBytes bytes → escaped bytes ≢ escaped front ++ rest
@@ -74,7 +74,7 @@ all_by p false [] = refl
 all_by p true (b ∷ bytes) = all_by p (p b) bytes
 all_by p false (b ∷ bytes) = all_by p false bytes
 
--- a test that goes on behind a byte that fails is the same test
+-- a test that goes on after a byte that fails is the same test
 pub all_by_fold : (p : ℕ → Bool) (bytes : List ℕ) → fold (λ a b. a && p b) true bytes ≡ list_all p bytes
 all_by_fold p bytes = all_by p true bytes
 
@@ -135,6 +135,6 @@ front_read bytes run tail rest text all e cut other =
     ap (λ (x : List ℕ). x ++ tail) (run_added bytes run front.0 other) ∙ append_assoc (escaped bytes) run tail
     ∙ ap (λ (x : List ℕ). escaped bytes ++ x) (sym cut) ∙ e
 
--- what stands behind the last escape is read
+-- what follows the last escape is read
 pub end_read : (bytes rest text : List ℕ) → list_all is_text text ≡ true → escaped bytes ++ rest ≡ text → All (λ b. b ≢ 92) rest → escaped (bytes ++ rest) ≡ text
 end_read bytes rest text all e other = run_added bytes rest (text_behind (escaped bytes) rest text all e) other ∙ e

@@ -6,7 +6,7 @@ ghost use Rattle.texts.specs.Cut.{cut_first, cut_last};
 
 use memchr::{memchr, memrchr};
 
-/// What stands before the first such byte of a text and what stands behind it, or none if the text has no such byte.
+/// What stands before the first such byte of a text and what follows it, or none if the text has no such byte.
 pub fn cut(text: &[u8], byte: u8) -> Option<(&[u8], &[u8])>
     ensures sides { MatchOption result (All (λ b. b ≢ byte) text.now)
         (λ parts. (text.now ≡ parts.0.now ++ byte ∷ parts.1.now) × All (λ b. b ≢ byte) parts.0.now) }
@@ -16,7 +16,7 @@ pub fn cut(text: &[u8], byte: u8) -> Option<(&[u8], &[u8])>
     Some((&text[..place], &text[place + 1..]))
 }
 
-/// What stands before the last such byte of a text and what stands behind it, or none if the text has no such byte.
+/// What stands before the last such byte of a text and what follows it, or none if the text has no such byte.
 pub fn cut_at_last(text: &[u8], byte: u8) -> Option<(&[u8], &[u8])>
     ensures sides { MatchOption result (All (λ b. b ≢ byte) text.now)
         (λ parts. (text.now ≡ parts.0.now ++ byte ∷ parts.1.now) × All (λ b. b ≢ byte) parts.1.now) }

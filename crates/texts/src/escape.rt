@@ -40,13 +40,13 @@ pub fn unescape_into(bytes: &mut Vec<u8>, text: &[u8]) -> Result<(), EscapeFault
     Ok(())
 }
 
-/// What stands before the first `\` of a text and what stands behind it, or none if the text has none.
+/// What stands before the first `\` of a text and what follows it, or none if the text has none.
 fn cut_escape(text: &[u8]) -> Option<(&[u8], &[u8])>
     ensures { MatchOption result (All (λ b. b ≢ 92) text.now)
         (λ parts. (text.now ≡ parts.0.now ++ 92 ∷ parts.1.now) × All (λ b. b ≢ 92) parts.0.now) }
 {
     match text {
-        // Escapes often stand one behind another, as at the end of a message's header: there is nothing to search then.
+        // Escapes often follow one another, as at the end of a message's header: there is nothing to search then.
         [b'\\', behind @ ..] => Some((&text[..0], behind)),
         _ => cut(text, b'\\'),
     }
@@ -62,7 +62,7 @@ fn has_only_text_bytes(text: &[u8]) -> bool
     })
 }
 
-/// Adds the byte of the escape whose `\` stands in front of this text, and gives what stands behind the escape.
+/// Adds the byte of the escape whose `\` stands in front of this text, and gives what follows the escape.
 /// `NotEscaped`: no escape stands there.
 fn push_escape<'a>(bytes: &mut Vec<u8>, text: &'a [u8]) -> Result<&'a [u8], EscapeFault>
     ensures text { IfOk result (λ behind. escaped bytes.new.items ++ behind.now ≡ escaped bytes.old.items ++ 92 ∷ text.now) }
@@ -81,7 +81,7 @@ fn push_escape<'a>(bytes: &mut Vec<u8>, text: &'a [u8]) -> Result<&'a [u8], Esca
     Ok(behind)
 }
 
-/// The byte of the escape whose `\` stands in front of this text, and what stands behind the escape, or none if no
+/// The byte of the escape whose `\` stands in front of this text, and what follows the escape, or none if no
 /// escape stands there.
 fn split_escape(text: &[u8]) -> Option<(u8, &[u8])>
     ensures { MatchOption result ((b : ℕ) → b < 256 → (rest : List ℕ) → escape_of b ++ rest ≢ 92 ∷ text.now)

@@ -18,7 +18,7 @@ pub struct Line<'a> {
 pub struct Lines<'a> {
     /// How many lines are taken.
     pub taken: usize,
-    /// The text behind them.
+    /// The text after them.
     pub rest: &'a [u8],
     ghost countable: { taken + length rest.now + 1 < 2 ^ 64 },
 }
@@ -53,7 +53,7 @@ impl<'a> Lines<'a> {
         })
     }
 
-    /// Takes the next line if it is whole and begins with `start`, and gives what stands behind that. Else takes nothing.
+    /// Takes the next line if it is whole and begins with `start`, and gives what follows `start`. Else takes nothing.
     pub fn take_if(&mut self, start: &[u8]) -> Option<Line<'a>>
         ensures line { IfSome result (λ line. IsLine start.now line.text.now self.new.rest.now self.old.rest.now) }
         ensures missing { IfNone result ((text behind : List ℕ) → ¬ IsLine start.now text behind self.old.rest.now) }

@@ -1,4 +1,4 @@
--- The mark is read from the bytes behind the field.
+-- The mark is read from the bytes after the field.
 use Rattle.std.proofs.Common.{◌≡◌, ℕ, ◌<◌, Bool, true, false, ◌&&◌, List, length, take, drop, sym, refl, ap, ◌∙◌, arith}
 use Rattle.std.specs.Prelude.{Option, Some, None, SomeIff, codes, nat_eq, if◌then◌else◌}
 use Rattle.std.specs.List.{starts_with}
@@ -14,7 +14,7 @@ use Rattle.mailcore.proofs.copies.mark_of.Goals as goal
 abbrev field : List ℕ
 field = codes "X-TUID: "
 
--- the mark that this text is, where a line end stands behind it
+-- the mark that this text is, if a line end follows it
 abbrev ended_mark : List ℕ → List ℕ → Option (List ℕ)
 ended_mark text rest = if is_mark text && begins_with_line_end rest then Some text else None
 
