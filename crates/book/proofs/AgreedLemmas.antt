@@ -80,7 +80,7 @@ other_copies entries plan copies more c h =
     let behind = or_last (is_named entries c.0 c.1) _ h in
     sym (list_any-append (is_it c) copies more) ∙ or_last (list_any (is_source_of c.0 c.1) plan) _ behind
 
--- what is not taken behind more copies is not taken behind these
+-- what is not taken after more copies is not taken after these
 fewer : (entries : List Entry) (plan : List Step) (copies more : List Copy) (c : Copy) → is_taken entries plan (copies ++ more) c ≡ false → is_taken entries plan copies c ≡ false
 fewer entries plan copies more c h =
     let named = is_named entries c.0 c.1 in

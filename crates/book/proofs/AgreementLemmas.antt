@@ -53,7 +53,7 @@ place_append t k (x ∷ xs) ys =
       by_test true e = refl
       by_test false e = e
 
--- behind a number of lines
+-- after a number of lines
 place_behind : {X : Type 0} (t : X → Bool) (n : ℕ) (xs : List X) → position_from t n xs ≡ option_map (λ i. i + n) (position t xs)
 place_behind t n xs =
     let number : n ≡ 0 + n = omega arith in
@@ -175,7 +175,7 @@ pub none_logged : (entries : List Entry) (plan : List Step) (copies : List Copy)
 none_logged entries plan copies [] = refl
 none_logged entries plan copies (s ∷ steps) = refl
 
--- nothing is left behind the end of one of the two
+-- nothing is left after the end of one of the two
 behind_either : (m n i : ℕ) → min m n ≤ i → (m ≤ i) ⊎ (n ≤ i)
 behind_either zero n i h = inl (omega arith)
 behind_either (suc m) zero i h = inr (omega arith)

@@ -37,7 +37,7 @@ reached_from {X} place k xs at parted below stop = (
 passed_on : {X : Type 0} (place : X → ℕ × ℕ × ℕ) (k l : ℕ × ℕ × ℕ) (xs : List X) (at : ℕ) → is_below k l ≡ true → Passed place k xs at → Passed place l xs at
 passed_on {X} place k l xs at less passed = λ i d from within. below_trans (place (get_or xs i d)) k l (passed i d from within) less
 
--- what was passed for an entry is passed for those behind it
+-- what was passed for an entry is passed for those after it
 pub walk_on : (j : Journal) (gones : Gones) (a b : Entry) (walk : Walk) → EntryBefore a b → HasPassed j gones a walk → HasPassed j gones b walk
 walk_on j gones a b walk order h =
     let less = entry_below a b order in
@@ -90,7 +90,7 @@ of_place e p h =
     let same = pair_is (Some p.far) (Some p.near) e h in
     rw (same.0, same.1) refl
 
--- pairs that stand in order, at and behind the place of an entry
+-- pairs that stand in order, at and after the place of an entry
 same_pair : (e : Entry) (a b : Pair) → is_of e b ≡ true → PairNotAfter a b → is_below (pair_place a) (gone_place e) ≡ false → is_of e a ≡ true
 same_pair e a b here order h =
     let same = pair_is (Some b.far) (Some b.near) e here in

@@ -18,7 +18,7 @@ kept_entries-append j xs ys =
     ∙ ap (λ (l : List Entry). filter has_a_side l) (map-append (entry_after j) (filter p xs) (filter p ys))
     ∙ filter-append has_a_side (map (entry_after j) (filter p xs)) (map (entry_after j) (filter p ys))
 
--- what was written stands behind the start
+-- what was written follows the start
 written : {X : Type 0} (start before more all old new : List X) → old ≡ start ++ before → new ≡ old ++ more → all ≡ before ++ more → new ≡ start ++ all
 written {X} start before more all old new e h is = h ∙ ap (λ (l : List X). l ++ more) e ∙ append_assoc start before more ∙ ap (λ (l : List X). start ++ l) (sym is)
 
@@ -57,7 +57,7 @@ all_copies zero (s ∷ steps) (l ∷ log) (inr h) = absurd (omega arith)
 all_copies (suc n) (s ∷ steps) (l ∷ log) (inl h) = ap (λ (x : List Entry). entry_of_copy s l ++ x) (all_copies n steps log (inl (omega arith)))
 all_copies (suc n) (s ∷ steps) (l ∷ log) (inr h) = ap (λ (x : List Entry). entry_of_copy s l ++ x) (all_copies n steps log (inr (omega arith)))
 
--- nothing is left behind the first n
+-- nothing is left after the first n
 pub ends_at : {X : Type 0} (xs all rest : List X) (n : ℕ) → all ≡ xs → rest ≡ drop n all → length rest ≡ 0 → length xs ≤ n
 ends_at {X} xs all rest n same is none =
     let left : length rest ≡ length xs - n = ap (λ (l : List X). length l) is ∙ length-drop n all ∙ ap (λ (l : List X). length l - n) same in

@@ -30,7 +30,7 @@ use Rattle.book.proofs.EntryPairLemmas.{Apart, AllPairs-append, AllPairs-map, Ar
 use Rattle.book.proofs.CopiedUids.{Fresh, copies_are}
 use Rattle.book.proofs.CommittedPairs.{AreCommitted, IsUnnamed, IsWhole, apart_numbers, copies_whole, fresh_unnamed, lines_of_agreed}
 
--- ---- an entry behind the logged steps has its UIDs, and flags that have letters
+-- ---- an entry after the logged steps has its UIDs, and flags that have letters
 
 deleted_fits : (x : ℕ) → with_deleted x < 2 ^ FLAGS
 unfolding with_deleted
@@ -186,7 +186,7 @@ left_so j lost old first noted halves all new steps log journal pairs fits agree
 
 -- ---- one step after another
 
--- what is left to be done with an entry behind the first so many
+-- what is left to be done with an entry after the first so many
 behind_more : (i : ℕ) (steps : List Step) (log : List Logged) (s : Step) (e : Entry) → i < length steps → i < length log → s ≡ get_or steps i s
     → entry_behind (drop i steps) (drop i log) e ≡ entry_behind (drop (suc i) steps) (drop (suc i) log) (record e { flags = flags_behind s e })
 behind_more i [] log s e below within is = absurd (omega arith)
@@ -198,7 +198,7 @@ pub behind_next : (i : ℕ) (steps : List Step) (log : List Logged) (s : Step) (
     → entry_behind (drop i steps) (drop i log) e ≡ entry_behind (drop (i + 1) steps) (drop (i + 1) log) (record e { flags = flags_behind s e })
 behind_next i steps log s e below within is = rw add-one (behind_more i steps log s e below within is)
 
--- behind all that are logged: the next step
+-- after all that are logged: the next step
 at_next : (i : ℕ) (steps : List Step) (s : Step) (e : Entry) → i < length steps → s ≡ get_or steps i s → entry_behind (drop i steps) [] e ≡ record e { flags = flags_at s e }
 at_next i [] s e below is = absurd (omega arith)
 at_next zero (t ∷ steps) s e below is = ap (λ (x : Step). record e { flags = flags_at x e }) (sym is)

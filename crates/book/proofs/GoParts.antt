@@ -16,7 +16,7 @@ use Rattle.sync_state.proofs.LfLemmas.{before_go, before_go_is_lines, last_is_go
 abbrev IsOther : List ℕ → Type 0
 IsOther line = line ≢ go_line
 
--- a text whose last line alone is `go` has nothing behind a `go`
+-- a text whose last line alone is `go` has nothing after a `go`
 none_behind : (ls before : List (List ℕ)) (behind : List ℕ) → All OneLine ls → All IsOther ls → All OneLine before
     → lines_text (ls ++ go_line ∷ []) ≡ lines_text before ++ (go_line ++ 10 ∷ behind) → [] ≡ behind
 none_behind [] [] behind one other whole e =

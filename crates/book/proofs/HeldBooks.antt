@@ -24,9 +24,9 @@ use Rattle.sync_state.proofs.KnownStates.{state_is_lines}
 use Rattle.sync_state.proofs.KnownJournals.{written_known}
 use Rattle.book.proofs.KnownBooks.{state_of_file, written_has_go}
 
--- ---- the first whole lines of a text, which has these lines and `end` behind them
+-- ---- the first whole lines of a text, which has these lines and `end` after them
 
--- there is a line behind the first ones
+-- there is a line after the first ones
 record GoesOn (lines first : List (List ℕ)) (end rest : List ℕ) : Type 0 where
   line : List ℕ
   more : List (List ℕ)

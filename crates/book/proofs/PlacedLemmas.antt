@@ -19,7 +19,7 @@ use Rattle.book.specs.PlacedLists.{entry_place}
 use Rattle.book.proofs.CommittedPlaces.{pair_is}
 use Rattle.book.proofs.CopiedUids.{below_trans, below_itself}
 
--- each stands below those behind it
+-- each stands below those after it
 abbrev pub Rising : {X : Type 0} → (X → ℕ × ℕ × ℕ) → List X → Type 0
 Rising place xs = AllPairs (λ a b. is_below (place a) (place b) ≡ true) xs
 

@@ -45,7 +45,7 @@ is_taken entries steps copies (side, uid) =
     is_named entries side uid
     || (list_any (is_source_of side uid) steps || list_any (λ c. is_side c.0 side && c.1 == uid) copies)
 
--- each copy of the log has a UID that was not taken when it was made, behind these copies
+-- each copy of the log has a UID that was not taken when it was made, after these copies
 abbrev pub log_agrees : List Entry → (plan : List Step) → (copies : List Copy) → List Step → List Logged → List Bool
 log_agrees entries plan copies [] log = []
 log_agrees entries plan copies (s ∷ steps) [] = []
@@ -53,7 +53,7 @@ log_agrees entries plan copies (s ∷ steps) (logged ∷ log) =
     list_all (λ c. not (is_taken entries plan copies c)) (copy_of s logged)
     ∷ log_agrees entries plan (copies ++ copy_of s logged) steps log
 
--- ---- the lines of a journal behind those of its numbers and keywords: those of steps, those of notes, `go`, and those of the log
+-- ---- the lines of a journal after those of its numbers and keywords: those of steps, those of notes, `go`, and those of the log
 
 abbrev pub lines_agree : List Entry → Journal → List Bool
 lines_agree entries j =

@@ -48,8 +48,8 @@ abbrev pub as_done : Option ℕ → Logged
 as_done None = Done
 as_done (Some copy) = Copied copy
 
--- The step of this number, counted from 1, is the first that is not logged, and may be logged so. No torn line stands
--- behind those that are.
+-- The step of this number, counted from 1, is the first that is not logged, and may be logged so. No torn line follows
+-- those that are.
 pub record IsNextLog (written : WrittenJournal) (step : ℕ) (logged : Logged) : Type 0 where
   pub whole : written.is_torn ≡ false
   pub number : step ≡ length written.journal.log + 1
@@ -64,7 +64,7 @@ MayLog (Planned written) step logged = IsNextLog written step logged
 abbrev pub is_free_for : List Entry → Journal → Step → Logged → Bool
 is_free_for entries j s logged = list_all (λ c. not (is_taken entries j.plan.steps (copies_of j.plan.steps j.log) c)) (copy_of s logged)
 
--- the step behind so many, if there is one, passes
+-- the step after so many, if there is one, passes
 abbrev pub at_step : (Step → Bool) → List Step → ℕ → Bool
 at_step passes [] k = true
 at_step passes (s ∷ steps) zero = passes s

@@ -24,7 +24,7 @@ IsPlanned Missing = ⊥
 IsPlanned Useless = ⊥
 IsPlanned (Planned written) = Unit {0}
 
--- a state that a book may have: behind a run it has a text, and else it is the first one
+-- a state that a book may have: after a run it has a text, and else it is the first one
 pub record IsSound (s : SyncState) : Type 0 where
   pub made : 0 < s.run → HasText Two s
   pub none : s.run ≡ 0 → IsFirst s
@@ -53,7 +53,7 @@ pub record IsPending (s : SyncState) (written : WrittenJournal) (text : List ℕ
   pub is_next : IsNext s.run written text
   pub agrees : Agrees s.entries written.journal
 
--- the journal's file holds this, behind this state
+-- the journal's file holds this, after this state
 abbrev pub HoldsJournal : SyncState → Option (List ℕ) → Pending → Type 0
 HoldsJournal s None Missing = Unit {0}
 HoldsJournal s None Useless = ⊥
@@ -96,8 +96,8 @@ pub record IsUnstopped (old new : Seen Files) : Type 0 where
   pub is_whole : new.is_broken ≡ false
   pub stops : new.stops ≡ old.stops
 
--- Files are not read. A stop is told where the shelf stopped then, which is broken from then on, or was broken before and
--- is as it was. Where a file is refused no call has stopped, and where memory was wanting none need have.
+-- Files are not read. A stop is reported where the shelf stopped then, which is broken from then on, or was broken before and
+-- is as it was. Where a file is refused no call has stopped; where memory ran out none need have.
 abbrev pub StopsTold : BookFault → Seen Files → Seen Files → Type 0
 StopsTold Stopped old new =
     (new.is_broken ≡ true)
@@ -167,9 +167,9 @@ pub record Standing : Type 0 where
   pub is_ready : Bool
   pub shelf : Seen Files
 
--- A call ends. Where it answers, the book was ready and goes on, and no call of the shelf has stopped. Where it stops, the
+-- A call ends. If it succeeds, the book was ready and goes on, and no call of the shelf has stopped. Where it stops, the
 -- shelf stopped in this call and is broken, or the book had failed before, and then nothing was called; from then on it has
--- failed. Where it finds no memory it has failed too, and no call of the shelf need have stopped. Where it is refused
+-- failed. Where memory runs out it has failed too, and no call of the shelf need have stopped. Where it is refused
 -- nothing was called, and the book goes on.
 abbrev pub Ends : {T : Type 0} → (is_refused : Bool) → Standing → Standing → Result T BookFault → Type 0
 Ends is_refused old new (Ok answer) =
@@ -183,7 +183,7 @@ Ends is_refused old new (Err NoMemory) =
 Ends is_refused old new (Err (BadState line)) = (line ≡ 0) × (is_refused ≡ true) × (old.is_ready ≡ true) × (new ≡ old)
 Ends is_refused old new (Err (BadJournal line)) = ⊥
 
--- one journal stands in place of another, behind the same state
+-- one journal replaces another, after the same state
 abbrev pub Turns : (from to : Pending) → Effect Files
 Turns from to old new = (s : SyncState) → Holds old s from → Holds new s to
 
@@ -191,7 +191,7 @@ Turns from to old new = (s : SyncState) → Holds old s from → Holds new s to
 abbrev pub TurnsHalf : (from part : Pending) → Effect Files
 TurnsHalf from part old new = (s : SyncState) → Holds old s from → Holds new s from ⊎ Holds new s part
 
--- a call that puts a journal in place of another has done so where it answers; else it has or has not, or a part of it
+-- a call that replaces a journal by another has done so if it succeeds; else it has or has not, or a part of it
 abbrev pub Leaves : {T : Type 0} → (from to part : Pending) → (old new : Files) → Result T BookFault → Type 0
 Leaves from to part old new (Ok answer) = Turns from to old new
 Leaves from to part old new (Err fault) = Turns from to old new ⊎ TurnsHalf from part old new

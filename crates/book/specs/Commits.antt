@@ -48,7 +48,7 @@ CommitsTo pending old new = (s : SyncState) → Holds old s pending → HoldsMad
 abbrev pub CommitsHalf : Pending → Effect Files
 CommitsHalf pending old new = (s : SyncState) → Holds old s pending → LeavesCommit pending s new
 
--- a commit has committed the journal where it answers; else it may have, in part or whole
+-- a commit has committed the journal if it succeeds; else it may have, in part or whole
 abbrev pub LeavesMade : {T : Type 0} → Pending → (old new : Files) → Result T BookFault → Type 0
 LeavesMade pending old new (Ok answer) = CommitsTo pending old new
 LeavesMade pending old new (Err fault) = CommitsHalf pending old new

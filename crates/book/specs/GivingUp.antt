@@ -26,21 +26,21 @@ use Rattle.book.specs.Committed.{entries_of_copies}
 
 -- ---- what a plan has made of the flags of old entries
 
--- the flags recorded behind a step that is logged: those that it gave are, so that no later plan takes them for a change that somebody made
+-- the flags recorded after a step that is logged: those that it gave are, so that no later plan takes them for a change that somebody made
 abbrev pub flags_behind : Step → Entry → ℕ
 flags_behind (step.New direction uid flags mark) e = e.flags
 flags_behind (step.Gone direction far near) e = if is_pair (Some far) (Some near) e then with_deleted e.flags else e.flags
 flags_behind (step.Flags direction far near set cleared) e = if is_pair (Some far) (Some near) e then minus (union e.flags set) cleared else e.flags
 flags_behind (step.Expunge side uid) e = e.flags
 
--- the same for the step behind the log, which may be done: that it marks a message as deleted counts, and nothing else
+-- the same for the step after the log, which may be done: that it marks a message as deleted counts, and nothing else
 abbrev pub flags_at : Step → Entry → ℕ
 flags_at (step.New direction uid flags mark) e = e.flags
 flags_at (step.Gone direction far near) e = if is_pair (Some far) (Some near) e then with_deleted e.flags else e.flags
 flags_at (step.Flags direction far near set cleared) e = if is_pair (Some far) (Some near) e && has set DELETED then with_deleted e.flags else e.flags
 flags_at (step.Expunge side uid) e = e.flags
 
--- an entry behind the logged steps
+-- an entry after the logged steps
 abbrev pub entry_behind : List Step → List Logged → Entry → Entry
 entry_behind [] log e = e
 entry_behind (s ∷ steps) [] e = record e { flags = flags_at s e }
@@ -106,7 +106,7 @@ GivesUpTo lost pending old new = (s : SyncState) → Holds old s pending → Hol
 abbrev pub GivesUpHalf : (lost : Lost) → Pending → Effect Files
 GivesUpHalf lost pending old new = (s : SyncState) → Holds old s pending → LeavesGivingUp lost pending s new
 
--- where it answers, the plan is given up; else it may be, in part or whole
+-- if it succeeds, the plan is given up; else it may be, in part or whole
 abbrev pub LeavesGivenUp : {T : Type 0} → (lost : Lost) → Pending → (old new : Files) → Result T BookFault → Type 0
 LeavesGivenUp lost pending old new (Ok answer) = GivesUpTo lost pending old new
 LeavesGivenUp lost pending old new (Err fault) = GivesUpHalf lost pending old new

@@ -31,11 +31,11 @@ Gives file bytes files = bytes_of bytes ≡ file_at file files
 abbrev pub Puts : File → Option (List ℕ) → Effect Files
 Puts file bytes old new = new ≡ with_file file bytes old
 
--- bytes stand behind those that were there
+-- bytes follow those that were there
 abbrev pub Appends : File → List ℕ → Effect Files
 Appends file bytes old new = Puts file (Some (unwrap_or (file_at file old) [] ++ bytes)) old new
 
--- a beginning of the bytes stands behind those that were there
+-- a beginning of the bytes follows those that were there
 pub record AppendsPart (file : File) (bytes : List ℕ) (old new : Files) : Type 0 where
   pub count : ℕ
   pub within : count ≤ length bytes

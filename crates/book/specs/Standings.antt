@@ -21,6 +21,6 @@ module _ {S : Type 0} {shelves : shelf.Ghosts S} where
   abbrev pub standing : Book S shelves → Standing
   standing book = record { is_ready = book.is_ready; shelf = seen_in book }
 
-  -- what a call leaves that puts a journal in place of another
+  -- what a call leaves that replaces a journal by another
   abbrev pub LeavesJournal : {T : Type 0} → (from to part : Pending) → (old new : Book S shelves) → Result T BookFault → Type 0
   LeavesJournal from to part old new result = Leaves from to part (files_in old) (files_in new) result

@@ -39,7 +39,7 @@ Knows entries (Planned written) t =
 abbrev pub Adds : Side → (uid : ℕ) → (old new : Taken) → Type 0
 Adds side uid old new = (s : Side) (u : ℕ) → has new s u ≡ (is_side side s && uid == u || has old s u)
 
--- the copy that the step behind so many makes where it is logged so
+-- the copy that the step after so many makes where it is logged so
 abbrev pub next_copies : List Step → ℕ → Logged → List Copy
 next_copies [] k logged = []
 next_copies (s ∷ steps) zero logged = copy_of s logged

@@ -37,7 +37,7 @@ impl<S: Shelf> Book<S> {
     }
 
     /// Whether the step of this number, counted from 1, may be logged so: it is the first that is not logged, a new message
-    /// is logged as copied or void and another step as done, and no torn line stands behind the journal.
+    /// is logged as copied or void and another step as done, and no torn line follows the journal.
     pub fn may_log(&self, step: usize, logged: Logged) -> bool
         ensures { MayLog self.now.pending step logged ↔ (result ≡ true) }
     {
@@ -70,7 +70,7 @@ fn fits_step(step: &Step, logged: Logged) -> bool
     ensures { FitsStep step.now logged ↔ (result ≡ true) }
 {
     match (step, logged) {
-        // A UID tells its range by its number.
+        // The number of a UID shows its range.
         (Step::New { .. }, Logged::Copied(copy)) => copy.get() > 0,
         (Step::New { .. }, Logged::Void) => true,
         (Step::New { .. }, Logged::Done) => false,

@@ -43,7 +43,7 @@ fn read_state_file<S: Shelf>(alloc: Global, shelf: &mut S) -> Result<SyncState, 
     }
 }
 
-/// What the journal's file holds, behind this state.
+/// What the journal's file holds, after this state.
 fn read_journal_file<S: Shelf>(
     alloc: Global,
     shelf: &mut S,
@@ -62,7 +62,7 @@ fn read_journal_file<S: Shelf>(
     }
 }
 
-/// What a journal's file with this text holds, behind this state.
+/// What a journal's file with this text holds, after this state.
 fn read_pending(alloc: Global, text: &[u8], state: &SyncState) -> Result<Pending, BookFault>
     ensures holds { IfOk result (λ pending. HoldsJournal state.now (Some text.now) pending) }
     ensures fits { IfOk result (Fits state.now) }

@@ -33,7 +33,7 @@ pub struct ShelfStop {
 /// The files `.mbsyncstate` and `.mbsyncstate.journal` of a folder. A call stops where the system fails.
 ///
 /// What has to outlive a loss of power is synced to the disk, and no more: the first bytes of a file with its name, since a plan
-/// has to stand before its first step; a file that is replaced before it is renamed, and its name behind that; and the journal with
+/// has to be there before its first step; a file that is replaced before it is renamed, and its name after that; and the journal with
 /// its name where one is read, since the call that wrote it may have stopped before it was synced. Further bytes of a journal
 /// and the removal of a file may be lost: docs/DECISIONS.md says what follows. A file that is replaced is written anew as
 /// `.mbsyncstate.new` and renamed over the old one, so that it is whole or as before. Whether a disk gives back what was synced
@@ -71,7 +71,7 @@ impl<R: Files + AllocGlobal + Clone + Drop> DiskShelf<R> {
         self.disk.stops()
     }
 
-    /// Where a call stopped since the shelf was opened, and what the system said. None: none has, or memory was wanting.
+    /// Where a call stopped since the shelf was opened, and what the system said. None: none has, or memory ran out.
     pub fn stop(&self) -> Option<ShelfStop> {
         self.stop
     }
@@ -97,7 +97,7 @@ impl<R: Files + AllocGlobal + Clone + Drop> DiskShelf<R> {
         Ok(bytes)
     }
 
-    // Puts a file with these bytes in place of the one that is there.
+    // Replaces a file by one with these bytes.
     fn exchange(&self, file: File, bytes: &[u8]) -> io::Result<()> {
         self.disk.replace(name_of(file), NEXT, bytes)?;
         self.disk.sync_names()

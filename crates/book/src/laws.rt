@@ -18,7 +18,7 @@ pub fn books_by_their_files()
     ensures { (files : Files) (s t : SyncState) (p q : Pending) → Holds files s p → Holds files t q → (s ≡ t) × (p ≡ q) }
 {}
 
-/// Files that hold a book are refused by no line: a book is opened anew, unless the shelf stops or memory is wanting.
+/// Files that hold a book are refused by no line: a book is opened anew, unless the shelf stops or memory runs out.
 pub fn held_books_open()
     ensures { (files : Files) (s : SyncState) (p : Pending) (fault : BookFault) → Holds files s p → TellsOpen files fault
         → (fault ≡ BookFault.Stopped) ⊎ (fault ≡ BookFault.NoMemory) }

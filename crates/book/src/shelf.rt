@@ -30,12 +30,12 @@ pub trait Shelf {
     fn read(&mut self, file: File) -> Result<Option<Vec<u8>>, DeviceFault>
         ensures { Read is_honest (Gives file) (seen self.old) (seen self.new) result };
 
-    /// Adds bytes behind those of a file, which is made if it is missing. A stopped call may leave any beginning of them. A disk
+    /// Adds bytes after those of a file, which is made if it is missing. A stopped call may leave any beginning of them. A disk
     /// keeps the bytes that a file is made with where the power fails; it may lose those that are added later.
     fn append(&mut self, file: File, bytes: &[u8]) -> Result<(), DeviceFault>
         ensures { Call is_honest (Appends file bytes.now) (AppendsPart file bytes.now) (seen self.old) (seen self.new) result };
 
-    /// Gives a file these bytes in place of its own, all of them or none.
+    /// Replaces the bytes of a file by these, all of them or none.
     fn replace(&mut self, file: File, bytes: &[u8]) -> Result<(), DeviceFault>
         ensures { Call is_honest (Puts file (Some bytes.now)) Nothing (seen self.old) (seen self.new) result };
 

@@ -35,7 +35,7 @@ failed_with e = Err e
 pub ends_unmade : (T : Type 0) (old new : State) (e : FarFault) → old.stops ≤ new.stops → (failed_with e ≡ Err far.Stopped → SendStops (tag_text 1) old new) → Ends {T = T} old new (Err e)
 ends_unmade T old new e counts stopped = (λ is. sent_cause (tag_text 1) old new (stopped (ap failed_with is)), counts)
 
--- one call behind another
+-- one call after another
 pub ends_behind : {T : Type 0} (old mid new : State) (r : Result T FarFault) → mid.stops ≡ old.stops → Ends mid new r → Ends old new r
 ends_behind old mid new (Ok x) same ends = (ends.0, ends.1 ∙ same)
 ends_behind old mid new (Err e) same ends = (

@@ -1,4 +1,4 @@
--- One call of the far box behind another, at the server.
+-- One call of the far box after another, at the server.
 use Rattle.std.proofs.Common.{◌≡◌, ◌≤◌, ◌<◌, ◌+◌, ℕ, suc, Bool, true, false, List, [], ◌∷◌, Result, Ok, Err, arith, sym, ap, subst, ◌∙◌, inl, inr, refl}
 use Rattle.std.specs.Prelude.{All, IfOk, IsErrAnd, map, max}
 use Rattle.std.proofs.lemmas.List.Elements.{All-cons, All-map, All-nil}
@@ -37,7 +37,7 @@ pub handed : {T : Type 0} (P : Result T FarFault → Type 0) (e : FarFault) (r :
 handed P e (Ok x) is h = absurd is
 handed P e (Err x) is h = subst (λ (y : FarFault). P (Err y)) (sym is) h
 
--- a call behind what keeps the mailboxes, which keeps them
+-- a call after what keeps the mailboxes, which keeps them
 module _ (refuses refuses' effect : Server → Server → Type 0) (old mid new : Server) (before : KeepsMailboxes old mid) (keeps : effect mid new → KeepsMailboxes mid new) (refused : refuses mid new → refuses' old new) where
   may_keep : MayHave effect mid new → MayHave KeepsMailboxes old new
   may_keep (inl quiet) = inr (ap (λ (s : Server). s.mailboxes) quiet ∙ before)
@@ -64,7 +64,7 @@ boxes_of s = s.mailboxes
 abbrev pub LoginEnds : (user password : List ℕ) → Result (Unit {0}) FarFault → Server → Server → Type 0
 LoginEnds user password = Outcome (λ _. LogsIn) (IsUnknown user password) KeepsMailboxes
 
--- others acted behind a new connection; they might as well have acted before it
+-- others acted after a new connection; they might as well have acted before it
 abbrev earlier : Server → Server → Server
 earlier old mid = record mid { condition = old.condition }
 
@@ -100,7 +100,7 @@ module _ (v : Visitors) (user password : List ℕ) (old mid : Server) where
             (λ x a. (ap boxes_of a.1, ap (λ (s : Server). is_logged_in s.condition) a.1)) r a.then;
       }
 
--- ---- a selection behind it
+-- ---- a selection after it
 
 module _ (stage : Stage) (user password name : List ℕ) (old mid new : Server) where
   pub reached : KeepsMailboxes old mid → (r : Result ℕ FarFault) → Outcome (TellsValidity name) (Misses name) KeepsMailboxes r mid new → Outcome (TellsValidity name) (RefusesAll stage user password name) KeepsMailboxes r old new

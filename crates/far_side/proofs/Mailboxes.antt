@@ -44,7 +44,7 @@ changed_there change name (x ∷ ms) m e =
           ∙ ap (first_of name x (changed change name ms)) other ∙ changed_there change name ms m (sym (ap (first_of name x ms) other) ∙ e)
     ]
 
--- behind a change it is still selected
+-- after a change it is still selected
 pub changed_chosen : (change : Store → Store) (name : List ℕ) (s : Server) → IsChosen name s → IsChosen name (with_selected change s)
 changed_chosen change name s c = record {
   condition = c.condition;

@@ -115,7 +115,7 @@ on_ok : {T : Type 0} (P : Type 0) (r : Result T FarFault) → P → OnOk r P
 on_ok P (Ok a) p = p
 on_ok P (Err e) p = tt
 
--- a call of an open one, as its contract tells it
+-- a call of an open one, as its contract states it
 pub record Called {L : Type 0} {links : link.Ghosts L} (name : List ℕ) (stage : Stage) (old new : FarBox L links) : Type 0 where
   pub is_open : is_open_at stage ≡ true
   pub whole : is_broken_at stage old.is_selected old.session.is_ready ≡ false

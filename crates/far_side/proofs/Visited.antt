@@ -32,7 +32,7 @@ use Rattle.imap_client.specs.Seen.{seen_message, seen_through}
 use Rattle.far_side.proofs.SeenThrough.{map-append, uids_seen}
 use Rattle.far_side.specs.Chosen.{IsChosen, IsMissing, KeepsMailboxes, box_at, nothing, settled, store_at, store_in}
 
--- ---- UIDs that come behind others
+-- ---- UIDs that come after others
 
 abbrev Under : Message → Message → Type 0
 Under a b = a.uid < b.uid

@@ -1,4 +1,4 @@
--- How the faults of the far box are told.
+-- How the faults of the far box are reported.
 use Rattle.std.specs.Prelude.{Result, Ok, Err}
 use Rattle.imap_link.specs.declared.fault.FarFault.{FarFault}
 use Rattle.imap_link.specs.declared.fault.FarFault.TheVariants as far

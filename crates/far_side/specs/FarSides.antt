@@ -26,15 +26,15 @@ module _ {L : Type 0} {links : link.Ghosts L} where
   abbrev pub seen_of : FarSide L links → Seen
   seen_of side = seen_at side.stage side.far.keywords side.account.mailbox.items side.far
 
-  -- the link has kept its word
+  -- the link has behaved as specified
   abbrev pub honest_of : FarSide L links → Type 0
   honest_of side = links.honest side.far.session.wire.link
 
-  -- the server behind it
+  -- the server at the other end of the link
   abbrev pub server_at : FarSide L links → Server
   server_at side = server_of side.far.session
 
-  -- no other fault comes from a server that keeps its word
+  -- no other fault comes from a server that behaves as specified
   abbrev pub Unfit : FarSide L links → BoxFault → Type 0
   Unfit side Stopped = ⊥
   Unfit side Refused =

@@ -103,7 +103,7 @@ impl<L: Link + Drop> FarSide<L> {
         }
     }
 
-    /// Gives the link back, and the map by which flags have names: where the link has kept its word, the server's.
+    /// Gives the link back, and the map by which flags have names: where the link has behaved as specified, the server's.
     pub fn into_parts(self) -> (L, Keywords)
         ensures link { result.0 ≡ self.far.session.wire.link }
         ensures keywords { result.1 ≡ self.far.keywords }
@@ -153,7 +153,7 @@ impl<L: Link + Drop> FarSide<L> {
         }
     }
 
-    // Selects the mailbox, over the session as it stands, and tells its UIDVALIDITY.
+    // Selects the mailbox, over the session as it stands, and returns its UIDVALIDITY.
     fn select(&mut self) -> Result<u32, FarFault>
         requires reached { is_reached self.old.stage ≡ true }
         requires ready { self.old.far.session.is_ready ≡ true }
@@ -214,7 +214,7 @@ impl<L: Link + Drop> FarSide<L> {
         Ok(())
     }
 
-    // What the mailbox lists. Where a command was sent since it was selected, it is selected again, which tells its next UID.
+    // What the mailbox lists. Where a command was sent since it was selected, it is selected again, which gives its next UID.
     fn list_anew(&mut self) -> Result<Listing, FarFault>
         requires whole { (seen_of self.old).is_broken ≡ false }
         requires open { is_open_at self.old.stage ≡ true }

@@ -49,9 +49,9 @@ impl<L: Link + Drop> LoggedIn<L> {
         })
     }
 
-    /// The names of all mailboxes, in the order in which the server tells them. Names outside the limits are passed over.
+    /// The names of all mailboxes, in the order in which the server lists them. Names outside the limits are skipped.
     ///
-    /// `Refused`: the server tells none.
+    /// `Refused`: the server lists none.
     pub fn list(&mut self) -> Result<Vec<MailboxName>, FarFault>
         ensures was_honest { L.honest self.new.session.wire.link → L.honest self.old.session.wire.link }
         ensures ends { EndsSo 1 (state_of self.old.session) (state_of self.new.session) result }

@@ -1,4 +1,4 @@
-//! How the faults of the far box are told.
+//! How the faults of the far box are reported.
 
 ghost use Rattle.std.specs.Prelude.{◌≡◌};
 ghost use Rattle.far_side.specs.FarFaults.{told, told_by};
@@ -22,7 +22,7 @@ pub fn told(fault: FarFault) -> BoxFault
     }
 }
 
-/// How an answer of the far box is told.
+/// How an answer of the far box is reported.
 pub(crate) fn told_by<T>(answer: Result<T, FarFault>) -> Result<T, BoxFault>
     ensures { result ≡ told_by answer }
 {

@@ -1,4 +1,4 @@
--- The next UID that a far listing tells.
+-- The next UID that a far listing gives.
 use Rattle.std.proofs.Common.{◌≡◌, ◌⊎◌, ◌≤◌, inl, inr, refl, sym, subst, ℕ, Bool, true, false, arith}
 use Rattle.std.proofs.lemmas.Bool.{false≢true}
 use Rattle.mailcore.specs.declared.listing.Listing.{Listing}

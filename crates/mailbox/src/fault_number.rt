@@ -4,7 +4,7 @@
 /// `BoxFault::Refused`; it has this number where no step of a run is refused.
 pub const FAR_REFUSED: u8 = 2;
 
-/// Far: the server's answer is not known; or it did not tell the UID of a copy, and no message bears the copy's mark.
+/// Far: the server's answer is not known; or it did not report the UID of a copy, and no message bears the copy's mark.
 pub const FAR_UNKNOWN_ANSWER: u8 = 3;
 
 /// Far: a reply has more than 65536 bytes, or a literal of more than 16 MiB.

@@ -13,7 +13,7 @@ use mailcore::uid::Uid;
 /// A mailbox of a run: closed, or open, and then its calls can be made.
 ///
 /// After a fault the caller makes no call but `reopen`. Between two calls, and before a call has its effect, others may add messages.
-/// What a call does is said where the device below keeps its word; why it stops is said always.
+/// What a call does is stated where the device below behaves as specified; why it stops is stated always.
 pub trait Mailbox {
     ghost use Rattle.device.specs.Calls.{Nothing};
     ghost use Rattle.mailcore.specs.declared.keywords.Keyword.{Keyword};
@@ -30,7 +30,7 @@ pub trait Mailbox {
     /// Which mailbox of a pair it is: what its line ends and fitness are, who gives its UIDs, and how it says no.
     ghost side: { Side };
 
-    /// The device below has kept its word so far.
+    /// The device below has behaved as specified so far.
     ghost honest: { Self → Type 0 };
 
     /// The marks that nobody else writes.
@@ -61,7 +61,7 @@ pub trait Mailbox {
     /// All that was changed so far outlives a loss of power, or that is the other end's affair.
     ghost is_synced: { Self → Bool };
 
-    /// Opens the mailbox, anew where it is open, and tells its UIDVALIDITY.
+    /// Opens the mailbox, anew where it is open, and returns its UIDVALIDITY.
     fn open(&mut self) -> Result<u32, BoxFault>
         requires whole { (seen self.old).is_broken ≡ false }
         ensures was_honest { honest self.new → honest self.old }
@@ -107,7 +107,7 @@ pub trait Mailbox {
         requires open { is_open self.now ≡ true }
         ensures { result.now ≡ body self.now };
 
-    /// Adds a copy with these flags, and tells its UID, if it is known.
+    /// Adds a copy with these flags, and returns its UID, if it is known.
     fn append_copy(&mut self, copy: CopyPieces<'_>, flags: Flags) -> Result<Option<Uid>, BoxFault>
         requires whole { (seen self.old).is_broken ≡ false }
         requires open { is_open self.old ≡ true }
@@ -149,7 +149,7 @@ pub trait Mailbox {
         ensures call { Call {T = Unit {0}} (honest self.new) (ended self.old self.new) (Arrives side ours alone) Never
             (λ _. Turns (removed uid)) Nothing (seen self.old) (seen self.new) result };
 
-    /// Gives what waits its UIDs, as far as it was read: what others deliver behind that waits for the next time. At a server nothing waits.
+    /// Gives what waits its UIDs, as far as it was read: what others deliver after that waits for the next time. At a server nothing waits.
     fn admit(&mut self) -> Result<(), BoxFault>
         requires whole { (seen self.old).is_broken ≡ false }
         requires open { is_open self.old ≡ true }

@@ -1,4 +1,4 @@
--- What others add before a call of a folder, they could as well have added behind it.
+-- What others add before a call of a folder, they could as well have added after it.
 use Rattle.std.proofs.Common.{◌≡◌, ◌≢◌, ℕ, Bool, true, false, not, cond, ◌||◌, All, List, [], ◌∷◌, ◌++◌, get_or, map, filter, Option, None, Some, refl, sym, ap, subst, ◌∙◌, append_assoc, append-nil, arith}
 use Rattle.std.specs.List.{list_any}
 use Rattle.std.specs.List.Sorted.{IsPermutation}

@@ -159,7 +159,7 @@ noted_all slots i old new of_them all noted p n =
     by_place (Some k) e = refl
     by_place None e = none_of (found_at p n old) (of_them p n ∙ sym (position_any (holds p n) slots) ∙ ap is_some e)
 
--- an index that tells of slots is of their files, and of these alone
+-- an index that describes slots is of their files, and of these alone
 pub told_is_of : (index : NameIndex) (slots other : List (Option File)) → Tells index slots → files_in other ≡ files_in slots → IsOf index other
 told_is_of index slots other tells same p n =
     ap is_some (tells p n) ∙ position_any (holds p n) slots ∙ any_in p n slots ∙ ap (list_any (is_at p n)) (sym same) ∙ sym (any_in p n other)

@@ -24,7 +24,7 @@ pub record Gains (visitors : Visitors) (old new : Stored) : Type 0 where
   pub meta : new.meta ≡ old.meta
   pub nobody : visitors.alone ≡ true → new ≡ old
 
--- others add files, which stand behind those that were there
+-- others add files, which follow those that were there
 pub record Adds (visitors : Visitors) (old new : Stored) : Type 0 where
   pub gains : Gains visitors old new
   pub behind : new.files ≡ old.files ++ gains.more

@@ -1,4 +1,4 @@
--- The letters behind `:2,` in a name, and the flags that they stand for.
+-- The letters after `:2,` in a name, and the flags that they stand for.
 use Rattle.std.specs.Prelude.{ℕ, suc, ◌^◌, Bool, ◌||◌, ◌==◌, List, [], ◌∷◌, filter, fold, codes, if◌then◌else◌}
 use Rattle.std.specs.List.{list_any}
 use Rattle.mailcore.specs.declared.keywords.Keyword.{Keyword}

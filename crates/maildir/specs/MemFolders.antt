@@ -18,7 +18,7 @@ empty = record { is_there = true; files = []; copy = None; meta = None }
 abbrev pub with_file : File → Stored → Stored
 with_file file s = record s { files = without file.place file.name s.files ++ file ∷ [] }
 
--- the file stands there behind the others
+-- the file stands there after the others
 abbrev pub with_arrival : File → Stored → Stored
 with_arrival file s = record s { files = s.files ++ file ∷ [] }
 

@@ -7,7 +7,7 @@ use Rattle.std.specs.Cmp.Lexicographic.{pointwise}
 use Rattle.texts.specs.Cut.{Sides, cut_first, cut_last}
 use Rattle.maildir.specs.declared.name.Name.{Name}
 
--- what a name says: a base, a UID or none, and the letters behind `:2,`, if that stands there
+-- what a name says: a base, a UID or none, and the letters after `:2,`, if that stands there
 pub record NameParts : Type 0 where
   pub base : List ℕ
   pub uid : Option ℕ
@@ -60,7 +60,7 @@ abbrev pub has_letters : Option (List ℕ) → Bool
 has_letters None = true
 has_letters (Some letters) = are_letters letters
 
--- `,U=` and a UID stand at the end, behind at least one byte
+-- `,U=` and a UID stand at the end, after at least one byte
 pub record EndsInUid (text : List ℕ) : Type 0 where
   pub front : List ℕ
   pub uid : ℕ
@@ -94,7 +94,7 @@ uid_of digits =
     if is_uid (digits_value 10 digits) && pointwise nat_eq (decimal (digits_value 10 digits)) digits
     then Some (digits_value 10 digits) else None
 
--- the UID behind a comma, with what stands before the comma
+-- the UID after a comma, with what stands before the comma
 abbrev pub uid_behind : Option Sides → Option (List ℕ × ℕ)
 uid_behind None = None
 uid_behind (Some ([], rest)) = None
@@ -115,7 +115,7 @@ if_base name = if is_base name.base then Some name else None
 abbrev pub name_before : List ℕ → Option (List ℕ) → Option NameParts
 name_before front letters = if_base (with_letters front letters (uid_at_end front))
 
--- a text without the letters behind its first colon, and these letters
+-- a text without the letters after its first colon, and these letters
 abbrev pub letters_behind : List ℕ → Option Sides → Option (List ℕ × Option (List ℕ))
 letters_behind text None = Some (text, None)
 letters_behind text (Some (front, rest)) =

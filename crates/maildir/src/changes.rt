@@ -5,14 +5,14 @@ use std::io;
 use std::rt::{Clock, Files};
 use std::time::{Duration, SystemTime, UNIX_EPOCH};
 
-/// How many milliseconds the time of a change may be behind the clock. A file system takes the time of the system's last tick, which
-/// is 10 milliseconds old at most.
+/// By how many milliseconds the time of a change may be earlier than the clock. A file system takes the time of the system's last tick,
+/// which is 10 milliseconds old at most.
 const GRAIN: u64 = 20;
 
 /// The same where a file system keeps whole seconds alone.
 const SECOND_GRAIN: u64 = 1020;
 
-/// By how much the time of a change, which is noted so, may be behind the clock. A time of a whole second may be that of a file system
+/// By how much the time of a change, noted so, may be earlier than the clock. A time of a whole second may be that of a file system
 /// that keeps no other.
 fn grain_of(time: SystemTime) -> Duration {
     let is_whole = match time.duration_since(UNIX_EPOCH) {
@@ -45,7 +45,7 @@ impl Changes {
             .all(|time| apart(*time, from) > grain_of(*time))
     }
 
-    /// By how much these times may be behind the clock: from this time on a change gets another.
+    /// By how much these times may be earlier than the clock: from this time on a change gets another.
     pub(crate) fn grain(&self) -> Duration {
         grain_of(self.new).max(grain_of(self.cur))
     }

@@ -102,7 +102,7 @@ impl<R: Files + AllocGlobal + Clone + Drop> DiskFolder<R> {
     }
 
     /// Where a call stopped since the folder was opened, and what the system said; or a message that was to be read and was gone, over
-    /// which the mailbox in the folder stops. None: nothing has stopped, or memory was wanting.
+    /// which the mailbox in the folder stops. None: nothing has stopped, or memory ran out.
     pub fn stop(&self) -> Option<&DiskStop> {
         self.stop.as_ref()
     }

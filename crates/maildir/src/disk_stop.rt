@@ -17,7 +17,7 @@ pub enum Part {
 }
 
 impl Part {
-    /// The part that a message is, or the whole folder where memory is wanting for its name.
+    /// The part that a message is, or the whole folder where memory ran out for its name.
     pub(crate) fn of_mail(alloc: Global, file: Location<'_>) -> Part {
         match name_of(alloc, file) {
             Ok(file) => Part::Mail(file),

@@ -25,7 +25,7 @@ pub(crate) fn entries_in<R: Files + AllocGlobal>(rt: &R, path: &str) -> io::Resu
     Ok(names)
 }
 
-/// Adds the names of a piece, behind each of which a NUL stands, but for `.` and `..`.
+/// Adds the names of a piece, each followed by a NUL, but for `.` and `..`.
 fn add_entries(alloc: Global, piece: &[u8], names: &mut Vec<Octets>) -> io::Result<()> {
     for name in piece.split(|byte| *byte == 0) {
         if !name.is_empty() && !is_dot(name) {

@@ -79,7 +79,7 @@ pub enum Origin<'a> {
 ///
 /// Others may add files at any time. They count as stored from the next reading of the names on: until then no call meets them, since a
 /// file that comes waits under a name of its own, and a call is asked of a name that was read, or gives one that does not wait. What
-/// others add before a call they could as well have added behind it (`laws::others_could_come_behind`).
+/// others add before a call they could as well have added after it (`laws::others_could_come_behind`).
 pub trait Folder {
     ghost use Rattle.device.specs.Calls.{Seen, Call, Read, Rest, Nothing, Reopens};
     ghost use Rattle.mailcore.specs.CopyPieces.{text_left};
@@ -128,7 +128,7 @@ pub trait Folder {
         ensures synced { is_honest ≡ true → OnOk result (is_synced self.new ≡ false) }
         ensures call { Call is_honest (Removes file.entry) Nothing (seen self.old) (seen self.new) result };
 
-    /// Puts this text in place of the meta file's.
+    /// Replaces the meta file's text by this one.
     fn replace_meta(&mut self, text: &[u8]) -> Result<(), DeviceFault>
         ensures synced { is_honest ≡ true → OnOk result (is_synced self.new ≡ false) }
         ensures call { Call is_honest (λ s s'. s' ≡ with_meta text.now s) Nothing (seen self.old) (seen self.new) result };

@@ -13,7 +13,7 @@ use std::path::Path;
 use std::rt::Files;
 use std::{io, str};
 
-/// The most bytes that the name of a waiting file may have: with a UID of ten digits (`,U=..`), and six flags behind `:2,`, these are 255.
+/// The most bytes that the name of a waiting file may have: with a UID of ten digits (`,U=..`), and six flags after `:2,`, these are 255.
 const WAITING_MAX: usize = 233;
 
 /// What one reading of the names found.

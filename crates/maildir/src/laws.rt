@@ -55,7 +55,7 @@ pub fn names_by_their_flags()
         → uid_in (flagged keywords name flags) ≡ uid_in text }
 {}
 
-/// What others add before a call of the folder, they could as well have added behind it: what the call does is not touched by that. A
+/// What others add before a call of the folder, they could as well have added after it: what the call does is not touched by that. A
 /// file that is renamed or removed was there before, and a name that a file gets is not that of one that waits for its UID.
 pub fn others_could_come_behind()
     ensures renamed { (v : Visitors) (s m : Stored) (from to : FileName) → list_any (is_at from.place from.name) s.files ≡ true

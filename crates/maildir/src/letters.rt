@@ -1,4 +1,4 @@
-//! The letters behind `:2,` in a name, and the flags that they stand for.
+//! The letters after `:2,` in a name, and the flags that they stand for.
 
 ghost use Rattle.std.specs.Prelude.{◌≡◌, ◌==◌, IfOk};
 ghost use Rattle.std.specs.List.{list_any};

@@ -20,7 +20,7 @@ pub struct Name<'a> {
     pub base: &'a [u8],
     /// The UID of the message, or none where the file waits for one.
     pub uid: Option<Uid>,
-    /// The letters behind `:2,`, strictly rising letters of ASCII, or none where `:2,` does not stand there.
+    /// The letters after `:2,`, strictly rising letters of ASCII, or none where `:2,` does not stand there.
     pub letters: Option<&'a [u8]>,
 }
 
@@ -64,7 +64,7 @@ pub fn spell(
     Ok(text)
 }
 
-/// A text without the letters behind its first colon, and these letters. It has none where it has no colon.
+/// A text without the letters after its first colon, and these letters. It has none where it has no colon.
 fn split_letters(text: &[u8]) -> Option<(&[u8], Option<&[u8]>)>
     ensures { option_map (λ parts. (parts.0.now, option_copied parts.1)) result ≡ letters_at_end text.now }
 {
@@ -102,7 +102,7 @@ fn name_of_parts<'a>(
     }
 }
 
-/// The UID at the end of a text, behind `,U=`, and what stands before that, which has at least one byte.
+/// The UID at the end of a text, after `,U=`, and what stands before that, which has at least one byte.
 fn split_uid(text: &[u8]) -> Option<(&[u8], Uid)>
     ensures { option_map (λ parts. (parts.0.now, parts.1)) result ≡ uid_at_end text.now }
 {
@@ -124,7 +124,7 @@ pub(crate) fn read_uid(digits: &[u8]) -> Option<Uid>
     Uid::new(read_u32(digits, u32::MAX)?)
 }
 
-/// The letters behind `2,`.
+/// The letters after `2,`.
 fn read_letters(text: &[u8]) -> Option<&[u8]>
     ensures { option_copied result
         ≡ (if starts_with nat_eq text.now (codes "2,") && are_letters (drop 2 text.now) then Some (drop 2 text.now) else None) }

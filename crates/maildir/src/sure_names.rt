@@ -20,7 +20,7 @@ use texts::cut::cut;
 const READINGS: u32 = 10;
 
 /// What stands in both folders. Where a message was read before that a sure reading does not have, as one that was removed just then, it
-/// is sure behind one more such reading.
+/// is sure after one more such reading.
 ///
 /// `ResourceBusy`: names changed in each of ten readings.
 pub(crate) fn sure_names<R: Files + Clock + AllocGlobal + Clone + Drop>(

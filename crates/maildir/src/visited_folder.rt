@@ -89,7 +89,7 @@ impl<const MARKS: u32> VisitedFolder<MARKS> {
         }
     }
 
-    // Puts what has come into the folder, behind the other files.
+    // Puts what has come into the folder, after the other files.
     fn take_in(&mut self) -> Result<(), DeviceFault>
         ensures adds { AddsAlone (others_with MARKS) (seen_of self.old.folder) (seen_of self.new.folder) }
         ensures broken { self.new.is_broken ≡ self.old.is_broken }

@@ -21,11 +21,11 @@ stopped c = record c { is_broken = true; stops = c.stops + 1 }
 abbrev pub out_of_memory : Counts → Counts
 out_of_memory c = record c { is_broken = true }
 
--- a call has stopped, and tells it
+-- a call has stopped, and reports it
 abbrev pub Stops : BoxFault → Counts → Counts → Type 0
 Stops fault old new = (fault ≡ Stopped) × (new ≡ stopped old)
 
--- a call has stopped or was refused, and tells which
+-- a call has stopped or was refused, and reports which
 abbrev pub Fails : BoxFault → Counts → Counts → Type 0
 Fails Stopped old new = new ≡ stopped old
 Fails Refused old new = new ≡ record old { has_refused = true }

@@ -17,7 +17,7 @@ seen_at b c = record { stored = b; is_broken = c.is_broken; stops = c.stops }
 abbrev pub seen_of : {K : Type 0} → MemMailbox K → Seen
 seen_of m = seen_at (near_of m.store m.waiting.items) m.condition
 
--- a call of a mailbox in memory: nobody else acts, and it is as its word says where none was refused
+-- a call of a mailbox in memory: nobody else acts, and it behaves as specified where none was refused
 abbrev pub Calls : {T : Type 0} → Side → (because : BoxFault → Mailbox → Type 0) → (does : T → Effect Mailbox) → (part : Effect Mailbox)
     → (b b' : Mailbox) → (c c' : Counts) → Result T BoxFault → Type 0
 Calls side because does part b b' c c' result = Call (c'.has_refused ≡ false) ⊥ (Arrives side every true) because does part (seen_at b c) (seen_at b' c') result

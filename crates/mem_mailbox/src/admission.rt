@@ -10,7 +10,7 @@ use mailcore::mailbox::Message;
 use mailcore::uid::Uid;
 use std::alloc::AllocError;
 
-/// Gives the waiting files the UIDs from the next one on. This is the one behind theirs.
+/// Gives the waiting files the UIDs from the next one on. `behind` is the one after theirs.
 pub(crate) fn admit(
     store: &mut MemStore,
     waiting: &mut Vec<Message>,
@@ -28,7 +28,7 @@ pub(crate) fn admit(
     Ok(())
 }
 
-/// The UID behind so many from this one on, if it is one of 32 bits.
+/// The UID after so many from this one on, if it is one of 32 bits.
 pub(crate) fn above(first: u32, count: usize) -> Option<u32>
     ensures { MatchOption result (2 ^ 32 ≤ first + count) (λ next. next ≡ first + count) }
 {

@@ -71,7 +71,7 @@ impl BoxCondition {
         self.stopping.stop_count()
     }
 
-    /// Begins a call, and says whether it stops behind its effect. `Stopped` and `Refused`: it has no effect.
+    /// Begins a call, and says whether it stops after its effect. `Stopped` and `Refused`: it has no effect.
     pub(crate) fn begin(&mut self, call: BoxCall) -> Result<bool, BoxFault>
         requires whole { self.old.is_broken ≡ false }
         ensures was_honest { self.new.has_refused ≡ false → self.old.has_refused ≡ false }
@@ -86,7 +86,7 @@ impl BoxCondition {
         self.stop_at(moment)
     }
 
-    /// Begins a call of `sync`, which is not refused, and says whether it stops behind its effect. `Stopped`: it has no effect.
+    /// Begins a call of `sync`, which is not refused, and says whether it stops after its effect. `Stopped`: it has no effect.
     pub(crate) fn begin_sync(&mut self) -> Result<bool, BoxFault>
         requires whole { self.old.is_broken ≡ false }
         ensures was_honest { self.new.has_refused ≡ false → self.old.has_refused ≡ false }
@@ -97,7 +97,7 @@ impl BoxCondition {
         self.stop_at(moment)
     }
 
-    /// Stops here, or says whether to stop behind the effect.
+    /// Stops here, or says whether to stop after the effect.
     fn stop_at(&mut self, moment: Result<Option<Moment>, DeviceFault>) -> Result<bool, BoxFault>
         ensures was_honest { self.new.has_refused ≡ self.old.has_refused }
         ensures same { OnOk result (self.new ≡ self.old) }
@@ -110,7 +110,7 @@ impl BoxCondition {
         }
     }
 
-    /// Ends a call that has had its effect, and answers this; or stops here, if it stops behind it.
+    /// Ends a call that has had its effect, and answers this; or stops here, if the call stops after its effect.
     pub(crate) fn end<T: Drop>(&mut self, stops: bool, answer: T) -> Result<T, BoxFault>
         ensures was_honest { self.new.has_refused ≡ self.old.has_refused }
         ensures ends { Ends answer result self.old self.new }

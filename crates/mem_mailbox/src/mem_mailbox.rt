@@ -25,7 +25,7 @@ use std::alloc::Global;
 use std::marker::PhantomData;
 
 /// A mailbox in memory, closed or open. Its calls stop, or are refused, as its condition says. Refusals of calls for which there is
-/// room are what no server does that keeps its word. It has those flags alone that have a name by its map of keywords.
+/// room are what no server does that behaves as specified. It has those flags alone that have a name by its map of keywords.
 #[derive(Drop)]
 pub struct MemMailbox<K> {
     alloc: Global,

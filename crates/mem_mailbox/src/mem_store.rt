@@ -35,7 +35,7 @@ pub struct MemStore {
     pub ghost positive: { (0 < validity) × (0 < next) },
 }
 
-/// Memory ran out while a mailbox was listed. UIDs that do not rise would be told so too: no clause says that they do.
+/// Memory ran out while a mailbox was listed. UIDs that do not rise would be reported as that too: no clause says that they rise.
 #[derive(Clone, Copy, PartialEq, Eq)]
 pub(crate) struct Unlisted;
 

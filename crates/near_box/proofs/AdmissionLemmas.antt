@@ -82,7 +82,7 @@ first_waits files file rest apart is =
           ∙ sorted_rest is_before file (filter waits stands.front) (filter waits stands.back) rest (unlike stands.front others.0) (unlike stands.back others.1) (sym split ∙ is);
     }
 
--- the file is a message behind the others, and waits no longer
+-- the file is a message after the others, and waits no longer
 record Turns (keywords : List Keyword) (files : List File) (file : File) (rest : List File) (n : ℕ) (new : List File) : Type 0 where
   holds : Holds new (n + 1)
   messages : by_uid (messages_in keywords new) ≡ by_uid (messages_in keywords files) ++ (let m : Message = record { uid = n; flags = flags_by_name keywords file.name; bytes = file.bytes } in m) ∷ []

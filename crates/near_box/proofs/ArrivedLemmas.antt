@@ -59,6 +59,6 @@ arrives_beside v fresh keywords s s' same gains = record {
 pub gained_arrives : (v : Visitors) (fresh : ℕ) (keywords : List Keyword) (s s' : Stored) → IsMailbox fresh s → Gains v s s' → Arrives side.Near v.ours v.alone (near_of fresh keywords s) (near_of fresh keywords s')
 gained_arrives v fresh keywords s s' is gains = arrives_beside v fresh keywords s s' (store_gained v fresh keywords s s' is gains) gains
 
--- of any folder, where the files stand behind the others
+-- of any folder, where the files follow the others
 pub added_arrives : (v : Visitors) (fresh : ℕ) (keywords : List Keyword) (s s' : Stored) → Adds v s s' → Arrives side.Near v.ours v.alone (near_of fresh keywords s) (near_of fresh keywords s')
 added_arrives v fresh keywords s s' adds = arrives_beside v fresh keywords s s' (store_added v fresh keywords s s' adds) adds.gains

@@ -1,4 +1,4 @@
--- What a fault in reading tells.
+-- What a fault in reading means to the caller.
 use Rattle.std.proofs.Common.{◌≡◌, ℕ, refl}
 use Rattle.near_box.specs.declared.near_fault.NearFault.{NearFault}
 use Rattle.near_box.specs.declared.read_fault.ReadFault.{ReadFault}

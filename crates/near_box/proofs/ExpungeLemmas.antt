@@ -119,7 +119,7 @@ without_none s =
 pub without_all : (uids : List ℕ) (k : ℕ) (s : Stored) → length uids ≤ k → without_uids (take k uids) s ≡ without_uids uids s
 without_all uids k s all = ap (λ (l : List ℕ). without_uids l s) (take_all k uids all)
 
--- a removal failed behind others: it was done or not
+-- a removal failed after others: it was done or not
 pub removes_some : (uids : List ℕ) (k uid : ℕ) (s before after : Stored) → k < length uids → uid ≡ get_or uids k uid
     → before ≡ without_uids (take k uids) s → (after ≡ before) ⊎ ((after ≡ without_uids (uid ∷ []) before) ⊎ ⊥)
     → (after ≡ s) ⊎ ((after ≡ without_uids uids s) ⊎ RemovesSome uids s after)

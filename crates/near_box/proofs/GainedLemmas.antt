@@ -45,7 +45,7 @@ kept_messages : (keywords : List Keyword) (v : Visitors) (s s' : Stored) (gains 
 kept_messages keywords v s s' gains =
     filter_map-append (message_of keywords) s.files gains.more ∙ ap (λ (l : List Message). messages_in keywords s.files ++ l) (no_messages keywords v s s' gains) ∙ append-nil (messages_in keywords s.files)
 
--- ---- files that stand behind the others
+-- ---- files that follow the others
 
 messages_added : (keywords : List Keyword) (v : Visitors) (s s' : Stored) → Adds v s s' → messages_in keywords s'.files ≡ messages_in keywords s.files
 messages_added keywords v s s' adds = ap (messages_in keywords) adds.behind ∙ kept_messages keywords v s s' adds.gains

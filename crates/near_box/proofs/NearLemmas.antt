@@ -111,7 +111,7 @@ near_validity survey fresh keywords s surveys = ap (λ (o : Option Meta). (unwra
 pub near_next : (survey : Survey) (fresh : ℕ) (keywords : List Keyword) (s : Stored) → Surveys survey fresh keywords s → (near_of fresh keywords s).store.next ≡ survey.meta.next
 near_next survey fresh keywords s surveys = ap (λ (o : Option Meta). (unwrap_or o (first_meta fresh)).next) surveys.meta
 
--- ---- what calls answer, told of the mailbox
+-- ---- what calls answer, stated of the mailbox
 
 -- the survey, its entries and what is stored, as a call has them at hand
 pub record AtHand (survey : Survey) (fresh : ℕ) (keywords : List Keyword) (s : Stored) (es : List Entry) (t : Stored) : Type 0 where

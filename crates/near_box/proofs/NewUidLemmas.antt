@@ -1,4 +1,4 @@
--- A file that gets the next UID comes behind all messages.
+-- A file that gets the next UID comes after all messages.
 use Rattle.std.proofs.Common.{◌≡◌, ℕ, ◌+◌, ◌<◌, ◌^◌, Bool, true, false, not, ltb, List, [], ◌∷◌, ◌++◌, map, filter, Option, None, Some, All, refl, sym, ap, subst, ◌∙◌, arith}
 use Rattle.std.specs.Prelude.{AllPairs, unwrap_or, is_some, IfSome}
 use Rattle.std.specs.List.{filter_map, cons_option}

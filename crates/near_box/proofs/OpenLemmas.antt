@@ -108,7 +108,7 @@ pub below_of_messages : (keywords : List Keyword) (files : List File) (next : �
 below_of_messages keywords files next below =
     subst (All (λ (n : ℕ). n < next)) (uids_of_messages keywords files) (keys_below (λ (m : Message). m.uid) next (messages_in keywords files) below)
 
--- names in any order, as a folder tells them
+-- names in any order, as a folder gives them
 entries_by_name : (files : List File) → filter_map entry_of files ≡ filter_map named_entry (map name_of_file files)
 entries_by_name [] = refl
 entries_by_name (file ∷ files) = ap (cons_option (entry_of file)) (entries_by_name files)

@@ -59,7 +59,7 @@ sorted_last {A} lt x (a ∷ front) back below none =
 
 -- ---- the first one
 
--- another element was put behind the first one
+-- another element was put after the first one
 record Behind {A : Type 0} (lt : A → A → Bool) (a first : A) (zs rest : List A) : Type 0 where
   others : List A
   is : zs ≡ first ∷ others

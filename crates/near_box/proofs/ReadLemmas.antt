@@ -128,7 +128,7 @@ pub item_read : (keywords : List Keyword) (spared : ℕ → Bool) (s : Stored) (
     → (let item : Item = record { uid = entry.uid; flags = flags; fit = is_fit } in item) ≡ item_at keywords spared s entry
 item_read keywords spared s entry flags is_fit same_flags same_fit = rw (same_flags, same_fit) refl
 
--- a pushed item stands behind those of the entries before, since their UIDs rise
+-- a pushed item follows those of the entries before, since their UIDs rise
 pub item_pushed : (keywords : List Keyword) (spared : ℕ → Bool) (s : Stored) (es : List Entry) (i : ℕ) (entry : Entry) (before after : List Item) (item : Item)
     → i < length es → entry ≡ get_or es i entry → before ≡ map (item_at keywords spared s) (take i es) → item ≡ item_at keywords spared s entry
     → after ≡ before ++ item ∷ [] → after ≡ map (item_at keywords spared s) (take (i + 1) es)
@@ -156,7 +156,7 @@ marked_first keywords mark from s es i entry below is =
     ap (λ (l : List Entry). marked_among mark from (map (message_at keywords s) l))
     (drop-cons es i entry below ∙ ap (λ (e : Entry). e ∷ drop (suc i) es) (sym is) ∙ ap (λ (n : ℕ). entry ∷ drop n es) (sym (add-one i)))
 
--- one that is passed over
+-- one that is skipped
 pub marked_passed : (keywords : List Keyword) (mark : List ℕ) (from : ℕ) (s : Stored) (es : List Entry) (i : ℕ) (entry : Entry) → i < length es → entry ≡ get_or es i entry
     → (leb from entry.uid && is_mark (mark_of (bytes_in s entry)) mark) ≡ false
     → marked_among mark from (map (message_at keywords s) (drop (i + 1) es)) ≡ marked_among mark from (map (message_at keywords s) (drop i es))

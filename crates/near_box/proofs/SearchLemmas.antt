@@ -1,4 +1,4 @@
--- A search for a mark goes on behind the messages that were passed.
+-- A search for a mark goes on after the messages that were passed.
 use Rattle.std.proofs.Common.{◌≡◌, ℕ, zero, suc, ◌+◌, ◌-◌, ◌<◌, ◌≤◌, true, false, ltb, leb, ◌&&◌, List, [], ◌∷◌, length, get_or, take, drop, map, All, Option, None, Some, inl, inr, refl, sym, ap, subst, ◌∙◌, arith}
 use Rattle.std.specs.List.Sorted.{IsNonDecreasingBy, IsPartitionPoint}
 use Rattle.std.proofs.lemmas.Bool.{cases_lt}
@@ -42,7 +42,7 @@ pub record IsAt (keywords : List Keyword) (s : Stored) (es : List Entry) (mark :
   pub behind : (j : ℕ) (d : Entry) → k ≤ j → j < length es → known.passed.below ≤ (get_or es j d).uid
   pub none_before : marked_among mark from (map (message_at keywords s) (drop k es)) ≡ marked_among mark from (map (message_at keywords s) es)
 
--- what does not have the mark in front is passed over
+-- what does not have the mark in front is skipped
 none_in_front : (keywords : List Keyword) (mark : List ℕ) (from : ℕ) (s : Stored) (es : List Entry) (k : ℕ) → k ≤ length es
     → ((j : ℕ) (d : Entry) → j < k → (leb from (get_or es j d).uid && is_mark (mark_of (bytes_in s (get_or es j d))) mark) ≡ false)
     → marked_among mark from (map (message_at keywords s) (drop k es)) ≡ marked_among mark from (map (message_at keywords s) es)

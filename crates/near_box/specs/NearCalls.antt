@@ -18,8 +18,8 @@ use Rattle.near_box.specs.NearFaults.{near_fault}
 abbrev pub Answers : Seen Stored → Seen Stored → Type 0
 Answers old new = (new.stops ≡ old.stops) × (old.is_broken ≡ false → new.is_broken ≡ false)
 
--- a part of a call: it tells a stop only where the folder stopped, which is then broken, and no fault of its own but
--- want of memory
+-- a part of a call: it reports a stop only where the folder stopped, which is then broken, and no fault of its own but
+-- `NoMemory`
 abbrev pub Part : {T : Type 0} → Seen Stored → Seen Stored → Result T NearFault → Type 0
 Part old new (Ok answer) = Answers old new
 Part old new (Err Stopped) = (old.is_broken ≡ false → old.stops < new.stops) × (new.is_broken ≡ true)
@@ -36,7 +36,7 @@ Reads old new (Err Gone) = Answers old new
 Reads old new (Err (Device DeviceStopped)) = (old.is_broken ≡ false → old.stops < new.stops) × (new.is_broken ≡ true)
 Reads old new (Err (Device DeviceNoMemory)) = old.stops ≤ new.stops
 
--- what a fault in reading is to the caller, with how many files the box has missed: one that is gone counts, and is told as a stop
+-- what a fault in reading is to the caller, with how many files the box has missed: one that is gone counts, and is reported as a stop
 abbrev pub Told : ReadFault → (old new : ℕ) → NearFault → Type 0
 Told Gone old new told = (told ≡ Stopped) × (new ≡ old + 1)
 Told (Device fault) old new told = (told ≡ near_fault fault) × (new ≡ old)
@@ -100,7 +100,7 @@ Ends gives_uids old new (Err BadMeta) = ⊥
 
 -- ---- the box is opened
 
--- what a survey of the folder keeps: it tells a stop only where the folder stopped in it, or had stopped before
+-- what a survey of the folder keeps: it reports a stop only where the folder stopped in it, or had stopped before
 abbrev pub Looks : {T : Type 0} → Seen Stored → Seen Stored → Result T NearFault → Type 0
 Looks old new (Ok answer) = (old.is_broken ≡ false) × (new.is_broken ≡ false) × (new.stops ≡ old.stops)
 Looks old new (Err Stopped) = ((old.is_broken ≡ true) ⊎ (old.stops < new.stops)) × (new.is_broken ≡ true)

@@ -18,7 +18,7 @@ TellsWhy fresh s BadMeta = (s.is_there ≡ true) × AreDistinct (uids_in s.files
 TellsWhy fresh s UidsExhausted = ⊥
 TellsWhy fresh s NoMemory = Unit {0}
 
--- what opening a box tells of the folder, which comes back beside a fault
+-- what opening a box says of the folder, which comes back beside a fault
 abbrev pub Tells : {B F : Type 0} → (fresh : ℕ) → (B → Seen Stored) → (F → Seen Stored) → Result B (NearFault × F) → Type 0
 Tells fresh of_box of_folder (Ok box) = IsMailbox fresh (of_box box).stored
 Tells fresh of_box of_folder (Err fault) = TellsWhy fresh (of_folder fault.1).stored fault.0

@@ -1,4 +1,4 @@
--- What the parts of a survey tell.
+-- What the parts of a survey report.
 use Rattle.std.specs.Prelude.{◌≡◌, ℕ, Bool, List, Option, None, Some, Result, Ok, Err}
 use Rattle.std.specs.Option.{option_map}
 use Rattle.std.specs.Ordering.{is_lt, ordering_then}
@@ -49,7 +49,7 @@ IsOwnFault BadMeta = Unit {0}
 IsOwnFault UidsExhausted = ⊥
 IsOwnFault NoMemory = Unit {0}
 
--- what a survey tells of the folder
+-- what a survey reports of the folder
 abbrev pub SurveyTells : (fresh : ℕ) (keywords : List Keyword) → Stored → Result Survey NearFault → Type 0
 SurveyTells fresh keywords s (Ok survey) = Surveys survey fresh keywords s
 SurveyTells fresh keywords s (Err fault) = TellsWhy fresh s fault

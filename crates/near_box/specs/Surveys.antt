@@ -46,7 +46,7 @@ abbrev pub entries_from : (uid : ℕ) → List FileName → List Entry
 entries_from uid [] = []
 entries_from uid (file ∷ files) = entry_at uid (admitted file uid) ∷ entries_from (uid + 1) files
 
--- there are more messages behind the others, these files wait, the meta file says this, and the same marks are known
+-- there are more messages after the others, these files wait, the meta file says this, and the same marks are known
 pub record Extends (more : List Entry) (wait : List FileName) (says : Meta) (old new : Survey) : Type 0 where
   pub entries : new.entries.items ≡ old.entries.items ++ more
   pub waiting : new.waiting.items ≡ wait

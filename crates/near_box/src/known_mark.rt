@@ -11,7 +11,7 @@ use mailcore::uid::Uid;
 use passed_marks::PassedMarks;
 use std::alloc::{AllocError, Global};
 
-/// What the file of a message told of its mark.
+/// What the file of a message said of its mark.
 #[derive(Clone, Copy)]
 pub struct KnownMark {
     /// The UID of the message.

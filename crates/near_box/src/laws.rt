@@ -26,7 +26,7 @@ pub fn near_mailboxes_are_mailboxes()
 {}
 
 /// What others add to the folder of a mailbox arrives in the mailbox: its messages, its UIDVALIDITY and its next UID stay as they are,
-/// the files wait among those that waited, and it is a mailbox still. Files that stand behind the others arrive in any folder.
+/// the files wait among those that waited, and it is a mailbox still. Files that follow the others arrive in any folder.
 pub fn folders_gain_what_arrives()
     ensures arrives { (v : Visitors) (fresh : ℕ) (keywords : List Keyword) (s s' : Stored) → IsMailbox fresh s → Gains v s s'
         → Arrives Side.Near v.ours v.alone (near_of fresh keywords s) (near_of fresh keywords s') }

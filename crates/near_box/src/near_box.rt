@@ -264,8 +264,8 @@ impl<F: Folder> NearBox<F> {
         Ok(())
     }
 
-    /// Adds a copy with those of these flags that have a name by the map, and tells its UID: `write_tmp`, `replace_meta` one UID higher, and
-    /// `rename` into `cur`.
+    /// Adds a copy with those of these flags that have a name by the map, and returns its UID: `write_tmp`, `replace_meta` one UID higher,
+    /// and `rename` into `cur`.
     ///
     /// `UidsExhausted`: there is no UID left.
     pub fn append_copy(&mut self, copy: CopyPieces<'_>, flags: Flags) -> Result<Uid, NearFault>

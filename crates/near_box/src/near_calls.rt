@@ -81,7 +81,7 @@ fn letters_of(entry: &Entry) -> &[u8]
     }
 }
 
-/// Gives the file of a message the name that these flags ask for, and tells that name, or none where its name stays.
+/// Gives the file of a message the name that these flags ask for, and returns that name, or none where its name stays.
 pub fn set_name<F: Folder>(
     alloc: Global,
     folder: &mut F,
@@ -104,7 +104,7 @@ pub fn set_name<F: Folder>(
     }
 }
 
-/// Gives a waiting file the name with this UID, and tells that name.
+/// Gives a waiting file the name with this UID, and returns that name.
 pub fn admit_file<F: Folder>(
     alloc: Global,
     folder: &mut F,

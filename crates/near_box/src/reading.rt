@@ -111,7 +111,7 @@ fn is_fit<F: Folder>(folder: &mut F, entry: &Entry, spared: &Spared) -> Result<b
     Ok(fit(Side::Near, &bytes))
 }
 
-/// Adds an item behind those that stand below it, which each is: the entries rise.
+/// Adds an item after the others, which all have lower UIDs: the entries rise.
 fn push_item(items: &mut Items, item: Item) -> Result<(), ReadFault>
     ensures pushed { OnOk result (items.new ≡ items.old ++ item ∷ []) }
     ensures fault { IfErr result (λ fault. (fault ≡ ReadFault.Device DeviceFault.NoMemory)

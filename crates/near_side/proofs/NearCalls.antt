@@ -56,7 +56,7 @@ abbrev Left : {T : Type 0} → (because : BoxFault → Mailbox → Type 0) → (
 Left because does part (Ok answer) = does answer
 Left because does part (Err e) = LeavesBy does part because (told e)
 
--- the mailbox before a call of its box, and the box behind it
+-- the mailbox before a call of its box, and the box after it
 module _ {F : Type 0} {folders : folder.Ghosts F} (s : NearSide F folders) (new : NearBox F folders) (is_open : s.is_open ≡ true) (whole : (seen_of s).is_broken ≡ false) where
   abbrev honest : Type 0
   honest = folders.is_honest ≡ true
@@ -67,7 +67,7 @@ module _ {F : Type 0} {folders : folder.Ghosts F} (s : NearSide F folders) (new 
   abbrev now : Seen
   now = seen_at s.is_open (non_zero_u32_get s.fresh) new.keywords new
 
-  -- the box's mailbox before the call, and behind it
+  -- the box's mailbox before the call, and after it
   abbrev n : Mailbox
   n = mailbox_of s.near
 

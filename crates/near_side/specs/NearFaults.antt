@@ -1,4 +1,4 @@
--- How the faults of the near box are told.
+-- How the faults of the near box are reported.
 use Rattle.std.specs.Prelude.{Result, Ok, Err}
 use Rattle.near_box.specs.declared.near_fault.NearFault.{NearFault}
 use Rattle.near_box.specs.declared.near_fault.NearFault.TheVariants as near

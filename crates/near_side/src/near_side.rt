@@ -21,7 +21,7 @@ use std::num::NonZeroU32;
 
 /// The mailbox that stands in a folder: closed, or open.
 ///
-/// A stop is told where a call of the folder stopped, and where a file is gone that stood in the folder when the mailbox was opened.
+/// A stop is reported where a call of the folder stopped, and where a file is gone that stood in the folder when the mailbox was opened.
 #[derive(Drop)]
 pub struct NearSide<F: Folder> {
     near: NearBox<F>,

@@ -70,9 +70,9 @@ pub last_item : {A : Type 0} (place : A → ℕ × ℕ × ℕ) (items : List A) 
 last_item place items item =
     sym (ap (λ (x : List (ℕ × ℕ × ℕ)). last_of bottom x) (map-append place items (item ∷ [])) ∙ last_of-push bottom (map place items) (place item))
 
--- ---- items of other lines that begin alike
+-- ---- items of other lines that begin the same way
 
--- items whose lines are known by their places, and lines behind them that are none of theirs
+-- items whose lines are known by their places, and lines after them that are none of theirs
 pub record Behind {A : Type 0} (fits : A → Type 0) (line : A → List ℕ) (place : A → ℕ × ℕ × ℕ) (all before : List A) (end tail : List (List ℕ)) : Type 0 where
   pub after : List A
   pub places : map place all ≡ map place before ++ map place after

@@ -1,4 +1,4 @@
--- Where the lines of a text behind those of a head stop being a journal's.
+-- Where the lines of a text after those of a head stop being a journal's.
 use Rattle.std.proofs.Common.{◌≡◌, ℕ, ◌+◌, true, false, List, [], ◌∷◌, ◌++◌, length, length-append, map, refl, sym, ap, ◌∙◌, subst, arith, append_assoc}
 use Rattle.std.specs.Prelude.{All}
 use Rattle.std.proofs.lemmas.Bool.{false≢true}
@@ -42,7 +42,7 @@ pub behind_notes : (v : Version) (notes : List Note) (tail : List (List ℕ)) (j
 behind_notes v notes tail j has all e =
     behind (IsNoteIn v) note_line note_place (note_places_in v) j.plan.notes notes (go_line ∷ log_lines 1 j.log) tail (end_of_notes (IsNoteIn v) (log_lines 1 j.log)) (notes_in v j has) all e
 
--- an item that may not stand behind others stands nowhere behind them
+-- an item that may not follow others stands nowhere after them
 pub none_stands : {A : Type 0} (fits : A → Type 0) (line : A → List ℕ) (place : A → ℕ × ℕ × ℕ) → ((a b : A) → fits a → fits b → line a ≡ line b → place a ≡ place b)
     → (all before ys : List A) (item y : A) → fits item → fits y → line item ≡ line y → is_below (last_of bottom (map place before)) (place item) ≡ false
     → rises bottom (map place all) ≡ true → map place all ≡ map place before ++ map place (y ∷ ys) → ⊥

@@ -21,11 +21,11 @@ use Rattle.sync_state.proofs.StateLemmas.{nth}
 
 -- ---- the lines of a journal
 
--- the lines behind the steps
+-- the lines after the steps
 abbrev pub notes_on : Journal → List (List ℕ)
 notes_on j = map note_line j.plan.notes ++ (go_line ∷ log_lines 1 j.log)
 
--- the lines behind the head
+-- the lines after the head
 abbrev pub steps_on : Journal → List (List ℕ)
 steps_on j = map step_line j.plan.steps ++ notes_on j
 
@@ -80,13 +80,13 @@ note_is_no_keyword n k = first_differs (note_line n) (keyword_line k) 110 107 (n
 pub go_is_no_keyword : (k : Keyword) → go_line ≢ keyword_line k
 go_is_no_keyword k = first_differs go_line (keyword_line k) 103 107 refl refl (λ h. absurd (omega (arith, h)))
 
--- some lines, and lines behind them, do not begin with this line
+-- some lines, and lines after them, do not begin with this line
 pub others_first : {A : Type 0} (line : A → List ℕ) (xs : List A) (tail : List (List ℕ)) (l : List ℕ) → ((x : A) → line x ≢ l)
     → (xs ≡ [] → (ls : List (List ℕ)) → tail ≢ l ∷ ls) → (ls : List (List ℕ)) → map line xs ++ tail ≢ l ∷ ls
 others_first line [] tail l other behind ls e = behind refl ls e
 others_first line (x ∷ xs) tail l other behind ls e = other x (head_line (line x) l (map line xs ++ tail) ls e)
 
--- ---- what stands behind keywords, steps and notes
+-- ---- what follows keywords, steps and notes
 
 pub end_of_steps : (fits : Step → Type 0) (notes : List Note) (more : List (List ℕ)) → IsEnd fits step_line (map note_line notes ++ (go_line ∷ more))
 end_of_steps fits [] more = record { first = go_line; others = more; same = refl; foreign = λ s f. go_is_no_step s }
@@ -119,7 +119,7 @@ keyword_known a b e =
     let name : a.name ≡ b.name = ap (λ (x : List ℕ). drop 4 x) e in
     ap (λ (x : ℕ). let k : Keyword = record { letter = x; name = a.name } in k) letter ∙ ap (λ (x : List ℕ). let k : Keyword = record { letter = b.letter; name = x } in k) name
 
--- keywords behind others, up to the end
+-- keywords after others, up to the end
 record Behind (all before : List Keyword) (end tail : List (List ℕ)) : Type 0 where
   after : List Keyword
   same : all ≡ before ++ after
@@ -167,13 +167,13 @@ next_keyword v xs k more m words = record {
     some (y ∷ ys) e = cc
   by_version Two none = tt
 
--- ---- a journal that goes on behind a head
+-- ---- a journal that goes on after a head
 
 -- no keyword may stand next, and have the first of these lines
 abbrev pub NoneNext : PlanHead → List (List ℕ) → Type 0
 NoneNext h tail = (k : Keyword) → IsNextKeyword h.numbers.version h.keywords k → (ls : List (List ℕ)) → tail ≢ keyword_line k ∷ ls
 
--- a journal with this head, and these lines behind it
+-- a journal with this head, and these lines after it
 pub record Continues (h : PlanHead) (tail : List (List ℕ)) : Type 0 where
   pub journal : Journal
   pub has : HasTextIn h.numbers.version journal
@@ -198,12 +198,12 @@ continues h tail lines none e s =
 
 -- ---- what is not next
 
--- steps, and a line behind them that is no keyword
+-- steps, and a line after them that is no keyword
 pub none_in_steps : (h : PlanHead) (steps : List Step) (line : List ℕ) (more : List (List ℕ)) → ((k : Keyword) → line ≢ keyword_line k) → NoneNext h (map step_line steps ++ line ∷ more)
 none_in_steps h steps line more other k next ls =
     others_first step_line steps (line ∷ more) (keyword_line k) (λ s. step_is_no_keyword s k) (λ empty more_ls e. other k (head_line line (keyword_line k) more more_ls e)) ls
 
--- steps, notes, and lines behind them that do not begin with a keyword where there are neither
+-- steps, notes, and lines after them that do not begin with a keyword where there are neither
 pub none_in_items : (h : PlanHead) (steps : List Step) (notes : List Note) (tail : List (List ℕ)) → (steps ≡ [] → notes ≡ [] → NoneNext h tail)
     → NoneNext h (map step_line steps ++ (map note_line notes ++ tail))
 none_in_items h steps notes tail behind_both k next ls =

@@ -1,4 +1,4 @@
--- Where the lines of a text behind those of a plan's steps stop being a journal's, and a journal whole.
+-- Where the lines of a text after those of a plan's steps stop being a journal's, and a journal whole.
 use Rattle.std.proofs.Common.{◌≡◌, ◌≢◌, ℕ, zero, suc, ◌+◌, Bool, true, false, List, [], ◌∷◌, ◌++◌, length, get_or, drop, map, refl, sym, ap, ◌∙◌, subst, arith, append_assoc, length-append}
 use Rattle.std.specs.Prelude.{All, nat_lt}
 use Rattle.std.proofs.lemmas.List.{append-nil, length-map}
@@ -231,7 +231,7 @@ same_fits_at (a ∷ cs) [] k l e f = absurd (no_places (step_place a) (map step_
 same_fits_at (a ∷ cs) (b ∷ bs) zero l e f = same_fits a b l (first_place (step_place a) (step_place b) (map step_place cs) (map step_place bs) e) f
 same_fits_at (a ∷ cs) (b ∷ bs) (suc k) l e f = same_fits_at cs bs k l (other_places (step_place a) (step_place b) (map step_place cs) (map step_place bs) e) f
 
--- the line behind the first lines of a log
+-- the line after the first lines of a log
 record NextLogged (steps : List Step) (number k : ℕ) (line : List ℕ) : Type 0 where
   logged : Logged
   fits : FitsAt steps k logged

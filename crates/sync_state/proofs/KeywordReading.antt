@@ -58,7 +58,7 @@ not_refused ks k m =
     by_tests true false like l n i = absurd (false≢true n)
     by_tests false name like l n i = absurd (false≢true l)
 
--- it is added behind the others
+-- it is added after the others
 pub added_last : (k : Keyword) (ks : List Keyword) → All (λ x. x.letter < k.letter) ks → with_keyword k ks ≡ ks ++ k ∷ []
 added_last k [] below = refl
 added_last k (x ∷ ks) below =

@@ -1,4 +1,4 @@
--- The whole lines of a text are known from it, and what stands behind them; so are values from their lines.
+-- The whole lines of a text are known from it, and what follows them; so are values from their lines.
 use Rattle.std.proofs.Common.{◌≡◌, ℕ, List, [], ◌∷◌, ◌++◌, map, refl, sym, ap, ◌∙◌, append_assoc}
 use Rattle.std.specs.Prelude.{All}
 use Rattle.std.proofs.lemmas.List.Elements.{All-head, All-tail}

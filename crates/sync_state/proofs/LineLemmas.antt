@@ -80,7 +80,7 @@ lines_added ls bs old new e h = h ∙ ap (λ (x : List ℕ). x ++ lines_text bs)
 pub line_added : (ls : List (List ℕ)) (line old new : List ℕ) → old ≡ lines_text ls → new ≡ old ++ (line ++ 10 ∷ []) → new ≡ lines_text (ls ++ line ∷ [])
 line_added ls line old new e h = lines_added ls (line ∷ []) old new e h
 
--- one element more is written behind those before it
+-- one element more is written after those before it
 pub next_written : {X : Type 0} (line : X → List ℕ) (xs : List X) (i : ℕ) (x : X) (start old new : List ℕ) → i < length xs → x ≡ get_or xs i x
     → old ≡ start ++ lines_text (map line (take i xs)) → new ≡ old ++ (line x ++ 10 ∷ []) → new ≡ start ++ lines_text (map line (take (i + 1) xs))
 next_written {X} line xs i x start old new below is e h =

@@ -62,7 +62,7 @@ pub logged_none : (r : Option Logged) (steps : List Step) (k number : ℕ) (s : 
 logged_none None steps k number s line h e n i = λ l f x. i l (fits_here steps k s l h e f) (x ∙ ap (λ (y : ℕ). log_line y l) (sym n))
 logged_none (Some l) steps k number s line h e n i = tt
 
--- one line more is written behind those before it
+-- one line more is written after those before it
 pub log_written : (log : List Logged) (i : ℕ) (l : Logged) (start old new : List ℕ) → i < length log → l ≡ get_or log i l
     → old ≡ start ++ lines_text (log_lines 1 (take i log)) → new ≡ old ++ (log_line (i + 1) l ++ 10 ∷ []) → new ≡ start ++ lines_text (log_lines 1 (take (i + 1) log))
 log_written log i l start old new below is e h =

@@ -8,7 +8,7 @@ use Rattle.sync_state.specs.JournalText.{is_below, rises}
 first_left : {A B : Type 0} (f : List A → B) (items : List A) (i : ℕ) (x : A) → i < length items → x ≡ get_or items i x → f (drop i items) ≡ f (x ∷ drop (i + 1) items)
 first_left {A} f items i x within is = at_drop_more f items i x within ∙ ap (λ (y : A). f (y ∷ drop (i + 1) items)) (sym is)
 
--- an item that stands behind the last one
+-- an item that follows the last one
 pub rises_past : {A : Type 0} (place : A → ℕ × ℕ × ℕ) (items : List A) (i : ℕ) (x : A) (last next : ℕ × ℕ × ℕ)
     → i < length items → x ≡ get_or items i x → next ≡ place x → is_below last next ≡ true
     → rises last (map place (drop i items)) ≡ rises next (map place (drop (i + 1) items))

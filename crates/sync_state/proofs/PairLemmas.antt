@@ -1,4 +1,4 @@
--- An entry that stands behind others may stand there.
+-- An entry that follows others may stand there.
 use Rattle.std.proofs.Common.{◌≡◌, ℕ, ◌<◌, ◌≤◌, Bool, true, false, List, ◌∷◌, ◌++◌, length, get_or, Option, Some, None, refl, ap, subst, arith, length-append}
 use Rattle.std.specs.Prelude.{not, ◌&&◌, ◌||◌, ◌==◌, nat_lt, is_none}
 use Rattle.std.proofs.lemmas.Bool.{and_from, eqb-true}

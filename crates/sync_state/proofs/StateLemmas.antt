@@ -185,7 +185,7 @@ entry_line-injective v a b fa fb e =
 pub no_end : (e : Entry) → entry_line e ≢ end_line
 no_end e h = let c : 32 ≡ 110 = ap (λ (x : List ℕ). get_or x 1 0) h in absurd (omega (arith, c))
 
--- entries behind others, up to the end
+-- entries after others, up to the end
 record Behind (all before : List Entry) (tail : List (List ℕ)) : Type 0 where
   after : List Entry
   same : all ≡ before ++ after
@@ -218,7 +218,7 @@ of_state h before tail lines s all e =
     let fits : HasText h.version s.state = subst (λ (v : Version). HasText v s.state) version s.fits in
     record { state = s.state; fits = fits; behind = behind h.version s.state.entries before tail fits.entries all (ap (λ (x : List (List ℕ)). drop 4 x) same) }
 
--- what is behind: the last line, or an entry
+-- what follows: the last line, or an entry
 record IsNext (all before : List Entry) (line : List ℕ) : Type 0 where
   entry : Entry
   others : List Entry

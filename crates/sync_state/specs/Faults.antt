@@ -5,7 +5,7 @@ use Rattle.sync_state.specs.declared.fault.BookFault.TheVariants.{Stopped, BadSt
 use Rattle.sync_state.specs.Lines.{IsBadLine}
 use Rattle.sync_state.specs.StateText.{StateLines}
 
--- the bad line of a state text, or want of memory
+-- the bad line of a state text, or `NoMemory`
 abbrev pub TellsState : List ℕ → BookFault → Type 0
 TellsState text Stopped = ⊥
 TellsState text (BadState line) = IsBadLine StateLines text line

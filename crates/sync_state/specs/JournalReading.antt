@@ -1,4 +1,4 @@
--- What the parts of reading a journal tell.
+-- What the parts of reading a journal report.
 use Rattle.std.specs.Prelude.{ℕ, zero, suc, ◌+◌, ◌<◌, ◌^◌, ◌≡◌, ◌≢◌, ◌⊎◌, true, false, List, [], ◌∷◌, ◌++◌, All, map, length, not, ◌==◌}
 use Rattle.mailcore.specs.declared.keywords.Keyword.{Keyword}
 use Rattle.mailcore.specs.KeywordNames.{IsMap}
@@ -25,7 +25,7 @@ IsStepIn version s = IsStep s × StepLetters version s
 abbrev pub IsNoteIn : Version → Note → Type 0
 IsNoteIn version n = IsNote n × NoteLetters version n
 
--- the bad line of a journal's text with `go`, or want of memory
+-- the bad line of a journal's text with `go`, or `NoMemory`
 abbrev pub TellsJournal : List ℕ → BookFault → Type 0
 TellsJournal text Stopped = ⊥
 TellsJournal text (BadState line) = ⊥
@@ -40,7 +40,7 @@ TellsNumbers text (BadState line) = ⊥
 TellsNumbers text (BadJournal line) = IsBadJournal text line
 TellsNumbers text NoMemory = ⊥
 
--- the bad line of the head, or want of memory
+-- the bad line of the head, or `NoMemory`
 abbrev pub TellsHead : List ℕ → BookFault → Type 0
 TellsHead text fault = (fault ≡ NoMemory) ⊎ TellsNumbers text fault
 
@@ -62,12 +62,12 @@ pub record NumbersRead (n : PlanNumbers) (text rest : List ℕ) : Type 0 where
   pub fits : NumbersFit n
   pub lines : AreLines (head (record { numbers = n; keywords = [] })) text rest
 
--- a keyword that may stand behind these in a text of this version
+-- a keyword that may follow these in a text of this version
 pub record IsNextKeyword (version : Version) (keywords : List Keyword) (k : Keyword) : Type 0 where
   pub map_is : IsMap (keywords ++ k ∷ [])
   pub words : HasKeywords version (keywords ++ k ∷ [])
 
--- the first line is that of a keyword, which stands behind the old ones in the new ones
+-- the first line is that of a keyword, which follows the old ones in the new ones
 pub record KeywordAdded (old new : List Keyword) (text rest : List ℕ) : Type 0 where
   pub keyword : Keyword
   pub added : new ≡ old ++ keyword ∷ []
@@ -101,7 +101,7 @@ pub record ItemsRead {A : Type 0} (fits : A → Type 0) (line : A → List ℕ) 
   pub are : AreItems fits line place items text rest
   pub all : HasNoLine [] fits line rest
 
--- one that may not stand behind those before it
+-- one that may not follow those before it
 pub record IsBadItem {A : Type 0} (fits : A → Type 0) (line : A → List ℕ) (place : A → ℕ × ℕ × ℕ) (taken : ℕ) (text : List ℕ) (number : ℕ) : Type 0 where
   pub before : List A
   pub item : A

@@ -35,7 +35,7 @@ plan_near_line side = codes "near " ++ plan_side_text side
 abbrev pub keyword_line : Keyword → List ℕ
 keyword_line k = codes "k " ++ (k.letter ∷ 32 ∷ k.name)
 
--- flags that are set or cleared, behind their sign; nothing if there are none
+-- flags that are set or cleared, after their sign; nothing if there are none
 abbrev pub change : (sign flags : ℕ) → List ℕ
 change sign flags = if flags == 0 then [] else 32 ∷ sign ∷ letters_of flags
 
@@ -105,7 +105,7 @@ pub record HasJournal (j : Journal) : Type 0 where
   pub plan : IsPlan j.plan
   pub log : IsLog j.plan.steps j.log
 
--- the whole lines of a text are a journal's in this version; a torn line may stand behind them
+-- the whole lines of a text are a journal's in this version; a torn line may follow them
 pub record JournalText (version : Version) (j : Journal) (text torn : List ℕ) : Type 0 where
   pub fits : HasJournal j
   pub words : HasWords version j.plan

@@ -16,7 +16,7 @@ pub record Begins (Spells : List (List ℕ) → Type 0) (lines : List (List ℕ)
   pub more : List (List ℕ)
   pub spelled : Spells (lines ++ more)
 
--- a text begins with these lines, and `rest` is what stands behind them
+-- a text begins with these lines, and `rest` is what follows them
 pub record AreLines (lines : List (List ℕ)) (text rest : List ℕ) : Type 0 where
   pub parts : text ≡ lines_text lines ++ rest
   pub whole : All OneLine lines
@@ -32,7 +32,7 @@ pub record IsBadLine (Spells : List (List ℕ) → Type 0) (text : List ℕ) (nu
   pub stops : (line behind : List ℕ) → OneLine line → rest ≡ line ++ 10 ∷ behind → ¬ Begins Spells (before ++ line ∷ [])
   pub ends_early : rest ≡ [] → ¬ Spells before
 
--- the text begins with the line of a value, which stands behind the word or words of its kind
+-- the text begins with the line of a value, which follows the word or words of its kind
 pub record HasLine {T : Type 0} (start : List ℕ) (fits : T → Type 0) (spelling : T → List ℕ) (value : T) (text behind : List ℕ) : Type 0 where
   pub fitting : fits value
   pub parts : text ≡ (start ++ spelling value) ++ 10 ∷ behind

@@ -1,4 +1,4 @@
--- What the parts of reading a state tell.
+-- What the parts of reading a state report.
 use Rattle.std.specs.Prelude.{ℕ, ◌+◌, ◌≡◌, ◌≢◌, ◌⊎◌, false, List, [], ◌∷◌, ◌++◌, All, map, length}
 use Rattle.rules.specs.declared.entry.Entry.{Entry}
 use Rattle.rules.specs.Entries.{ArePairs, may_end}
@@ -34,7 +34,7 @@ pub record EntriesRead (version : Version) (entries : List Entry) (text rest : L
   pub are : AreEntries version entries text rest
   pub all : HasNoLine [] (IsEntry version) entry_line rest
 
--- an entry that may not stand behind those before it
+-- an entry that may not follow those before it
 pub record IsBadEntry (version : Version) (taken : ℕ) (text : List ℕ) (number : ℕ) : Type 0 where
   pub before : List Entry
   pub entry : Entry
@@ -58,7 +58,7 @@ pub record IsNoEnd (taken : ℕ) (text : List ℕ) (number : ℕ) : Type 0 where
   pub none : (line behind : List ℕ) → OneLine line → text ≡ line ++ 10 ∷ behind → line ≢ end_line
   pub number_is : number ≡ taken + 1
 
--- something stands behind the last line
+-- something follows the last line
 pub record IsBehindEnd (taken : ℕ) (text : List ℕ) (number : ℕ) : Type 0 where
   pub rest : List ℕ
   pub parts : text ≡ end_line ++ 10 ∷ rest

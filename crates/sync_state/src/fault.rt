@@ -11,7 +11,7 @@ pub enum BookFault {
     #[error("stopped")]
     Stopped,
     /// The text is of no state, and this is its first bad line, counted from 1: the first line after which no valid state
-    /// is possible, or, where a valid one ends too early, the line behind its last. Line 0: a UID is named already.
+    /// is possible, or, where a valid one ends too early, the line after its last. Line 0: a UID is named already.
     #[error("bad state {0}")]
     BadState(usize),
     /// The journal is bad, and this is its first bad line, counted from 1: the first line after which no valid journal of

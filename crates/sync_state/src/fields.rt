@@ -50,7 +50,7 @@ impl Fields for () {
     }
 }
 
-/// A word, a space and what stands behind it.
+/// A word, a space and what follows it.
 impl<A: Word, B: Fields> Fields for (A, B) {
     ghost use Rattle.sync_state.specs.Cuts.{spaced-injective};
 
@@ -72,7 +72,7 @@ impl<A: Word, B: Fields> Fields for (A, B) {
     }
 }
 
-/// The value whose spelling stands in a line behind `start`, or none if the line is no such one.
+/// The value whose spelling stands in a line after `start`, or none if the line is no such one.
 pub fn after<T: Fields>(line: &[u8], start: &[u8]) -> Option<T>
     ensures some { IfSome result (λ value. T.fits value × (line.now ≡ start.now ++ T.spelling value)) }
     ensures none { IfNone result ((value : T) → T.fits value → line.now ≢ start.now ++ T.spelling value) }

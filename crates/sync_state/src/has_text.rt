@@ -35,7 +35,7 @@ fn side_has_text(side: PlanSide) -> bool
     side.validity > 0 && side.highest < u32::MAX && side.next > 0
 }
 
-/// Whether each stands behind the one before it.
+/// Whether each is in order after the one before it.
 fn are_in_order<A: Item>(items: &[A]) -> bool
     ensures order { result ≡ rises bottom (map A.place items.now) }
     ensures fit { result ≡ true → All (A.fits Version.Two) items.now }

@@ -108,7 +108,7 @@ fn take_item<A: Item>(lines: &mut Lines<'_>, version: Version) -> Option<A>
     Some(item)
 }
 
-/// Those of the next lines. `BadJournal`: one does not stand behind those before it.
+/// Those of the next lines. `BadJournal`: one is not in order after those before it.
 pub fn read_items<A: Item>(
     alloc: Global,
     lines: &mut Lines<'_>,

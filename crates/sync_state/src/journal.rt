@@ -82,6 +82,6 @@ pub struct WrittenJournal {
     pub version: Version,
     /// What its whole lines say.
     pub journal: Journal,
-    /// Whether a torn line stands behind them.
+    /// Whether a torn line follows them.
     pub is_torn: bool,
 }

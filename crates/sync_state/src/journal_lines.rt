@@ -218,7 +218,7 @@ pub(crate) fn push_note(text: &mut Vec<u8>, note: &Note) -> Result<(), AllocErro
 
 /// Adds the line that logs the step of this number.
 ///
-/// `AllocError`: a growth was refused. What the text was stands at its front, and some of the line may stand behind it.
+/// `AllocError`: a growth was refused. What the text was stands at its front, and some of the line may follow.
 pub fn push_logged(text: &mut Vec<u8>, number: u64, logged: Logged) -> Result<(), AllocError>
     ensures { Adds result text.old.items (log_line number logged ++ 10 ∷ []) text.new.items }
 {

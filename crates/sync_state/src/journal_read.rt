@@ -105,7 +105,7 @@ fn plan_side(fields: SideFields) -> PlanSide
     }
 }
 
-/// How this line logs the step behind the first `count` steps.
+/// How this line logs the step after the first `count` steps.
 pub fn next_logged(line: &[u8], count: usize, steps: &[Step]) -> Option<Logged>
     ensures some { IfSome result (λ logged. FitsAt steps.now count logged × (line.now ≡ log_line (count + 1) logged)) }
     ensures none { IfNone result ((logged : Logged) → FitsAt steps.now count logged → line.now ≢ log_line (count + 1) logged) }

@@ -13,7 +13,7 @@ use std::alloc::{AllocError, Global};
 use texts::cut::cut;
 use texts::lines::Lines;
 
-/// The keywords of the next lines, up to one that may not stand behind those before it.
+/// The keywords of the next lines, up to one that may not follow those before it.
 pub fn read_keywords(
     alloc: Global,
     lines: &mut Lines<'_>,
@@ -38,7 +38,7 @@ pub(crate) fn map_fits(keywords: &Keywords)
     keywords.as_slice();
 }
 
-/// Takes the next line if its keyword may stand behind these, and adds it to them.
+/// Takes the next line if its keyword may follow these, and adds it to them.
 fn take_keyword(lines: &mut Lines<'_>, keywords: &mut Keywords) -> Result<bool, AllocError>
     ensures { IfOk result (λ taken. MatchBool taken
         (KeywordAdded keywords.old keywords.new lines.old.rest.now lines.new.rest.now × (lines.new.taken ≡ lines.old.taken + 1))

@@ -128,7 +128,7 @@ fn entry_of(line: &[u8], version: Version) -> Option<Entry>
     }
 }
 
-/// The last line, behind which nothing stands.
+/// The last line, after which nothing follows.
 fn read_end(lines: &mut Lines<'_>) -> Result<(), BookFault>
     ensures ok { OnOk result (lines.old.rest.now ≡ end_line ++ 10 ∷ []) }
     ensures refused { IfErr result (TellsEnd lines.old.taken lines.old.rest.now) }

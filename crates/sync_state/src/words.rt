@@ -284,7 +284,7 @@ impl Word for Side {
     ghost one_word = { side-fits-lacks };
 }
 
-/// Flags that are set: `+` and their letters, of which there is one at least.
+/// Flags that are set: `+` and their letters, at least one.
 #[derive(Clone, Copy)]
 pub struct Plus(pub Flags);
 
@@ -313,7 +313,7 @@ impl Word for Plus {
     ghost one_word = { plus-lacks };
 }
 
-/// Flags that are cleared: `-` and their letters, of which there is one at least.
+/// Flags that are cleared: `-` and their letters, at least one.
 #[derive(Clone, Copy)]
 pub struct Minus(pub Flags);
 
@@ -336,7 +336,7 @@ impl Fields for Minus {
     }
 }
 
-/// The flags with these letters, of which there is one at least, behind a sign.
+/// The flags with these letters, at least one, after a sign.
 #[tactic(auto, using(mailcore::proofs::FlagWords::no_letters, mailcore::proofs::FlagWords::letters_none))]
 fn read_letters(text: &[u8], sign: u8) -> Option<Flags>
     ensures some { IfSome result (λ flags. (flags < 2 ^ FLAGS) × (flags ≢ 0) × (text.now ≡ sign ∷ letters_of flags)) }

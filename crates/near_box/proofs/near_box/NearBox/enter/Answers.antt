@@ -12,7 +12,7 @@ returns-clause-mailbox g c = λ honest.
     surveyed_mailbox c.in_ok-self.field-0 (non_zero_u32_get c.args.fresh) c.args.self.now.keywords (g.F.Folder.seen c.survey_of.new.folder).stored
     (c.in_ok-self.ensures.tells honest c.args.self.now.keywords)
 
--- the fault is told whatever the map
+-- the fault is reported whatever the map
 pub returns-in_err-self-clause-mailbox : goal.returns-in_err-self-clause-mailbox
 returns-in_err-self-clause-mailbox g c = λ honest.
     let e = err_from_is_err_and c.from_residual.result c.from_residual.ensures.1 in

@@ -7,7 +7,7 @@ pub returns-in-Ok-clause-mailbox : goal.returns-in-Ok-clause-mailbox
 returns-in-Ok-clause-mailbox g c = λ honest.
     surveyed_mailbox c.in-Ok.survey (non_zero_u32_get c.args.fresh) c.args.keywords (g.F.Folder.seen c.survey_of.new.folder).stored (c.in-Ok.ensures.tells honest c.args.keywords)
 
--- the fault is told whatever the map
+-- the fault is reported whatever the map
 pub returns-in-Err-clause-mailbox : goal.returns-in-Err-clause-mailbox
 returns-in-Err-clause-mailbox g c = λ honest. c.in-Err.ensures.tells honest []
 
