@@ -85,7 +85,7 @@ impl Patterns {
         &self.words
     }
 
-    /// Adds a word behind the others. `AllocError`: memory ran out, and nothing was added.
+    /// Adds a word after the others. `AllocError`: memory ran out, and nothing was added.
     pub fn push(&mut self, word: Pattern) -> Result<(), AllocError>
         ensures ok { OnOk result (self.new ≡ self.old ++ word ∷ []) }
         ensures err { OnErr result (self.new ≡ self.old) }

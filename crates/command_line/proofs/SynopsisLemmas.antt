@@ -23,7 +23,7 @@ pub synopsis_is_free : is_simple_and_free synopsis ≡ true
 unfolding synopsis clap_on_literals
 synopsis_is_free = refl
 
--- words with another fault than want of memory are not taken
+-- words with another fault than `OutOfMemory` are not taken
 not_taken : (words : List Text) (error : Error) → (kind_of error ≡ OutOfMemory → ⊥)
     → (takes synopsis words ≡ true → kind_of error ≡ OutOfMemory) → takes synopsis words ≡ false
 not_taken words error other passes = go (takes synopsis words) refl

@@ -8,7 +8,7 @@ use Rattle.config.specs.declared.cells.CellsFault.TheVariants as cells
 use Rattle.command_line.specs.declared.fault.UsageFault.{UsageFault}
 use Rattle.command_line.specs.declared.fault.UsageFault.TheVariants.{Line, NoChannel, SyncWords, NoMemory}
 
--- an error of `clap` but want of memory is a fault of the line
+-- an error of `clap` other than `OutOfMemory` is a fault of the line
 abbrev pub Tells : Error → UsageFault → Type 0
 Tells error (Line told) = (told ≡ error) × (kind_of error ≢ OutOfMemory)
 Tells error NoChannel = ⊥

@@ -12,7 +12,7 @@ use Rattle.rules.specs.declared.sync_words.SyncWord.TheVariants.{Nothing, Sort, 
 use Rattle.command_line.specs.Requests.{IsTaken, NamesNone, found_in, names_in, stands, sync_words_in}
 use Rattle.command_line.specs.Synopsis.{synopsis}
 
--- the words behind the program's name
+-- the words after the program's name
 abbrev line : List Text → List Text
 line rest = codes "mbsync" ∷ rest
 
@@ -40,7 +40,7 @@ pub much_asks : asked much ≡ (Some (codes "other"), false, codes "work" ∷ co
 unfolding synopsis clap_on_literals
 much_asks = refl
 
--- ---- behind two hyphens all words are names
+-- ---- after two hyphens all words are names
 
 pub names_with_hyphens : asked (line (codes "--" ∷ codes "-a" ∷ codes "--pull" ∷ [])) ≡ (None, false, codes "-a" ∷ codes "--pull" ∷ [], false, [], false)
 unfolding synopsis clap_on_literals

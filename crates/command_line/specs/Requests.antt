@@ -79,14 +79,14 @@ NamesNone rows = (stands rows (codes "all") ≡ false) × (names_in rows ≡ [])
 abbrev pub NamesSome : List Row → Type 0
 NamesSome rows = (stands rows (codes "all") ≡ true) ⊎ (names_in rows ≢ [])
 
--- why what was found asks for nothing: `NoChannel` is told before `SyncWords`
+-- why what was found asks for nothing: `NoChannel` is reported before `SyncWords`
 abbrev pub IsUnfit : List Row → UsageFault → Type 0
 IsUnfit rows (Line error) = ⊥
 IsUnfit rows NoChannel = NamesNone rows
 IsUnfit rows SyncWords = NamesSome rows × IsErr (line_cells (sync_words_in rows))
 IsUnfit rows NoMemory = ⊤
 
--- why the words ask for nothing: `Line` is told first
+-- why the words ask for nothing: `Line` is reported first
 abbrev pub IsFault : List Text → UsageFault → Type 0
 IsFault words (Line error) = (takes synopsis words ≡ false) × IsAmong (kind_of error) (fault_of synopsis words)
 IsFault words NoChannel = IsTaken words × IsUnfit (found_in words) NoChannel

@@ -26,7 +26,7 @@ channel_rule = record (new_rule (codes "channel")) { action = Some Append; value
 abbrev pub sync_rule : SyncFlag → Rule
 sync_rule flag = flag_rule (flag_name flag)
 
--- the command with these arguments behind those that it has
+-- the command with these arguments after those that it has
 abbrev pub with_rules : App → List Rule → App
 with_rules app rules = fold with_rule app rules
 

@@ -5,8 +5,8 @@ use config::cells::CellsFault;
 use std::alloc::{AllocError, AllocFailed};
 use thiserror::Error;
 
-/// Why the words of a command line name no request. Of several faults the first of these is told; want of memory may
-/// come in place of any.
+/// Why the words of a command line name no request. Of several faults the first of these is reported; `NoMemory` may
+/// come instead of any.
 #[derive(Debug, Drop, Error)]
 pub enum UsageFault {
     /// `clap` does not take the words, or they ask for help.

@@ -1,4 +1,4 @@
-//! The command line of `mbsync`: its words, the request that they name, and what is told where they name none.
+//! The command line of `mbsync`: its words, the request that they name, and what is printed where they name none.
 #![tactic(auto)]
 
 pub mod fault;

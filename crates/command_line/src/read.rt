@@ -20,7 +20,7 @@ use std::convert::AsStr;
 /// Reads a command line, of whose words the first is the program's name, as in `std::env::args`.
 ///
 /// `Line`: `clap` does not take the words, or they ask for help. `NoChannel`: they have neither a name nor `-a`.
-/// `SyncWords`: the flags of Sync are refused together. The first of these is told. `NoMemory`: memory ran out.
+/// `SyncWords`: the flags of Sync are refused together. The first of these is reported. `NoMemory`: memory ran out.
 pub fn read_words<S: AsStr>(alloc: Global, words: &[S]) -> Result<Request, UsageFault>
     ensures ok { IfOk result (IsRequest (map S.text words.now)) }
     ensures err { IfErr result (IsFault (map S.text words.now)) }

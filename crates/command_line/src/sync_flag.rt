@@ -37,7 +37,7 @@ impl SyncFlag {
         SyncFlag::Noop,
     ];
 
-    /// Its name, behind the two hyphens.
+    /// Its name, after the two hyphens.
     pub(crate) fn name(self) -> &'static str
         ensures { result.now ≡ flag_name self }
     {

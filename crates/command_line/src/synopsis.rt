@@ -86,7 +86,7 @@ fn command_before_flags<'a>(alloc: Global) -> Result<Command<'a>, AllocError>
         ))
 }
 
-/// The command with the flags of Sync behind what it has.
+/// The command with the flags of Sync after what it has.
 fn with_sync_flags<'a>(alloc: Global, begun: Command<'a>) -> Result<Command<'a>, AllocError>
     ensures { IfOk result (λ command. app_of command ≡ with_rules (app_of begun.entry) (map sync_rule sync_flags)) }
 {

@@ -1,4 +1,4 @@
-//! What is told of words that name no request.
+//! What is printed where words name no request.
 
 ghost use Rattle.std.specs.Prelude.{◌≡◌, ◌⊎◌, true, false};
 ghost use Rattle.command_line.specs.Statuses.{is_help, status_of};
@@ -8,7 +8,7 @@ use clap::error::ErrorKind;
 use std::io;
 use std::io::Write;
 
-/// Tells why the words name no request, and gives the exit status of the program: help goes to `out`, with status 0. To
+/// Prints why the words name no request, and gives the exit status of the program: help goes to `out`, with status 0. To
 /// `err` go, with status 2, `clap`'s text of other words that it does not take, `mbsync: no channel` and
 /// `mbsync: sync words`, and with status 1 `mbsync: no memory`. The status is 1 too where writing fails.
 pub fn tell<O: Write, E: Write>(fault: &UsageFault, out: &mut O, err: &mut E) -> u8
@@ -47,7 +47,7 @@ fn is_help(fault: &UsageFault) -> bool
     status_of(fault) == 0
 }
 
-/// The exit status where everything was told.
+/// The exit status where everything was printed.
 fn status_of(fault: &UsageFault) -> u8
     ensures { result ≡ status_of fault.now }
 {

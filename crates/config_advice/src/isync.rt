@@ -103,7 +103,7 @@ const OTHERS: [(&str, &str); 22] = [
     ("ReNew", "write Sync New"),
 ];
 
-/// What stands in place of a keyword of isync. None: isync has none of this name, or it is one here too.
+/// What replaces a keyword of isync. None: isync has none of this name, or it is one here too.
 pub(crate) fn in_place_of(word: &[u8]) -> Option<&'static str> {
     find(&ACCOUNT, word).or(find(&OTHERS, word))
 }

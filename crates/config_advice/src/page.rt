@@ -1,4 +1,4 @@
-//! Lines for a person, each behind a line that stands before them.
+//! Lines for a person, each after a line end.
 
 use std::alloc::{AllocError, Global};
 

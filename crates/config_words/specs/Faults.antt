@@ -1,4 +1,4 @@
--- Faults of a configuration, and which of two is told.
+-- Faults of a configuration, and which of two is reported.
 use Rattle.std.specs.Prelude.{ℕ, ◌==◌, ◌&&◌, ◌||◌, nat_lt, nat_le, Bool}
 use Rattle.mailcore.specs.declared.keywords.KeywordFault.{KeywordFault}
 use Rattle.mailcore.specs.declared.keywords.KeywordFault.TheVariants.{BadLetter, BadName, Repeated}
@@ -27,6 +27,6 @@ kind_of BadName = WrongArguments
 kind_of Repeated = KeywordGiven
 kind_of keywords.NoMemory = NoMemory
 
--- of two faults that of the lower line is told, and on one line the one with the lower number
+-- of two faults that of the lower line is reported, and on one line the one with the lower number
 abbrev pub precedes : ConfigFault → ConfigFault → Bool
 precedes f g = nat_lt f.line g.line || f.line == g.line && nat_le (number_of f.kind) (number_of g.kind)

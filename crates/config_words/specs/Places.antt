@@ -13,7 +13,7 @@ is_section MaildirStore = true
 is_section Channel = true
 is_section Group = true
 
--- the place behind an empty line, which ends a section
+-- the place after an empty line, which ends a section
 abbrev pub closed : Place → Place
 closed Start = Start
 closed Between = Between

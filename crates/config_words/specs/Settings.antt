@@ -15,7 +15,7 @@ use Rattle.config_words.specs.Keywords.{section_of}
 abbrev pub is_argument : List ℕ → Bool
 is_argument argument = nat_le (length argument) 1024 && list_all (λ b. not (b == 9)) argument
 
--- the name that arguments give a section: a group has channels behind it, another section nothing
+-- the name that arguments give a section: a group has channels after it, another section nothing
 abbrev pub name_among : Place → List (List ℕ) → Option (List ℕ)
 name_among p [] = None
 name_among p (name ∷ []) = Some name
@@ -36,7 +36,7 @@ name_said (says.Section name) = Some (string_bytes name)
 name_said (says.Group name channels) = Some (string_bytes name)
 name_said _ = None
 
--- arguments that a keyword does not take, or want of memory
+-- arguments that a keyword does not take, or `NoMemory`
 abbrev pub IsRefusal : FaultKind → Type 0
 IsRefusal WrongArguments = Unit {0}
 IsRefusal NoMemory = Unit {0}

@@ -1,4 +1,4 @@
--- The words of a line: its keyword, and the arguments behind it.
+-- The words of a line: its keyword, and the arguments after it.
 use Rattle.std.specs.Prelude.{ℕ, ◌≡◌, ◌==◌, nat_eq, nat_le, Bool, true, false, not, ◌&&◌, ◌||◌, List, [], ◌∷◌, ◌++◌, length, take, drop, fold, Option, Some, None, is_none, unwrap_or, option_and_then, option_to_list, encode_utf8, if◌then◌else◌}
 use Rattle.std.specs.List.{list_all, position_from, starts_with}
 use Rattle.config_words.specs.declared.words.LineKind.{LineKind}
@@ -21,7 +21,7 @@ word_end text = unwrap_or (first_gap text) (length text)
 abbrev pub is_blank : List ℕ → Bool
 is_blank line = is_none (first_word line)
 
--- the keyword and the text behind it; none where a `#` (35) begins a comment
+-- the keyword and the text after it; none where a `#` (35) begins a comment
 abbrev pub cut_words : List ℕ → Option (List ℕ × List ℕ)
 cut_words text = if starts_with nat_eq text (35 ∷ []) then None else Some (take (word_end text) text, drop (word_end text) text)
 
@@ -39,7 +39,7 @@ is_plain text = list_all (λ b. b == 9 || nat_le 32 b && nat_le b 126) text
 
 -- ---- arguments
 
--- what is known behind some bytes: the arguments that have ended, the one that is open, and whether a `"` or a `\` is
+-- what is known after some bytes: the arguments that have ended, the one that is open, and whether a `"` or a `\` is
 pub record Split : Type 0 where
   pub list : List (List ℕ)
   pub argument : Option (List ℕ)
@@ -62,7 +62,7 @@ with_escape s b = record { list = s.list; argument = s.argument; quoted = s.quot
 abbrev pub turned : Split → Split
 turned s = record { list = s.list; argument = Some (unwrap_or s.argument []); quoted = not s.quoted; escaped = s.escaped }
 
--- behind a byte before which no `\` stands
+-- after a byte with no `\` before it
 abbrev pub split_plainly : Split → ℕ → Split
 split_plainly s b =
     if b == 92 then with_escape s true

@@ -7,7 +7,7 @@ use mailcore::keywords::KeywordFault;
 use std::alloc::{AllocError, AllocFailed};
 use thiserror::Error;
 
-/// What is wrong with a line of a configuration. Of several faults of one line the one with the lowest number is told.
+/// What is wrong with a line of a configuration. Of several faults of one line the one with the lowest number is reported.
 #[derive(Clone, Copy, Debug, PartialEq, Eq, Error)]
 pub enum FaultKind {
     /// The line does not begin with a keyword.
@@ -46,7 +46,7 @@ pub enum FaultKind {
 }
 
 impl FaultKind {
-    /// Its number, as `mbsync` tells it.
+    /// Its number, as `mbsync` prints it.
     pub fn number(self) -> u8
         ensures { result ≡ number_of self }
     {
@@ -114,7 +114,7 @@ pub struct ConfigFault {
 }
 
 impl ConfigFault {
-    /// Whether it is told before another: on a lower line, or on the same line with a number that is no higher.
+    /// Whether it is reported before another: on a lower line, or on the same line with a number that is no higher.
     pub fn precedes(self, other: ConfigFault) -> bool
         ensures { result ≡ precedes self other }
     {

@@ -34,7 +34,7 @@ pub enum Keyword {
 pub enum Place {
     /// Before any section.
     Start,
-    /// Behind a section, and in none.
+    /// After a section, and in none.
     Between,
     ImapStore,
     MaildirStore,
@@ -137,7 +137,7 @@ impl Keyword {
         }
     }
 
-    /// The place behind it, if it begins a section.
+    /// The place after it, if it begins a section.
     pub fn section(self) -> Option<Place>
         ensures { result ≡ section_of self }
     {

@@ -20,7 +20,7 @@ pub(crate) enum Failure {
         line: usize,
         /// The number of what is wrong with it.
         number: u8,
-        /// What to do, each line behind a line end. Empty where memory ran out.
+        /// What to do, each line after a line end. Empty where memory ran out.
         advice: String,
     },
     /// A channel of the configuration names a mailbox that no Maildir store can have.
@@ -31,7 +31,7 @@ pub(crate) enum Failure {
         /// The name of the mailbox.
         mailbox: String,
     },
-    /// The system does not tell the time, or one before 1970.
+    /// The system gives no time, or one before 1970.
     #[error("cannot read the clock")]
     Clock,
     /// A growth was refused.

@@ -1,4 +1,4 @@
-//! Stores of which a terminal tells which server is asked, and which mailbox is at work.
+//! Stores of which a terminal shows which server is asked, and which mailbox is at work.
 
 use crate::screen::Screen;
 use channels::channel_box::{ChannelBox, ChannelStores};

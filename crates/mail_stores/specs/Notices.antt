@@ -5,7 +5,7 @@ use Rattle.channels.specs.Founds.{CouldChoose}
 use Rattle.channels.specs.declared.notice.Notice.{Notice}
 use Rattle.channels.specs.declared.notice.Notice.TheVariants.{Skipped, Unnamed, Alert}
 
--- that a mailbox is skipped is told where the channel could choose it, anything else at once
+-- that a mailbox is skipped is reported where the channel could choose it, anything else at once
 abbrev pub IsFor : Joined → Notice → Type 0
 IsFor of (Skipped store name) = CouldChoose of (string_bytes store) (string_bytes name)
 IsFor of (Unnamed path) = ⊤

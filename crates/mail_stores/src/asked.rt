@@ -38,7 +38,7 @@ impl Asked {
         self.shown(alloc, &text)
     }
 
-    /// A text of its server as it is printed. None where it repeats the password, or is empty, or memory is wanting.
+    /// A text of its server as it is printed. None where it repeats the password, or is empty, or memory ran out.
     pub(crate) fn shown(&self, alloc: Global, text: &[u8]) -> Option<String> {
         if text.is_empty() || self.is_repeated_in(text) {
             return None;

@@ -9,10 +9,10 @@ use maildir::folder::FileName;
 use std::alloc::{AllocError, Global};
 use texts::escape::push_escaped;
 
-/// What is known of the mailbox that was open last, as it is told.
+/// What is known of the mailbox that was open last, as it is reported.
 #[derive(Drop)]
 pub(crate) struct LastBox {
-    /// What stopped the run over it, if it was stopped. None: no run was made, or memory is wanting.
+    /// What stopped the run over it, if it was stopped. None: no run was made, or memory ran out.
     pub(crate) cause: Option<StopCause>,
     /// The paths of the near files that were left out.
     pub(crate) left_out: Vec<String>,
@@ -118,7 +118,7 @@ fn path_text(alloc: Global, folder: &str, file: &FileName) -> Result<String, All
     Ok(path)
 }
 
-/// The paths of messages in this folder. Where memory is wanting, the rest is missing.
+/// The paths of messages in this folder. Where memory runs out, the rest is missing.
 pub(crate) fn path_texts(alloc: Global, folder: &str, files: &[FileName]) -> Vec<String> {
     let mut paths = Vec::new(alloc);
     for file in files {

@@ -61,8 +61,8 @@ impl<
     R: Net + Files<File = File> + Clock + AllocGlobal + Clone + Drop,
     P: Progress + Waits + Copy,
 > MailStores<R, P> {
-    /// The stores of a user with this home folder. Near mailboxes that have no UIDVALIDITY yet get this one. It is told how far the run
-    /// over a mailbox is, and what a server is waited for.
+    /// The stores of a user with this home folder. Near mailboxes that have no UIDVALIDITY yet get this one. `progress` shows how far
+    /// the run over a mailbox is, and what mbsync waits for.
     pub fn new(rt: R, home: Home, fresh: NonZeroU32, notes: Notes, progress: P) -> Self {
         let alloc = rt.alloc();
         MailStores {
@@ -115,7 +115,7 @@ impl<
         self.names_over(store)
     }
 
-    /// The names that the session at the server of a store tells.
+    /// The names that the session at the server of a store lists.
     fn names_over(&mut self, store: &ImapStore) -> Result<Vec<MailboxName>, AskFault> {
         let session = self.session_at(store)?;
         let alloc = self.reach.rt.alloc();

@@ -1,4 +1,4 @@
-//! What is noted of servers while they are asked, so that a person can be told.
+//! What is noted of servers while they are asked, to be reported later.
 
 use crate::noted_link::{LinkEnd, NotedEnd};
 use crate::server::AskFault;
@@ -10,7 +10,7 @@ use std::alloc::{AllocError, Global};
 use std::cell::Cell;
 use std::rc::Rc;
 
-/// What is noted of servers while they are asked. What is asked notes it, and the stores tell it.
+/// What is noted of servers while they are asked. What is asked notes it, and the stores report it.
 #[derive(Drop)]
 pub struct Notes {
     /// How the connection came to its end.
@@ -39,7 +39,7 @@ impl Notes {
         self.unreached.set(None);
     }
 
-    /// Why a server does not do what it is asked. None: memory is wanting.
+    /// Why a server does not do what it is asked. None: memory ran out.
     pub(crate) fn server_fault(&self, fault: AskFault) -> Option<ServerFault> {
         match fault {
             AskFault::Unsendable => Some(ServerFault::Unsendable),

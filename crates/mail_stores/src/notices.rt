@@ -86,7 +86,7 @@ impl Notices {
         }
     }
 
-    /// Notes a mailbox that is left out, if it was not noted before. Where memory is wanting it is not.
+    /// Notes a mailbox that is left out, if it was not noted before. Where memory runs out it is not.
     pub(crate) fn skip(&mut self, store: &str, name: &str) {
         let _ = self.try_skip(store, name);
     }
@@ -102,7 +102,7 @@ impl Notices {
         Ok(())
     }
 
-    /// Notes near files that are left alone, since their names are no Maildir names, each once. Where memory is wanting some are not.
+    /// Notes near files that are left alone, since their names are no Maildir names, each once. Where memory runs out some are not.
     pub(crate) fn leave_alone(&mut self, paths: Vec<String>) {
         for path in paths {
             let _ = self.try_leave_alone(path);

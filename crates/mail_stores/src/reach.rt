@@ -55,7 +55,7 @@ pub(crate) struct Reach<R: Net + Files<File = File> + AllocGlobal + Clone + Drop
     pub(crate) fresh: NonZeroU32,
     /// What is noted while servers and folders are asked.
     pub(crate) notes: Notes,
-    /// Who is told what servers are waited for.
+    /// Shows what mbsync waits for.
     pub(crate) waits: W,
 }
 

@@ -30,7 +30,7 @@ pub(crate) enum AskFault {
 }
 
 /// A link to a server over TCP, from which a client hears only replies that it reads. How a connection came to its end is noted, and what
-/// the server is waited for is told before it is.
+/// mbsync waits for is shown before it waits.
 pub(crate) type RealLink<R, W> = NotedLink<FaceLink<TcpLink<R>>, W>;
 
 /// A link to the server of a store, which is not connected yet.

@@ -56,7 +56,7 @@ impl<L: Link + Drop> Sessions<L> {
         }
     }
 
-    /// The names of the mailboxes at the server of this store, which this session tells. It stands then, if it goes on.
+    /// The names of the mailboxes at the server of this store, which this session lists. It stands then, if it goes on.
     pub(crate) fn list(
         &mut self,
         alloc: Global,

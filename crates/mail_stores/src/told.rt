@@ -1,4 +1,4 @@
-//! How the faults of places and servers are told of stores.
+//! How the faults of places and servers are reported as those of stores.
 
 ghost use Rattle.std.specs.Prelude.{IfOk};
 ghost use Rattle.channels.specs.Boxes.{Rises};
@@ -51,7 +51,7 @@ pub(crate) fn lock_fault(fault: LockFault) -> StoreFault {
     }
 }
 
-/// A far store that is not listed, since its server cannot be asked: the name of the store is told, and why. None: memory is wanting.
+/// A far store that is not listed, since its server cannot be asked: the name of the store is reported, and why. None: memory ran out.
 pub(crate) fn unlisted(alloc: Global, store: &ImapStore, why: Option<ServerFault>) -> ListFault {
     match (String::from_str(alloc, store.name.as_str()), why) {
         (Ok(name), Some(why)) => ListFault::Server(name, why),
@@ -59,7 +59,7 @@ pub(crate) fn unlisted(alloc: Global, store: &ImapStore, why: Option<ServerFault
     }
 }
 
-/// A far mailbox that is not made, since its server cannot be asked: the name of the store is told, and why. None: memory is wanting.
+/// A far mailbox that is not made, since its server cannot be asked: the name of the store is reported, and why. None: memory ran out.
 pub(crate) fn unreached(alloc: Global, store: &ImapStore, why: Option<ServerFault>) -> StoreFault {
     match (String::from_str(alloc, store.name.as_str()), why) {
         (Ok(name), Some(why)) => StoreFault::Server(name, why),

@@ -40,7 +40,7 @@ pub use config::request::{Chosen, Request};
 pub use channels::stores::{BoxLists, Stores};
 /// The real stores: servers over TCP and folders of a disk.
 pub use mail_stores::mail_stores::MailStores;
-/// Who is told how far a run over the real stores is, as a trait.
+/// Shows how far a run over the real stores is, as a trait.
 pub use runner::progress::Progress;
 /// The generator of random words, from a seed.
 pub use chacha_generator::generator;
@@ -57,7 +57,7 @@ pub use runner::run::pass;
 /// Several attempts at a run.
 pub use runner::settle::settle;
 
-// ---- What is told of a run
+// ---- What is reported of a run
 
 /// The text of an answer and of a performed step; a `RunFault` prints itself.
 pub use reports::answer::answer_text;

@@ -1,4 +1,4 @@
-//! `mbsync`: keeps mailboxes of IMAP servers and Maildir folders alike, as a configuration file says (docs/MBSYNC.md).
+//! `mbsync`: synchronises mailboxes of IMAP servers and Maildir folders, as a configuration file says (docs/MBSYNC.md).
 #![tactic(auto)]
 
 use command_line::read::read_words;
@@ -17,7 +17,7 @@ fn words(rt: &HostRuntime) -> io::Result<Vec<String>> {
     Ok(env::args(rt)?.collect(rt.alloc())?)
 }
 
-/// Tells that the words cannot be read, for want of memory or since one is no UTF-8, and gives the exit status.
+/// Reports that the words cannot be read, since memory ran out or one is no UTF-8, and gives the exit status.
 fn tell_unread(fault: &io::Error, err: &mut Stderr) -> u8 {
     if fault.kind() == io::ErrorKind::OutOfMemory {
         let _ = writeln!(err, "mbsync: no memory");

@@ -105,7 +105,7 @@ fn write_flags<W: fmt::Write>(f: &mut fmt::Formatter<W>, flags: Flags) -> fmt::R
     write_letters(f, flags)
 }
 
-/// Flags that are set or cleared, behind the sign that says which, or nothing if there are none.
+/// Flags that are set or cleared, after the sign that says which, or nothing if there are none.
 fn write_change<W: fmt::Write>(f: &mut fmt::Formatter<W>, sign: &str, flags: Flags) -> fmt::Result {
     if flags.is_empty() {
         return Ok(());
@@ -114,13 +114,13 @@ fn write_change<W: fmt::Write>(f: &mut fmt::Formatter<W>, sign: &str, flags: Fla
     write_letters(f, flags)
 }
 
-/// The numbers of a far and a near message, each behind a space.
+/// The numbers of a far and a near message, each after a space.
 fn write_pair<W: fmt::Write>(f: &mut fmt::Formatter<W>, far: u32, near: u32) -> fmt::Result {
     write_number(f, far)?;
     write_number(f, near)
 }
 
-/// A number behind a space.
+/// A number after a space.
 fn write_number<W: fmt::Write>(f: &mut fmt::Formatter<W>, number: u32) -> fmt::Result {
     f.write_str(" ")?;
     f.write_str(Buffer::new().format(number))

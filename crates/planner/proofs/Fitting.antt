@@ -1,4 +1,4 @@
--- Where all messages are fit, none is passed over.
+-- Where all messages are fit, none is skipped.
 use Rattle.std.proofs.Common.{◌≡◌, ◌∙◌, Bool, true, false, ◌&&◌, List, [], ◌∷◌, ◌++◌, map, refl, ap, cond}
 use Rattle.std.specs.Prelude.{not, filter}
 use Rattle.std.specs.List.{list_all}

@@ -22,7 +22,7 @@ items_rise is rising i j d order within = elim (cases_lt i j) [
 
 -- ---- places
 
--- what fails in front is passed over
+-- what fails in front is skipped
 pub filter_behind : {X : Type 0} (test : X → Bool) (xs : List X) (k : ℕ) → k ≤ length xs → AllWithin (λ x. test x ≡ false) xs 0 k → filter test xs ≡ filter test (drop k xs)
 filter_behind test xs zero within fail = refl
 filter_behind test [] (suc k) within fail = refl

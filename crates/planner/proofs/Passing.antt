@@ -14,7 +14,7 @@ skip p [] k d l f = absurd (omega arith)
 skip p (x ∷ xs) zero d l f = rw f refl
 skip p (x ∷ xs) (suc k) d l f = skip p xs k d (omega arith) f
 
--- one that does not pass is passed over
+-- one that does not pass is skipped
 pub skip_one : {X : Type 0} (p : X → Bool) (xs : List X) (k j : ℕ) (d : X) → j ≡ k + 1 → k < length xs → p (get_or xs k d) ≡ false → find p (drop j xs) ≡ find p (drop k xs)
 skip_one p xs k j d e l f = let s : j ≡ suc k = omega arith in ap (λ (n : ℕ). find p (drop n xs)) s ∙ skip p xs k d l f
 
@@ -56,7 +56,7 @@ same_default [] i d e l = absurd (omega arith)
 same_default (x ∷ xs) zero d e l = refl
 same_default (x ∷ xs) (suc i) d e l = same_default xs i d e (omega arith)
 
--- what a merge has passed for one key is passed for those behind it
+-- what a merge has passed for one key is passed for those after it
 pub pass_on : {X Y : Type 0} (n : X → ℕ) (xs : List X) (new old whole : ℕ → Option Y) (i u : ℕ) → IsNonDecreasingBy n xs → ((d : X) → n (get_or xs i d) ≡ u) → ((v : ℕ) → u ≤ v → new v ≡ old v)
     → ((j : ℕ) (d : X) → i ≤ j → j < length xs → old (n (get_or xs j d)) ≡ whole (n (get_or xs j d))) → (j : ℕ) (d : X) → i + 1 ≤ j → j < length xs → new (n (get_or xs j d)) ≡ whole (n (get_or xs j d))
 pass_on n xs new old whole i u rising at passed before j d a b =

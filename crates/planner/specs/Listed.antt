@@ -1,4 +1,4 @@
--- What a plan lists, and which messages are passed over.
+-- What a plan lists, and which messages are skipped.
 use Rattle.std.specs.Prelude.{◌↔◌, ◌≢◌, true, All, AllPairs, Contains, ◌≡◌, ℕ, List, ◌++◌, Option, Some, None, map, filter, unwrap_or}
 use Rattle.std.specs.List.{filter_map}
 use Rattle.mailcore.specs.declared.side.Side.{Side}

@@ -1,4 +1,4 @@
-//! Messages that are passed over, since they are not fit to be copied.
+//! Messages that are skipped, since they are not fit to be copied.
 
 ghost use Rattle.std.specs.Prelude.{◌≡◌, ◌++◌, OnOk, IfOk};
 ghost use Rattle.std.specs.List.{list_all};

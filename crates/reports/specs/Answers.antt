@@ -1,4 +1,4 @@
--- What is told of the answer of a run.
+-- How the answer of a run is reported.
 use Rattle.std.specs.Prelude.{ℕ, List, codes}
 use Rattle.runner.specs.declared.pass.Pass.{Pass}
 use Rattle.runner.specs.declared.pass.Pass.TheVariants.{Already, Ran, Finished}

@@ -1,4 +1,4 @@
-//! What is told of the answer of a run.
+//! How the answer of a run is reported.
 
 ghost use Rattle.std.specs.Prelude.{◌≡◌};
 ghost use Rattle.reports.specs.Answers.{answer_word};
@@ -11,7 +11,7 @@ use runner::pass::Pass;
 use runner::performed::Performed;
 use std::alloc::{AllocError, Global};
 
-/// How an answer is told.
+/// The word that an answer is reported with.
 pub fn answer_word(pass: &Pass) -> &'static str
     ensures { result.now ≡ answer_word pass.now }
 {
@@ -30,7 +30,7 @@ fn performed_in(pass: &Pass) -> &[Performed] {
     }
 }
 
-/// The messages that were passed over.
+/// The messages that were skipped.
 fn unfit_in(pass: &Pass) -> &[(Side, Uid)] {
     match pass {
         Pass::Already | Pass::Finished(_) => &[],

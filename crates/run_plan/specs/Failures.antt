@@ -1,4 +1,4 @@
--- What `mbplan` tells where it has no plan.
+-- What `mbplan` reports where it has no plan.
 use Rattle.std.specs.Prelude.{ℕ}
 use Rattle.mailcore.specs.declared.fault.CoreFault.{CoreFault}
 use Rattle.mailcore.specs.declared.fault.CoreFault.TheVariants.{NoMemory as no_room, MarksRepeat as repeats}
@@ -21,7 +21,7 @@ abbrev pub of_marks : CoreFault → Failure
 of_marks repeats = MarksRepeat
 of_marks no_room = NoMemory
 
--- what is told where reading failed
+-- what is reported where reading failed
 abbrev pub OfInput : Failure → Type 0
 OfInput Input = Unit {0}
 OfInput NoMemory = Unit {0}

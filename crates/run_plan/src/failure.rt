@@ -11,7 +11,7 @@ use std::io::ErrorKind;
 use thiserror::Error;
 use worlds::fault::WorldFault;
 
-/// Why there is no plan, as the program tells it.
+/// Why there is no plan, as the program reports it.
 #[derive(Clone, Copy, Debug, PartialEq, Eq, Error)]
 pub(crate) enum Failure {
     #[error("usage")]

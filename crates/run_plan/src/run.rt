@@ -30,9 +30,9 @@ pub enum Arguments {
 /// Reads a world from `input` and writes its plan to `out`: a line for each step and note, and for each message that
 /// is not fit to be copied. It gives the program's exit status.
 ///
-/// With status 0 the whole plan is written. Else `err` is told why there is none, and nothing of a plan is written
+/// With status 0 the whole plan is written. Else `err` gets the reason why there is none, and nothing of a plan is written
 /// unless `out` failed: status 2 for arguments, which are not taken, and for a bad text; status 1 for a UIDVALIDITY
-/// that has changed, for want of memory, and where reading or writing failed.
+/// that has changed, where memory ran out, and where reading or writing failed.
 pub fn run_plan<I: Read, O: Write, E: Write>(
     alloc: Global,
     arguments: Arguments,

@@ -7,7 +7,7 @@ use Rattle.std.proofs.lemmas.List.Sums.{list_all-from_AllPass}
 use Rattle.mailcore.specs.Listed.{AreBelow, may_end}
 use Rattle.mailcore.specs.declared.mailbox.Message.{Message}
 
--- behind messages with lesser UIDs
+-- after messages with lesser UIDs
 next_may_end : (ms : List Message) (next : ℕ) → AreBelow ms next → may_end ms (next + 1) next ≡ true
 next_may_end ms next below =
     and_from (nat_lt next (next + 1)) (list_all (λ (m : Message). nat_lt m.uid next) ms) (lt-ltb next (next + 1) (omega arith))

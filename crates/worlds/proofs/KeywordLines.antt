@@ -110,7 +110,7 @@ pub no_next_below : (keywords : List Keyword) (line : List ℕ) → list_all (be
 no_next_below keywords line out = λ k is m.
     false≢true (sym out ∙ ap (λ (t : List ℕ). list_all (below (letter_in t)) keywords) (sym is) ∙ all_below keywords k m)
 
--- of a refusal that is no want of memory
+-- of a refusal that is not `NoMemory`
 pub no_next_refused : {A : Type 0} (keywords : List Keyword) (line : List ℕ) (fault : KeywordFault) → fault ≢ NoMemory
     → ((fault ≡ NoMemory) × A) ⊎ (keyword_refused (letter_in line) (name_in line) keywords ≡ Some fault) → HasNoNext keywords line
 no_next_refused keywords line fault other (inl want) = absurd (other want.0)

@@ -6,16 +6,16 @@ use Rattle.worlds.specs.declared.fault.WorldFault.{WorldFault}
 use Rattle.worlds.specs.declared.fault.WorldFault.TheVariants.{Line, NoMemory}
 use Rattle.texts.specs.Lines.{IsLine}
 
--- what stands in a keyword's line behind the word `keyword `: its letter, a space and its name
+-- what follows the word `keyword ` in a keyword's line: its letter, a space and its name
 abbrev pub keyword_text : Keyword → List ℕ
 keyword_text k = k.letter ∷ 32 ∷ k.name
 
--- a line for each keyword, and what stands behind them
+-- a line for each keyword, and what follows them
 abbrev pub keyword_lines : List Keyword → (behind : List ℕ) → List ℕ
 keyword_lines [] behind = behind
 keyword_lines (k ∷ ks) behind = codes "keyword " ++ (keyword_text k ++ 10 ∷ keyword_lines ks behind)
 
--- the keyword lines with which a text begins are those of a map; `behind` is what stands behind them
+-- the keyword lines with which a text begins are those of a map; `behind` is what follows them
 pub record Gives (keywords : List Keyword) (behind text : List ℕ) : Type 0 where
   pub is_map : IsMap keywords
   pub lines : text ≡ keyword_lines keywords behind
@@ -25,7 +25,7 @@ pub record Gives (keywords : List Keyword) (behind text : List ℕ) : Type 0 whe
 abbrev pub HasNoNext : List Keyword → (line : List ℕ) → Type 0
 HasNoNext keywords line = (k : Keyword) → keyword_text k ≡ line → ¬ IsMap (keywords ++ k ∷ [])
 
--- want of memory, or the line with this number is a bad one: no map goes on with it
+-- `NoMemory`, or the line with this number is a bad one: no map goes on with it
 abbrev pub IsOfBadNext : List Keyword → (line : List ℕ) → (number : ℕ) → WorldFault → Type 0
 IsOfBadNext keywords line number (Line n) = (n ≡ number) × HasNoNext keywords line
 IsOfBadNext keywords line number NoMemory = Unit {0}
@@ -43,12 +43,12 @@ pub record IsFirstBad (taken : ℕ) (text : List ℕ) (number : ℕ) : Type 0 wh
   pub bad : HasNoNext keywords line
   pub number_is : number ≡ taken + length keywords + 1
 
--- want of memory, or the fault of that line
+-- `NoMemory`, or the fault of that line
 abbrev pub IsOfFirstBad : (taken : ℕ) (text : List ℕ) → WorldFault → Type 0
 IsOfFirstBad taken text (Line n) = IsFirstBad taken text n
 IsOfFirstBad taken text NoMemory = Unit {0}
 
--- what a line adds to a map: one keyword behind the others
+-- what a line adds to a map: one keyword after the others
 pub record Adds (old : List Keyword) (line : List ℕ) (new : List Keyword) : Type 0 where
   pub keyword : Keyword
   pub text : keyword_text keyword ≡ line

@@ -3,12 +3,12 @@ use Rattle.std.specs.Prelude.{ℕ, ◌≡◌, ◌<◌, ◌≤◌}
 use Rattle.worlds.specs.declared.fault.WorldFault.{WorldFault}
 use Rattle.worlds.specs.declared.fault.WorldFault.TheVariants.{Line, NoMemory}
 
--- want of memory, or the fault of this line
+-- `NoMemory`, or the fault of this line
 abbrev pub IsOf : ℕ → WorldFault → Type 0
 IsOf number (Line n) = n ≡ number
 IsOf number NoMemory = Unit {0}
 
--- want of memory, or the fault of a line from 1 to this one
+-- `NoMemory`, or the fault of a line from 1 to this one
 abbrev pub IsUpTo : ℕ → WorldFault → Type 0
 IsUpTo last (Line n) = (0 < n) × (n ≤ last)
 IsUpTo last NoMemory = Unit {0}

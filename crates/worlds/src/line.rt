@@ -8,7 +8,7 @@ use crate::fault::WorldFault;
 use mailcore::fault::PushFault;
 use texts::lines::{Line, Lines};
 
-/// Takes the next line, and gives what stands behind `start`. `Line`: it does not begin so, or is missing.
+/// Takes the next line, and gives what follows `start`. `Line`: it does not begin so, or is missing.
 pub fn take_line<'a>(lines: &mut Lines<'a>, start: &[u8]) -> Result<Line<'a>, WorldFault>
     ensures line { IfOk result (λ line. IsLine start.now line.text.now lines.new.rest.now lines.old.rest.now) }
     ensures missing { OnErr result ((text behind : List ℕ) → ¬ IsLine start.now text behind lines.old.rest.now) }
@@ -19,7 +19,7 @@ pub fn take_line<'a>(lines: &mut Lines<'a>, start: &[u8]) -> Result<Line<'a>, Wo
     lines.take_if(start).ok_or(WorldFault::of_next(lines))
 }
 
-/// What adding an element told: this line is a bad one if what it gives may not stand there.
+/// What adding an element answered: this line is a bad one if what it gives may not stand there.
 pub fn pushed(line: Line<'_>, told: Result<(), PushFault>) -> Result<(), WorldFault>
     ensures ok { IsOk result ↔ IsOk told }
     ensures fault { IfErr result (IsOf line.entry.number) }

@@ -42,7 +42,7 @@ pub struct ListedWorld {
     pub state: SyncState,
 }
 
-/// The world that a text gives. Behind its line `end` nothing may stand.
+/// The world that a text gives. Nothing may follow its line `end`.
 pub fn read_listed_world(alloc: Global, text: &[u8]) -> Result<ListedWorld, WorldFault>
     ensures head { IfOk result (λ w. (behind : List ℕ) × IsHead w.options.keywords behind text.now) }
     ensures far { IfOk result (λ w. AreListedNamed w.options.keywords w.far.items) }

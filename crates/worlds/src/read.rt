@@ -18,7 +18,7 @@ use mailcore::side::Side;
 use std::alloc::Global;
 use texts::lines::Lines;
 
-/// The world that a text gives. Behind its line `end` nothing may stand.
+/// The world that a text gives. Nothing may follow its line `end`.
 pub fn read_world(alloc: Global, text: &[u8], waiting: Waiting) -> Result<World, WorldFault>
     ensures head { IfOk result (λ w. (behind : List ℕ) × IsHead w.options.keywords behind text.now) }
     ensures named { IfOk result (λ w. IsNamed w.options.keywords (world_of w)) }
@@ -30,7 +30,7 @@ pub fn read_world(alloc: Global, text: &[u8], waiting: Waiting) -> Result<World,
     Ok(world)
 }
 
-/// That nothing stands behind the lines that are taken.
+/// That nothing follows the lines that are taken.
 pub(crate) fn read_nothing(lines: &Lines<'_>) -> Result<(), WorldFault>
     ensures fault { IfErr result (λ fault. fault ≡ WorldFault.Line (lines.now.taken + 1)) }
     ensures more { OnErr result (lines.now.rest.now ≢ []) }
@@ -42,7 +42,7 @@ pub(crate) fn read_nothing(lines: &Lines<'_>) -> Result<(), WorldFault>
     }
 }
 
-/// The world that the next lines give, with its line `end`, behind which other lines may stand.
+/// The world that the next lines give, with its line `end`, after which other lines may follow.
 pub fn take_world(
     alloc: Global,
     waiting: Waiting,

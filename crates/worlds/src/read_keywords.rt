@@ -11,7 +11,7 @@ use mailcore::keywords::{Keyword, KeywordFault, Keywords};
 use std::alloc::Global;
 use texts::lines::{Line, Lines};
 
-/// The map that the next lines give, each a letter and its name. `Line`: behind the lines before it, this one gives no map.
+/// The map that the next lines give, each a letter and its name. `Line`: after the lines before it, this one gives no map.
 pub fn read_keywords(alloc: Global, lines: &mut Lines<'_>) -> Result<Keywords, WorldFault>
     ensures given { IfOk result (λ keywords. Gives keywords lines.new.rest.now lines.old.rest.now) }
     ensures bad { IfErr result (IsOfFirstBad lines.old.taken lines.old.rest.now) }

@@ -13,7 +13,7 @@ use rules::sync_words::sync_ops;
 use std::alloc::{AllocError, Global};
 use texts::lines::Lines;
 
-/// What the run may do, from the next two lines and the keyword lines behind them.
+/// What the run may do, from the next two lines and the keyword lines after them.
 pub fn read_options(alloc: Global, lines: &mut Lines<'_>) -> Result<Options, WorldFault>
     ensures head { IfOk result (λ options. IsHead options.keywords lines.new.rest.now lines.old.rest.now) }
     ensures count { line_count lines.new ≤ line_count lines.old }

@@ -8,7 +8,7 @@ use mailcore::flags::Flags;
 use mailcore::keywords::Keywords;
 use mailcore::words::read_flags;
 
-/// The first word of a text and what stands behind the space that ends it, or none if there is no space.
+/// The first word of a text and what follows the space that ends it, or none if there is no space.
 pub fn split_word(text: &[u8]) -> Option<(&[u8], &[u8])>
     ensures { MatchOption result (All (λ b. b ≢ 32) text.now)
         (λ parts. (text.now ≡ parts.0.now ++ 32 ∷ parts.1.now) × All (λ b. b ≢ 32) parts.0.now) }

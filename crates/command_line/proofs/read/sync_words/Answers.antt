@@ -9,7 +9,7 @@ use Rattle.command_line.specs.declared.sync_flag.SyncFlag.TheVariants.{Pull}
 use Rattle.command_line.proofs.read.sync_words.Goals as goal
 use Rattle.command_line.proofs.read.sync_words.Goals.{then-stands+in_ok-push, else-stands}
 
--- one more flag: its word comes behind those before it, if the flag passes
+-- one more flag: its word comes after those before it, if the flag passes
 words_more : (p : SyncFlag → Bool) (i : ℕ) (passes : Bool) → i < 7 → p (get_or sync_flags i Pull) ≡ passes
     → map flag_word (filter p (take (i + 1) sync_flags)) ≡ map flag_word (filter p (take i sync_flags)) ++ cond passes (flag_word (get_or sync_flags i Pull) ∷ []) []
 words_more p i true below e = ap (map flag_word) (filter_more p sync_flags i Pull below) ∙ map-append flag_word (filter p (take i sync_flags)) _ ∙ rw e refl
