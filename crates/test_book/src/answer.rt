@@ -27,7 +27,7 @@ impl Answer {
         }
     }
 
-    /// Tells it.
+    /// Prints it.
     pub fn tell(self, told: &mut Told) {
         match self {
             Answer::Done => told.text("ok"),
@@ -37,7 +37,7 @@ impl Answer {
     }
 }
 
-/// Tells what a book says: the number of the last run, how many entries it left, and how many steps of the pending plan are
+/// Prints what a book says: the number of the last run, how many entries it left, and how many steps of the pending plan are
 /// logged, of how many, if one is pending.
 pub fn tell_held<S: Shelf>(told: &mut Told, book: &Book<S>) {
     let state = book.state();

@@ -107,7 +107,7 @@ impl<S: Shelf + Drop> Desk<S> {
         is_told
     }
 
-    /// Opens a book, and tells what it says or why there is none.
+    /// Opens a book, and prints what it says or why there is none.
     pub fn tell_opened(&mut self, alloc: Global, told: &mut Told) -> Result<(), Failure> {
         match self.open(alloc)? {
             Answer::Done => self.tell_held(told),
@@ -141,7 +141,7 @@ impl<S: Shelf + Drop> Desk<S> {
         }
     }
 
-    /// Makes the call of the shelf with this word, and tells what it answers.
+    /// Makes the call of the shelf with this word, and prints what it answers.
     pub fn use_shelf(
         &mut self,
         alloc: Global,
@@ -163,7 +163,7 @@ impl<S: Shelf + Drop> Desk<S> {
     }
 }
 
-/// Tells the bytes that were read, or that the file is missing.
+/// Prints the bytes that were read, or that the file is missing.
 fn tell_read(told: &mut Told, read: Result<Option<Vec<u8>>, DeviceFault>) -> Result<(), Failure> {
     match read {
         Ok(Some(bytes)) => {

@@ -34,13 +34,13 @@ pub fn shelf_with(
     Ok(shelf)
 }
 
-/// Tells both files of a shelf in memory.
+/// Prints both files of a shelf in memory.
 pub fn tell_files(told: &mut Told, shelf: &MemShelf) {
     tell_file(told, "state", shelf.bytes(File::State));
     tell_file(told, "journal", shelf.bytes(File::Journal));
 }
 
-/// Tells a file in the form in which a script has it.
+/// Prints a file in the form in which a script has it.
 pub fn tell_file(told: &mut Told, word: &str, bytes: Option<&[u8]>) {
     told.begin();
     told.text(word);

@@ -14,7 +14,7 @@ use sync_state::version::Version;
 use test_scripts::failure::Failure;
 use test_scripts::told::Told;
 
-/// Tells what is read of the text of a file.
+/// Prints what is read of the text of a file.
 pub fn tell_reading(
     alloc: Global,
     told: &mut Told,
@@ -37,7 +37,7 @@ pub fn tell_reading(
     }
 }
 
-/// Tells what is read of each beginning of a text, the whole of it too, and where that is wrong by this rule.
+/// Prints what is read of each beginning of a text, the whole of it too, and where that is wrong by this rule.
 pub fn tell_beginnings(
     alloc: Global,
     told: &mut Told,
@@ -63,7 +63,7 @@ fn tell_fault(told: &mut Told, fault: BookFault) -> Result<(), Failure> {
     }
 }
 
-/// Tells the run of a state and how many entries it has.
+/// Prints the run of a state and how many entries it has.
 fn tell_state(
     alloc: Global,
     told: &mut Told,
@@ -91,7 +91,7 @@ fn how_written(written: &[u8], text: &[u8]) -> &'static str {
     }
 }
 
-/// Tells the run of a journal's plan and how many steps, notes and logged steps it has.
+/// Prints the run of a journal's plan and how many steps, notes and logged steps it has.
 fn tell_journal(
     alloc: Global,
     told: &mut Told,
@@ -147,7 +147,7 @@ fn failure_of(fault: BookFault) -> Failure {
     }
 }
 
-/// Tells the first line of a journal that does not agree with a state, if there is one.
+/// Prints the first line of a journal that does not agree with a state, if there is one.
 pub fn tell_disagreement(
     alloc: Global,
     told: &mut Told,

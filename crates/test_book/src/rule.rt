@@ -5,7 +5,7 @@ use test_scripts::told::Told;
 use test_scripts::words::Words;
 
 /// The rows of a rule. Each says of the beginnings with so many whole lines how they are to be read: `N: ANSWER` or `N to N: ANSWER`,
-/// and `N torn: ANSWER` of those alone behind whose whole lines a part of one stands. Of rows about one beginning the first counts.
+/// and `N torn: ANSWER` of those alone whose whole lines a part of one follows. Of rows about one beginning the first counts.
 #[derive(Clone, Copy)]
 pub struct Rule<'a> {
     rows: &'a str,
@@ -20,7 +20,7 @@ impl<'a> Rule<'a> {
         }
     }
 
-    /// Adds to what was told of a beginning what is wrong with it by the rule, if anything is. `Script`: a row is none.
+    /// Adds to what was printed of a beginning what is wrong with it by the rule, if anything is. `Script`: a row is none.
     pub fn judge(self, beginning: &[u8], told: &mut Told) -> Result<(), Failure> {
         match self.answer(beginning)? {
             Some(answer) if answer == told.as_str() => {}
@@ -47,7 +47,7 @@ impl<'a> Rule<'a> {
     }
 }
 
-/// Whether a row that begins so is about a beginning with so many whole lines, behind which a part of one stands or not.
+/// Whether a row that begins so is about a beginning with so many whole lines, which a part of one follows or not.
 fn is_about(head: &str, lines: usize, is_torn: bool) -> Result<bool, Failure> {
     let mut words = Words::new(head.as_bytes());
     let first = words.count();

@@ -1,4 +1,4 @@
-//! Answers that follow one another, of which equal ones are told in one line.
+//! Answers that follow one another, of which equal ones are printed in one line.
 
 use device::schedule::Moment;
 use std::alloc::Global;
@@ -38,7 +38,7 @@ pub struct Runs {
     places: Option<(Place, Place)>,
     is_single: bool,
     answer: Told,
-    /// Where the next answer is told.
+    /// Where the next answer is printed.
     pub next: Told,
     is_lost: bool,
 }
@@ -57,7 +57,7 @@ impl Runs {
         }
     }
 
-    /// Adds the next answer, which is given at this place. If it is another than the last one, the run of that is told.
+    /// Adds the next answer, which is given at this place. If it is another than the last one, the run of that is printed.
     pub fn add(&mut self, told: &mut Told, place: Place) {
         let next = mem::replace(&mut self.next, Told::new(self.alloc));
         self.is_lost = self.is_lost || next.is_lost();
@@ -76,7 +76,7 @@ impl Runs {
         }
     }
 
-    /// Tells the last run. `NoMemory`: an answer was lost.
+    /// Prints the last run. `NoMemory`: an answer was lost.
     pub fn finish(&self, told: &mut Told) -> Result<(), Failure> {
         self.tell_run(told);
         if self.is_lost {

@@ -165,7 +165,7 @@ impl<'a> Stage<'a> {
         Ok(())
     }
 
-    /// Tells both files of the shelf, and how many calls of a shelf in memory have stopped.
+    /// Prints both files of the shelf, and how many calls of a shelf in memory have stopped.
     fn tell_shelf(&self, told: &mut Told) -> Result<(), Failure> {
         if self.is_on_disk {
             self.tell_disk_file(told, "state", folder::STATE)?;
@@ -225,7 +225,7 @@ impl<'a> Stage<'a> {
         is_told
     }
 
-    /// `FILE`, and a rule in the lines behind it.
+    /// `FILE`, and a rule in the lines after it.
     fn tell_beginnings(
         &self,
         line: &mut Words<'_>,

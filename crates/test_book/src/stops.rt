@@ -1,4 +1,4 @@
-//! A call of a book that stops at a call of its shelf: what is left, and how it is taken up again.
+//! A call of a book that stops at a call of its shelf: what is left, and how it is resumed.
 
 use crate::answer::Answer;
 use crate::desk::Desk;
@@ -40,7 +40,7 @@ pub struct Trial<'a> {
 }
 
 impl<'a> Trial<'a> {
-    /// Tells what is left of the call without a stop, and of the call with a stop at each call of its shelf. `Script`: it is not
+    /// Prints what is left of the call without a stop, and of the call with a stop at each call of its shelf. `Script`: it is not
     /// done, though nothing stops.
     pub fn tell(&self, told: &mut Told) -> Result<(), Failure> {
         let shelf = shelf_with(self.alloc, self.before, Vec::new(self.alloc))?;
@@ -72,7 +72,7 @@ impl<'a> Trial<'a> {
         Ok(())
     }
 
-    /// Makes the call without a stop, and tells what a new book says then.
+    /// Makes the call without a stop, and prints what a new book says then.
     fn make_unbroken(&self, desk: &mut Desk<MemShelf>, held: &mut Told) -> Result<(), Failure> {
         let Answer::Done = self.open_and_call(desk)? else {
             return Err(Failure::Script);
@@ -106,14 +106,14 @@ impl<'a> Trial<'a> {
 #[derive(Drop)]
 struct Stopped<'a> {
     trial: Trial<'a>,
-    /// The files behind the unbroken call.
+    /// The files after the unbroken call.
     after: &'a MemShelf,
     /// What a new book says then.
     held: &'a str,
 }
 
 impl Stopped<'_> {
-    /// Tells what is left for each moment of this call of the shelf.
+    /// Prints what is left for each moment of this call of the shelf.
     fn tell_moments(
         &self,
         told: &mut Told,
@@ -135,7 +135,7 @@ impl Stopped<'_> {
         runs.finish(told)
     }
 
-    /// Makes the call with this stop, and tells what it answers and what is left.
+    /// Makes the call with this stop, and prints what it answers and what is left.
     fn tell_stop(&self, told: &mut Told, stop: Stop<ShelfCall>) -> Result<(), Failure> {
         let alloc = self.trial.alloc;
         let schedule = Vec::from_slice(alloc, &[stop])?;
@@ -185,7 +185,7 @@ impl Stopped<'_> {
         Ok(later)
     }
 
-    /// Takes the call up again, as a run does, where a new book does not say what it says behind the unbroken call: where a plan is
+    /// Resumes the call, as a run does, where a new book does not say what it says after the unbroken call: where a plan is
     /// to be begun, a journal without one is discarded before, and where a step is to be logged, a torn line is mended.
     fn tell_again(
         &self,
@@ -232,7 +232,7 @@ impl Stopped<'_> {
         }
     }
 
-    /// Whether as many bytes stand behind the old journal as the stop let pass of those that the call appends.
+    /// Whether as many bytes follow the old journal as the stop let pass of those that the call appends.
     fn is_part_of_journal(&self, shelf: &MemShelf, stop: Stop<ShelfCall>) -> bool {
         match (stop.call, stop.moment) {
             (ShelfCall::Append, Moment::Part(count)) => {
@@ -246,7 +246,7 @@ impl Stopped<'_> {
     }
 }
 
-/// The moment at this place in the order in which they are tried: before, behind each number of bytes, and after.
+/// The moment at this place in the order in which they are tried: before, after each number of bytes, and after the call.
 fn moment_at(place: usize) -> Moment {
     if place == 0 {
         Moment::Before

@@ -1,4 +1,4 @@
-//! Runs whose standard output or standard error fails behind a count of bytes.
+//! Runs whose standard output or standard error fails after a count of bytes.
 
 use crate::work::{Played, Work};
 use test_scripts::failure::Failure;
@@ -20,7 +20,7 @@ impl Stream {
         }
     }
 
-    /// Makes the run with this stream failing behind so many bytes.
+    /// Makes the run with this stream failing after so many bytes.
     fn broken<'a>(self, work: Work<'a>, room: usize) -> Result<Played<'a>, Failure> {
         match self {
             Stream::Out => work.played(room, usize::MAX),
@@ -28,7 +28,7 @@ impl Stream {
         }
     }
 
-    /// Tells that so many mailboxes are lent where this stream fails behind so many bytes.
+    /// Prints that so many mailboxes are lent where this stream fails after so many bytes.
     fn tell(self, told: &mut Told, room: usize, lent: usize) {
         told.begin();
         told.text(match self {
@@ -44,7 +44,7 @@ impl Stream {
     }
 }
 
-/// Makes the run again with a standard output, and then a standard error, that fails behind each count of bytes. It is told how many
+/// Makes the run again with a standard output, and then a standard error, that fails after each count of bytes. Prints how many
 /// mailboxes were lent, wherever that changes, and how many runs had another status than 1, or wrote or asked something else before.
 pub(crate) fn break_each(work: Work<'_>, told: &mut Told) -> Result<(), Failure> {
     let whole = work.played(usize::MAX, usize::MAX)?;

@@ -69,7 +69,7 @@ impl Facts {
         self.text.as_str()
     }
 
-    /// What stands behind a word and a name in the first line that begins with both.
+    /// What follows a word and a name in the first line that begins with both.
     pub(crate) fn of(&self, word: &str, name: &str) -> Option<&str> {
         for line in self.as_str().lines() {
             if let Some(rest) = behind(line, word, name) {
@@ -85,7 +85,7 @@ impl Facts {
     }
 }
 
-/// What stands behind a word and a name in a line that begins with both.
+/// What follows a word and a name in a line that begins with both.
 pub(crate) fn behind<'a>(line: &'a str, word: &str, name: &str) -> Option<&'a str> {
     let (first, rest) = line.split_once(' ')?;
     let (second, rest) = match rest.split_once(' ') {

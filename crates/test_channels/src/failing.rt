@@ -1,4 +1,4 @@
-//! A stream that keeps what is written, and fails behind a count of bytes.
+//! A stream that keeps what is written, and fails after a count of bytes.
 
 use std::alloc::Global;
 use std::io;

@@ -99,7 +99,7 @@ fn put_texts(
     Ok(())
 }
 
-/// Tells the worlds of those mailboxes that the case wants to see, from their line `far` on, with the name before each line.
+/// Prints the worlds of those mailboxes that the case wants to see, from their line `far` on, with the name before each line.
 pub(crate) fn show(alloc: Global, told: &mut Told, facts: &Facts, boxes: Vec<LentBox>) {
     for one in boxes {
         if facts.has("show", &one.name) {

@@ -33,11 +33,11 @@ pub(crate) struct MemStores<'a> {
     pub(crate) asked: Told,
     /// The mailboxes that were lent, the last one last.
     pub(crate) boxes: Vec<LentBox>,
-    /// Whether it is still to be told what stopped the run over the last one.
+    /// Whether it is still to be reported what stopped the run over the last one.
     is_untold: bool,
-    /// Whether it was told which message has stopped a run.
+    /// Whether it was reported which message has stopped a run.
     is_message_told: bool,
-    /// What is to be told beside faults.
+    /// What is to be reported beside faults.
     said: Said,
     /// Why a mailbox of the case cannot be had.
     pub(crate) failure: Option<Failure>,
@@ -93,7 +93,7 @@ impl<'a> MemStores<'a> {
         }
     }
 
-    /// Lends a mailbox, which is the last one then, or tells why it is not lent.
+    /// Lends a mailbox, which is the last one then, or returns why it is not lent.
     fn lend(&mut self, store: &str, name: &str) -> Result<(), StoreFault> {
         self.said.hear(self.facts, store, name);
         if self.facts.has("locked", name) {
@@ -109,7 +109,7 @@ impl<'a> MemStores<'a> {
         self.add_box(name)
     }
 
-    /// Adds a mailbox that is lent, or tells which fault it has.
+    /// Adds a mailbox that is lent, or returns its fault.
     fn add_box(&mut self, name: &str) -> Result<(), StoreFault> {
         if let Some(fault) = self.facts.of("fault", name).and_then(run_fault) {
             return Err(StoreFault::Box(fault));
@@ -137,7 +137,7 @@ impl<'a> MemStores<'a> {
         Ok(())
     }
 
-    /// Tells how far the run over a mailbox was told to be, where the case asks for it.
+    /// Prints the progress of the run over a mailbox, where the case asks for it.
     fn tell_steps(&mut self, name: &str, steps: &Steps) {
         if self.facts.has("steps", name) {
             self.asked.text("steps");

@@ -72,7 +72,7 @@ impl CommandLines {
         }
     }
 
-    /// Makes a run, and tells of it.
+    /// Makes a run, and prints what came of it.
     fn run(&mut self, words: &str, told: &mut Told) -> Result<(), Failure> {
         self.request = Some(request_of(self.alloc, words)?);
         let played = self.work()?.played(usize::MAX, usize::MAX)?;

@@ -44,7 +44,7 @@ fn add_words(alloc: Global, request: &mut Request, words: &str) -> Result<(), Fa
     Ok(())
 }
 
-/// Adds a flag of Sync, or a name, which is passed over where all channels are chosen.
+/// Adds a flag of Sync, or a name, which is ignored where all channels are chosen.
 fn add_word(alloc: Global, request: &mut Request, word: &str) -> Result<(), Failure> {
     if let Some((_, flag)) = FLAGS.iter().find(|(name, _)| *name == word) {
         return Ok(request.sync_words.push(*flag)?);

@@ -1,4 +1,4 @@
-//! What stores in memory tell beside faults.
+//! What stores in memory report beside faults.
 
 use crate::facts::Facts;
 use channels::channel_box::ChannelStores;
@@ -6,7 +6,7 @@ use channels::notice::Notice;
 use std::alloc::{AllocError, Global};
 use std::mem;
 
-/// What is to be told beside faults, and what a server said last.
+/// What is to be reported beside faults, and what a server said last.
 #[derive(Drop)]
 pub(crate) struct Said {
     alloc: Global,
@@ -24,7 +24,7 @@ impl Said {
         }
     }
 
-    /// Adds what a store says where this name is asked for: its own, or that of a mailbox. Where memory is wanting, some of it is missing.
+    /// Adds what a store says where this name is asked for: its own, or that of a mailbox. Where memory runs out, some of it is missing.
     pub(crate) fn hear(&mut self, facts: &Facts, store: &str, name: &str) {
         let _ = self.add(facts, store, name);
     }
@@ -58,7 +58,7 @@ impl Said {
         Ok(())
     }
 
-    /// What is to be told beside faults for this channel, once. What it cannot have chosen stays.
+    /// What is to be reported beside faults for this channel, once. What it cannot have chosen stays.
     pub(crate) fn notices(&mut self, of: ChannelStores<'_>) -> Vec<Notice> {
         let mut told = Vec::new(self.alloc);
         let mut left = Vec::new(self.alloc);
@@ -80,7 +80,7 @@ impl Said {
     }
 }
 
-/// Whether a notice is to be told for this channel.
+/// Whether a notice is to be reported for this channel.
 fn is_for(notice: &Notice, of: ChannelStores<'_>) -> bool {
     match notice {
         Notice::Skipped(store, name) => of.could_choose(store.as_str(), name.as_str()),

@@ -1,11 +1,11 @@
-//! How far a run was told to be.
+//! The progress of a run, as it was reported.
 
 use runner::progress::Progress;
 use std::alloc::Global;
 use std::cell::Cell;
 use test_scripts::told::Told;
 
-/// What was told of a run while it was at work: how many steps were logged, of how many, each time.
+/// What was reported of a run while it was at work: how many steps were logged, of how many, each time.
 #[derive(Drop)]
 pub(crate) struct Steps {
     alloc: Global,
@@ -13,7 +13,7 @@ pub(crate) struct Steps {
 }
 
 impl Steps {
-    /// Nothing was told.
+    /// Nothing was reported.
     pub(crate) fn new(alloc: Global) -> Steps {
         Steps {
             alloc,
@@ -21,7 +21,7 @@ impl Steps {
         }
     }
 
-    /// Tells it in one line: ` 0/2 1/2 2/2`.
+    /// Prints it in one line: ` 0/2 1/2 2/2`.
     pub(crate) fn tell_all(&self, told: &mut Told) {
         for (logged, steps) in self.told.replace(Vec::new(self.alloc)) {
             told.text(" ");
@@ -33,7 +33,7 @@ impl Steps {
 }
 
 impl Progress for Steps {
-    /// Notes it, unless memory is wanting.
+    /// Notes it, unless memory runs out.
     fn tell(&self, logged: usize, steps: usize) {
         let mut told = self.told.replace(Vec::new(self.alloc));
         let _ = told.push((logged, steps));

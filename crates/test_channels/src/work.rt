@@ -1,4 +1,4 @@
-//! The run of a case, and what is told of it.
+//! The run of a case, and what is printed of it.
 
 use crate::facts::Facts;
 use crate::failing::Failing;
@@ -30,7 +30,7 @@ pub(crate) struct Played<'a> {
 }
 
 impl<'a> Work<'a> {
-    /// Makes the run over a standard output and a standard error that fail behind so many bytes.
+    /// Makes the run over a standard output and a standard error that fail after so many bytes.
     pub(crate) fn played(self, out: usize, err: usize) -> Result<Played<'a>, Failure> {
         let mut stores = MemStores::new(self.alloc, self.facts);
         let mut out = Failing::with_room(self.alloc, out);
@@ -57,7 +57,7 @@ impl<'a> Work<'a> {
 }
 
 impl Played<'_> {
-    /// Tells the lines that were printed and told, what the stores were asked, and the exit status.
+    /// Prints the lines of standard output and standard error, what the stores were asked, and the exit status.
     pub(crate) fn tell(&self, told: &mut Told) {
         tell_lines(told, "out ", &self.out.written);
         tell_lines(told, "err ", &self.err.written);
@@ -69,7 +69,7 @@ impl Played<'_> {
     }
 }
 
-/// An answer for each line of a text, behind a word.
+/// An answer for each line of a text, after a word.
 fn tell_lines(told: &mut Told, word: &str, text: &[u8]) {
     for line in str::from_utf8(text).unwrap_or("(no text)").lines() {
         told.begin();

@@ -38,7 +38,7 @@ impl Player for Shell {
     }
 }
 
-/// Tells what a command line asks for, or why it asks for nothing. Where all is closed nothing can be written of it.
+/// Prints what a command line asks for, or why it asks for nothing. Where all is closed nothing can be written of it.
 fn tell_line(alloc: Global, told: &mut Told, line: &str, is_closed: bool) -> Result<(), Failure> {
     let words = line.split(' ').map(word_of).collect::<Vec<_>>(alloc)?;
     if words.first().copied() != Some("mbsync") {
@@ -59,7 +59,7 @@ fn word_of(word: &str) -> &str {
     if word == "''" { "" } else { word }
 }
 
-/// Tells what is written of words that name no request, and the status.
+/// Prints what is written of words that name no request, and the status.
 fn tell_fault(alloc: Global, told: &mut Told, fault: &UsageFault, is_closed: bool) {
     let mut out = Vec::new(alloc);
     let mut err = Vec::new(alloc);
@@ -76,7 +76,7 @@ fn tell_fault(alloc: Global, told: &mut Told, fault: &UsageFault, is_closed: boo
     told.end();
 }
 
-/// Tells each line that was written, behind the name of where it was.
+/// Prints each line that was written, after the name of where it was.
 fn tell_lines(told: &mut Told, name: &str, bytes: &[u8]) {
     let text = str::from_utf8(bytes).unwrap_or("(no text)");
     for line in text.lines() {

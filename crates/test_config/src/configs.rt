@@ -1,4 +1,4 @@
-//! What is told of configurations.
+//! What is printed of configurations.
 
 use config::config::{Boxes, Channel, Config, Group};
 use config::read::read_config;
@@ -8,7 +8,7 @@ use std::alloc::Global;
 use test_scripts::failure::Failure;
 use test_scripts::told::Told;
 
-/// Tells what a text says as a configuration, or its fault.
+/// Prints what a text says as a configuration, or its fault.
 pub fn tell_read(alloc: Global, told: &mut Told, text: &[u8]) -> Result<(), Failure> {
     match read_config(alloc, text) {
         Ok(config) => {

@@ -5,7 +5,7 @@ use std::alloc::Global;
 use test_scripts::failure::Failure;
 use test_scripts::told::Told;
 
-/// Tells of `WORD .. : NAME ..` for each name whether the words choose it.
+/// Of `WORD .. : NAME ..` prints for each name whether the words choose it.
 pub fn tell_chosen(alloc: Global, told: &mut Told, text: &str) -> Result<(), Failure> {
     let (words, names) = text.split_once(" : ").ok_or(Failure::Script)?;
     let mut patterns = Patterns::new(alloc);

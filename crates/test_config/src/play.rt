@@ -67,7 +67,7 @@ impl Shorts {
         Ok(self.kept.push(Short { name, text })?)
     }
 
-    /// Tells what the configuration of these lines says.
+    /// Prints what the configuration of these lines says.
     fn read(&self, lines: &str, letters: usize, told: &mut Told) -> Result<(), Failure> {
         let text = self.text_of(lines, letters);
         if text.is_lost() {

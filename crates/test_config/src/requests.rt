@@ -1,4 +1,4 @@
-//! What is told of requests.
+//! What is printed of requests.
 
 use config::cells::{CellsFault, cells};
 use config::request::{Chosen, Request};
@@ -7,7 +7,7 @@ use std::alloc::Global;
 use test_scripts::failure::Failure;
 use test_scripts::told::Told;
 
-/// Tells what a request asks for, on one line.
+/// Prints what a request asks for, on one line.
 pub fn tell_request(alloc: Global, told: &mut Told, request: &Request) -> Result<(), Failure> {
     told.begin();
     add_chosen(told, &request.chosen);

@@ -46,7 +46,7 @@ impl Beginnings<'_> {
         Ok(())
     }
 
-    /// Tells a row, of which the first beginning has to be of so many bytes. Gives how many that of the next row has.
+    /// Prints a row, of which the first beginning is required to have so many bytes. Gives how many that of the next row has.
     fn tell_row(self, row: &str, next: usize, told: &mut Told) -> Result<usize, Failure> {
         let (head, answer) = row.split_once(": ").ok_or(Failure::Script)?;
         let mut is_kept = true;
@@ -65,7 +65,7 @@ impl Beginnings<'_> {
         Ok(end)
     }
 
-    /// Behind which number of bytes a row ends that begins with this one: `N`, or `N to N`.
+    /// After which number of bytes a row ends that begins with this one: `N`, or `N to N`.
     fn read_end(self, head: &str, next: usize) -> Result<usize, Failure> {
         let mut words = Words::new(head.as_bytes());
         let first = words.count();
@@ -84,7 +84,7 @@ impl Beginnings<'_> {
         }
     }
 
-    /// Whether the beginning of so many bytes is read so, or no text answered so. Else it is told what is wrong.
+    /// Whether the beginning of so many bytes is read so, or no text answered so. Else prints what is wrong.
     fn judge(self, length: Option<usize>, answer: &str, told: &mut Told) -> Result<bool, Failure> {
         let mut read = Told::new(self.alloc);
         self.read(length, &mut read)?;
@@ -103,7 +103,7 @@ impl Beginnings<'_> {
         Ok(is_so)
     }
 
-    /// Tells what is read of the beginning of so many bytes, or where there is no text.
+    /// Prints what is read of the beginning of so many bytes, or where there is no text.
     fn read(self, length: Option<usize>, told: &mut Told) -> Result<(), Failure> {
         let text = match length {
             Some(length) => Some(self.text.get(..length).unwrap_or_default()),
@@ -116,7 +116,7 @@ impl Beginnings<'_> {
     }
 }
 
-/// Tells what the name of a file says. A name without UID and letters is all base.
+/// Prints what the name of a file says. A name without UID and letters is all base.
 fn tell_read(alloc: Global, text: &[u8], told: &mut Told) -> Result<(), AllocError> {
     let Some(name) = read_name(text) else {
         told.text("no name");
@@ -135,7 +135,7 @@ fn tell_read(alloc: Global, text: &[u8], told: &mut Told) -> Result<(), AllocErr
     Ok(())
 }
 
-/// Tells the validity and the next UID of a mailbox without messages that has this meta file, or the fault.
+/// Prints the validity and the next UID of a mailbox without messages that has this meta file, or the fault.
 fn tell_opened(
     alloc: Global,
     meta: Option<&[u8]>,

@@ -71,7 +71,7 @@ fn make_socket(rt: &HostRuntime, path: &str) -> io::Result<()> {
     Ok(())
 }
 
-/// Tells what stands there, and of a file or a folder who may use it.
+/// Prints what stands there, and of a file or a folder who may use it.
 fn tell_kind(rt: &HostRuntime, path: &str, told: &mut Told) -> io::Result<()> {
     let found = fs::symlink_metadata(rt, path)?;
     told.begin();

@@ -23,7 +23,7 @@ pub trait OpenFolder: Folder + Drop {
     /// How many calls have stopped.
     fn stop_count(&self) -> usize;
 
-    /// Tells where it stopped and which files it left out, as far as it notes that.
+    /// Prints where it stopped and which files it left out, as far as it notes that.
     fn tell_notes(&self, told: &mut Told);
 
     /// Adds all files that stand there, in any order.
@@ -138,7 +138,7 @@ pub fn gather<F: OpenFolder>(
     Ok(files.sort_by(|a, b| a.path.as_slice().cmp(b.path.as_slice()))?)
 }
 
-/// Tells files, each as ` PATH "BYTES"`.
+/// Prints files, each as ` PATH "BYTES"`.
 pub fn tell_files(told: &mut Told, files: &[Standing]) {
     for file in files {
         told.text(" ");
@@ -152,7 +152,7 @@ fn tell_file(told: &mut Told, file: &Standing) {
     told.quoted(&file.bytes);
 }
 
-/// Tells what is otherwise than before: ` -PATH` for a file that has gone, ` +PATH "BYTES"` for one that has come or has other
+/// Prints what is otherwise than before: ` -PATH` for a file that has gone, ` +PATH "BYTES"` for one that has come or has other
 /// bytes; ` as before` where nothing is.
 pub fn tell_changes(told: &mut Told, before: &[Standing], now: &[Standing]) {
     let gone = tell_gone(told, before, now);

@@ -47,7 +47,7 @@ impl Ground {
         Ok(folder)
     }
 
-    /// Takes away what stands there. Where memory is wanting, it may be there the second time.
+    /// Takes away what stands there. Where memory runs out, it may be there the second time.
     fn clear(&self) {
         let path = self.path.as_str();
         if fs::remove_dir_all(&self.rt, path).is_err() {

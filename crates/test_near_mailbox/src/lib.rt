@@ -8,16 +8,16 @@
 //! | Line | Answer |
 //! |---|---|
 //! | `folder memory` | an empty folder in memory |
-//! | `folder memory stops STOP` | the same, where one call of the folder stops: STOP is `before CALL K`, `after CALL K` or `behind B CALL K`, in the K-th call of this name, behind B bytes of it |
+//! | `folder memory stops STOP` | the same, where one call of the folder stops: STOP is `before CALL K`, `after CALL K` or `behind B CALL K`, in the K-th call of this name, after B bytes of it |
 //! | `folder visited` | an empty folder in memory, to which others add files |
 //! | `folder disk` | an empty folder on a disk, among the temporary files. Paths are read from it from now on |
 //! | `folder at PATH` | a folder that stands on a disk already; nothing of it is changed by that |
 //! | `name NAME` | what the name of a file says, and how it is written |
-//! | `beginnings name NAME` | what each beginning of the name says, held against a rule: the lines behind this one, up to `.` |
+//! | `beginnings name NAME` | what each beginning of the name says, held against a rule: the lines after this one, up to `.` |
 //! | `beginnings meta V "BYTES"` | the same of a meta file: what a mailbox without messages is opened with that has this beginning of it, or, in the row `missing`, has none, so that its validity is V |
 //!
 //! A row of a rule is `N: ANSWER` or `N to N: ANSWER` for the beginnings of so many bytes. The rows name all of them in order. One that
-//! holds is told as it stands; else each beginning that is read otherwise is.
+//! holds is printed as it stands; else each beginning that is read otherwise is.
 //!
 //! What stands in a folder in memory before its mailbox is opened:
 //!
@@ -71,7 +71,7 @@
 //!
 //! | Line | Answer |
 //! |---|---|
-//! | `try V OPERATION`, `try V open` | a stop before and after each call of the folder that the operation makes, and behind each byte of a copy, each in a folder of its own: what is answered, how the files differ from those before (`-PATH` has gone, `+PATH "BYTES"` has come), what a new mailbox lists, and the same once the operation was called again |
+//! | `try V OPERATION`, `try V open` | a stop before and after each call of the folder that the operation makes, and after each byte of a copy, each in a folder of its own: what is answered, how the files differ from those before (`-PATH` has gone, `+PATH "BYTES"` has come), what a new mailbox lists, and the same once the operation was called again |
 #![tactic(auto)]
 
 mod beginnings;

@@ -94,7 +94,7 @@ pub fn append_copies<F: Folder>(
     tell_done(told, near.sync())
 }
 
-/// Tells how many of so many marks are found, as a pull that was stopped seeks its copies.
+/// Prints how many of so many marks are found, as a pull that was stopped seeks its copies.
 pub fn find_marks<F: Folder>(
     near: &mut NearBox<F>,
     marks: u32,

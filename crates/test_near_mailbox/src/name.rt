@@ -5,7 +5,7 @@ use maildir::name::{Name, read_name, write_name};
 use std::alloc::{AllocError, Global};
 use test_scripts::told::Told;
 
-/// Tells what the name of a file says, and how it is written.
+/// Prints what the name of a file says, and how it is written.
 pub fn tell_name(alloc: Global, text: &[u8], told: &mut Told) -> Result<(), AllocError> {
     let Some(name) = read_name(text) else {
         told.answer("no name");
@@ -25,7 +25,7 @@ pub fn tell_name(alloc: Global, text: &[u8], told: &mut Told) -> Result<(), Allo
     Ok(())
 }
 
-/// Tells the UID and the letters of a name.
+/// Prints the UID and the letters of a name.
 pub fn tell_parts(told: &mut Told, name: &Name<'_>) {
     match name.uid {
         Some(uid) => {

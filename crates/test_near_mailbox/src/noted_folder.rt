@@ -13,7 +13,7 @@ use std::alloc::Global;
 pub struct NotedFolder<F: Folder> {
     folder: F,
     calls: Vec<FolderCall>,
-    // Whether memory was wanting for a note.
+    // Whether memory ran out for a note.
     is_short: bool,
 }
 
@@ -42,7 +42,7 @@ impl<F: Folder> NotedFolder<F> {
         &self.calls
     }
 
-    /// Whether memory was wanting to note a call.
+    /// Whether memory ran out for the note of a call.
     pub fn is_short(&self) -> bool {
         self.is_short
     }

@@ -13,7 +13,7 @@ use test_scripts::told::Told;
 use test_scripts::words::Words;
 use texts::number::read_u32;
 
-/// Does what a line with this first word asks of a mailbox, and tells the answer or the fault, which it gives.
+/// Does what a line with this first word asks of a mailbox, prints the answer or the fault, and gives the fault.
 pub fn perform<F: Folder>(
     alloc: Global,
     near: &mut NearBox<F>,
@@ -41,7 +41,7 @@ pub fn perform<F: Folder>(
     }
 }
 
-/// The line is bad, whatever is told of it.
+/// The line is bad, whatever is printed of it.
 fn refuse(line: &mut Words<'_>) -> Option<NearFault> {
     line.refuse();
     None
@@ -109,13 +109,13 @@ pub fn read_uids(line: &mut Words<'_>, uids: &mut Vec<Uid>) -> Result<(), AllocE
     Ok(())
 }
 
-/// Tells a fault, and gives it.
+/// Prints a fault, and gives it.
 pub fn tell_fault(told: &mut Told, fault: NearFault) -> Option<NearFault> {
     told.shown(&fault);
     Some(fault)
 }
 
-/// Tells `ok`, or the fault.
+/// Prints `ok`, or the fault.
 pub fn tell_done(told: &mut Told, answer: Result<(), NearFault>) -> Option<NearFault> {
     match answer {
         Ok(()) => {
@@ -157,7 +157,7 @@ fn tell_listing(told: &mut Told, answer: Result<Listing, NearFault>) -> Option<N
     }
 }
 
-/// Tells the validity and the next UID of a mailbox.
+/// Prints the validity and the next UID of a mailbox.
 pub fn tell_numbers(told: &mut Told, validity: u32, next: u32) {
     told.text("validity ");
     told.number(u64::from(validity));
@@ -165,7 +165,7 @@ pub fn tell_numbers(told: &mut Told, validity: u32, next: u32) {
     told.number(u64::from(next));
 }
 
-/// Tells a message as `, UID FLAGS`, and `unfit` where it is not fit to be copied.
+/// Prints a message as `, UID FLAGS`, and `unfit` where it is not fit to be copied.
 fn tell_item(told: &mut Told, item: &Item) {
     told.text(", ");
     told.number(u64::from(item.uid.get()));

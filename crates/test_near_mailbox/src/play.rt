@@ -86,7 +86,7 @@ impl Desk<'_> {
         self.stage = stage;
     }
 
-    /// `name NAME` or `meta V "BYTES"`, and a rule in the lines behind it.
+    /// `name NAME` or `meta V "BYTES"`, and a rule in the lines after it.
     fn tell_beginnings(
         &self,
         line: &mut Words<'_>,

@@ -86,7 +86,7 @@ impl<F: OpenFolder> Seat<F> {
         }
     }
 
-    /// Does what a line with this first word asks of the mailbox, and tells the answer or the fault, which it gives.
+    /// Does what a line with this first word asks of the mailbox, prints the answer or the fault, and gives the fault.
     pub fn perform(
         &mut self,
         alloc: Global,
@@ -187,7 +187,7 @@ fn read_keywords(alloc: Global, line: &mut Words<'_>) -> Keywords {
     keywords
 }
 
-/// Tells the files in a folder, its calls, and how many have stopped.
+/// Prints the files in a folder, its calls, and how many have stopped.
 fn tell_folder<F: OpenFolder>(
     rt: &HostRuntime,
     folder: &NotedFolder<F>,

@@ -29,7 +29,7 @@ pub fn word_of(call: FolderCall) -> &'static str {
     }
 }
 
-/// `before CALL K`, `after CALL K` or `behind B CALL K`: a stop in the K-th call of this name, behind B bytes of it.
+/// `before CALL K`, `after CALL K` or `behind B CALL K`: a stop in the K-th call of this name, after B bytes of it.
 pub fn read_stop(line: &mut Words<'_>) -> Stop<FolderCall> {
     let moment = line.moment();
     let call = read_call(line);
@@ -52,7 +52,7 @@ pub fn read_call(line: &mut Words<'_>) -> FolderCall {
     FolderCall::Names
 }
 
-/// Tells a stop as `read_stop` reads it.
+/// Prints a stop as `read_stop` reads it.
 pub fn tell_stop(told: &mut Told, stop: Stop<FolderCall>) {
     match stop.moment {
         Moment::Before => told.text("before "),

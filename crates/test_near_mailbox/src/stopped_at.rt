@@ -6,7 +6,7 @@ use maildir::disk_stop::Part;
 use maildir::folder::FileName;
 use test_scripts::told::Told;
 
-/// Tells where a folder on a disk stopped and what the system said, and which files it left out, if any.
+/// Prints where a folder on a disk stopped and what the system said, and which files it left out, if any.
 pub fn tell_notes(told: &mut Told, folder: &DiskFolder<HostRuntime>) {
     if let Some(stop) = folder.stop() {
         told.text(", at ");

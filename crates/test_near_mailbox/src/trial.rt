@@ -36,11 +36,11 @@ struct Trial<'a> {
     operation: Words<'a>,
     /// The files in a new folder.
     before: Vec<Standing>,
-    /// Whether memory was wanting.
+    /// Whether memory ran out.
     is_short: bool,
 }
 
-/// `V OPERATION`: tells what each stop leaves, what a new mailbox lists then, and what the operation answers when it is called
+/// `V OPERATION`: prints what each stop leaves, what a new mailbox lists then, and what the operation answers when it is called
 /// again.
 pub fn try_stops(
     rt: &HostRuntime,
@@ -88,7 +88,7 @@ impl Trial<'_> {
     }
 
     /// Looks at the files of a new folder, and opens its mailbox. Gives the first call that is stopped: the first of all, or the first
-    /// behind the opening.
+    /// after the opening.
     fn prepare(&mut self, seat: &mut Seat<MemFolder>) -> Result<usize, Failure> {
         let mut operation = self.operation;
         if let Some(folder) = seat.close() {
@@ -105,7 +105,7 @@ impl Trial<'_> {
         }
     }
 
-    /// Stops each of these calls behind the first ones.
+    /// Stops each of these calls after the first ones.
     fn tell_calls(
         &mut self,
         calls: &[FolderCall],
@@ -119,7 +119,7 @@ impl Trial<'_> {
         Ok(())
     }
 
-    /// Stops the call of this name and number before, behind each byte of a copy, and after.
+    /// Stops the call of this name and number before, after each byte of a copy, and after the call.
     fn tell_moments(
         &mut self,
         call: FolderCall,
@@ -197,7 +197,7 @@ impl Trial<'_> {
         self.tell_state(seat, told)
     }
 
-    /// Tells what stands in the folder otherwise than at first, and what a new mailbox on it lists.
+    /// Prints what stands in the folder otherwise than at first, and what a new mailbox on it lists.
     fn tell_state(&mut self, seat: &mut Seat<MemFolder>, told: &mut Told) -> Result<(), Failure> {
         let mut now = Vec::new(self.rt.alloc());
         if let Some(folder) = seat.close() {
@@ -210,7 +210,7 @@ impl Trial<'_> {
         Ok(())
     }
 
-    /// Opens a mailbox, does what a line asks of it, and tells the answer. Behind a fault each operation has to stop.
+    /// Opens a mailbox, does what a line asks of it, and prints the answer. After a fault each operation is required to stop.
     fn act(&mut self, seat: &mut Seat<MemFolder>, line: &mut Words<'_>, told: &mut Told) {
         let alloc = self.rt.alloc();
         let word = line.word();
@@ -236,7 +236,7 @@ impl Trial<'_> {
         }
     }
 
-    /// Tells whether each operation is answered by `Stopped`.
+    /// Prints whether each operation is answered by `Stopped`.
     fn tell_behind(&mut self, seat: &mut Seat<MemFolder>, told: &mut Told) {
         let alloc = self.rt.alloc();
         let mut aside = Told::new(alloc);

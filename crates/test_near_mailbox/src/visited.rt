@@ -65,7 +65,7 @@ impl Visited {
         Ok(())
     }
 
-    /// Tells the files of the folder with all that has come.
+    /// Prints the files of the folder with all that has come.
     fn leave(&mut self, rt: &HostRuntime, told: &mut Told) -> Result<(), Failure> {
         let Some(folder) = self.seat.close() else {
             return Err(Failure::Script);

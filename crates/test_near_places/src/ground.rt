@@ -48,7 +48,7 @@ impl Ground {
         env::set_current_dir(&self.rt, path)
     }
 
-    /// Takes away the folder. Where memory is wanting, it may be there the second time.
+    /// Takes away the folder. Where memory runs out, it may be there the second time.
     fn remove(&self) {
         let path = self.path.as_str();
         if fs::remove_dir_all(&self.rt, path).is_err() {

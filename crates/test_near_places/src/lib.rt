@@ -17,7 +17,7 @@
 //! |---|---|
 //! | `home PATH`, `home` | from now on this is the home folder; none is known |
 //! | `store PATH INBOX` | from now on these are the words Path and Inbox of the store |
-//! | `boxes` | the names of its mailboxes, and behind `skipped` those of the mailboxes that are left out because of them; or the fault |
+//! | `boxes` | the names of its mailboxes, and after `skipped` those of the mailboxes that are left out because of them; or the fault |
 //! | `where NAME` | the folder of its mailbox of this name, or the fault |
 //! | `lock PATH` | the lock of the mailbox in this folder is taken, and held beside others: `held`, or the fault |
 //! | `unlock` | the lock that was taken last is let go |

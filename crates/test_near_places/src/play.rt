@@ -137,7 +137,7 @@ impl Scene<'_> {
     }
 }
 
-/// Tells which mailboxes are left out because of their names.
+/// Prints which mailboxes are left out because of their names.
 fn tell_skipped(told: &mut Told, skipped: &[String]) {
     for name in skipped {
         told.begin();

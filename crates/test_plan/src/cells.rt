@@ -8,7 +8,7 @@ use test_scripts::failure::Failure;
 use test_scripts::told::Told;
 use test_scripts::words::Words;
 
-/// `"WORDS"` or nothing: tells the cells that these words, with a space between them, or no words choose.
+/// `"WORDS"` or nothing: prints the cells that these words, with a space between them, or no words choose.
 pub fn tell_cells(alloc: Global, told: &mut Told, line: &mut Words<'_>) -> Result<(), Failure> {
     if line.is_over() {
         tell_chosen(told, &[]);
@@ -20,7 +20,7 @@ pub fn tell_cells(alloc: Global, told: &mut Told, line: &mut Words<'_>) -> Resul
     Ok(())
 }
 
-/// Tells the cells that words choose, or why they choose none.
+/// Prints the cells that words choose, or why they choose none.
 fn tell_chosen(told: &mut Told, words: &[&[u8]]) {
     match sync_ops(words) {
         Ok(cells) => {

@@ -18,13 +18,13 @@ pub fn with_line(
     Ok(joined(alloc, &[before, &bytes, behind])?)
 }
 
-/// `"BYTES"`: the world with these bytes behind it.
+/// `"BYTES"`: the world with these bytes after it.
 pub fn with_more(alloc: Global, world: &[u8], line: &mut Words<'_>) -> Result<Vec<u8>, Failure> {
     let bytes = read_bytes(alloc, line)?;
     Ok(joined(alloc, &[world, &bytes])?)
 }
 
-/// `line N by COUNT`: the world in which the message of line N has so many letters more behind its last byte. `Script`: that line
+/// `line N by COUNT`: the world in which the message of line N has so many letters more after its last byte. `Script`: that line
 /// is no message.
 pub fn grown(alloc: Global, world: &[u8], line: &mut Words<'_>) -> Result<Vec<u8>, Failure> {
     pass(line, "line");
@@ -50,7 +50,7 @@ pub fn around(text: &[u8], number: u32) -> Option<(&[u8], &[u8], &[u8])> {
     Some((before, line, rest.get(line.len()..)?))
 }
 
-/// These texts, one behind the other.
+/// These texts, one after the other.
 fn joined(alloc: Global, texts: &[&[u8]]) -> Result<Vec<u8>, AllocError> {
     let mut made = Vec::new(alloc);
     for text in texts {

@@ -29,7 +29,7 @@ struct Met {
     out_of_bounds: usize,
 }
 
-/// `COUNT`: tells in how many of so many drawn worlds the planner answers otherwise than the plain one, and in how many it takes
+/// `COUNT`: prints in how many of so many drawn worlds the planner answers otherwise than the plain one, and in how many it takes
 /// fewer or more turns than it may.
 pub fn tell_compared(alloc: Global, told: &mut Told, line: &mut Words<'_>) -> Result<(), Failure> {
     let count = line.count();

@@ -67,7 +67,7 @@ pub fn read_devices(word: &str, line: &mut Words<'_>) -> Devices {
 pub struct Source<'a> {
     /// The bytes that are not read yet.
     pub rest: &'a [u8],
-    /// Whether they come one at a time, with a fault behind them.
+    /// Whether they come one at a time, with a fault after them.
     pub fails: bool,
 }
 

@@ -28,7 +28,7 @@ pub struct DrawnWorld {
 }
 
 impl Numbers {
-    /// The row that begins behind this number.
+    /// The row that begins after this number.
     pub fn new(seed: u64) -> Numbers {
         Numbers { last: seed }
     }
@@ -143,7 +143,7 @@ impl Numbers {
     }
 }
 
-/// Adds a message, if it may stand behind the others.
+/// Adds a message, if it may follow the others.
 fn put_item(items: &mut Items, item: Item) -> Result<(), AllocError> {
     match items.push(item) {
         Err(PushFault::NoMemory) => Err(AllocError),
@@ -151,7 +151,7 @@ fn put_item(items: &mut Items, item: Item) -> Result<(), AllocError> {
     }
 }
 
-/// Adds an entry, if it may stand behind the others.
+/// Adds an entry, if it may follow the others.
 fn put_entry(entries: &mut Entries, entry: Entry) -> Result<(), AllocError> {
     match entries.push(entry) {
         Err(PushFault::NoMemory) => Err(AllocError),

@@ -2,19 +2,19 @@
 //! mail that stand in them.
 //!
 //! Bytes stand between quotes and are escaped as in worlds (docs/FORMATS.md). Of worlds and of words of Sync they may stand between
-//! bars too, for themselves. A world stays the last one until the next, also behind a line `case`.
+//! bars too, for themselves. A world stays the last one until the next, also after a line `case`.
 //!
 //! Worlds, and what `mbplan` does with them:
 //!
 //! | Line | Answer |
 //! |---|---|
-//! | `world`, then its lines, then a line `.` | what `mbplan` prints on this world, what it tells on standard error, and its status |
+//! | `world`, then its lines, then a line `.` | what `mbplan` prints for this world on standard output and standard error, and its status |
 //! | `line N "BYTES"` | the same on the last world with this line in place of line N |
-//! | `behind "BYTES"` | the same with these bytes behind it |
+//! | `behind "BYTES"` | the same with these bytes after it |
 //! | `grow line N by COUNT` | the same, once the message of line N has so many letters more; the world stays so |
 //! | `beginnings` | the same on each beginning of the last world, where those with one answer stand together |
 //! | `reader fails` | the same, where the reader gives one byte at a time and then fails |
-//! | `writer takes COUNT bytes`, `error writer takes COUNT bytes` | the same, where standard output or standard error fails behind so many bytes |
+//! | `writer takes COUNT bytes`, `error writer takes COUNT bytes` | the same, where standard output or standard error fails after so many bytes |
 //! | `writer cannot be flushed`, `argument given` | the same in these cases |
 //! | `written`, `written from far`, `written from far admitted` | how the last world, its part from `far` on, or this part with its waiting files admitted is written |
 //! | `written line N "BYTES"` | line N of the last world as it is written, once it is read with these bytes |

@@ -12,7 +12,7 @@ use test_scripts::failure::Failure;
 use test_scripts::told::Told;
 use test_scripts::words::Words;
 
-/// `"BYTES"` behind a question: tells the mark that they spell or bear, what they say, or the flags that they name.
+/// `"BYTES"` after a question: prints the mark that they spell or bear, what they say, or the flags that they name.
 pub fn tell_of_message(
     alloc: Global,
     told: &mut Told,
@@ -35,7 +35,7 @@ pub fn tell_of_message(
     Ok(())
 }
 
-/// `SIDE "BYTES"`, or `SIDE MARK "BYTES"` for `copy`: tells how long what they say is on this side, their copy there and how
+/// `SIDE "BYTES"`, or `SIDE MARK "BYTES"` for `copy`: prints how long what they say is on this side, their copy there and how
 /// long it is, or whether they can be copied from there.
 pub fn tell_of_side(
     alloc: Global,
@@ -71,7 +71,7 @@ fn tell_quoted(told: &mut Told, bytes: &[u8]) {
     told.end();
 }
 
-/// Tells the letters of flags, and the names in IMAP of those that have one whatever the map of keywords.
+/// Prints the letters of flags, and the names in IMAP of those that have one whatever the map of keywords.
 fn tell_flags(told: &mut Told, flags: Option<Flags>) {
     let Some(flags) = flags else {
         told.answer("none");

@@ -24,7 +24,7 @@ pub fn read_marks(alloc: Global, line: &mut Words<'_>) -> Result<Vec<Tuid>, Fail
     Ok(marks)
 }
 
-/// `COUNT counting` or `COUNT constant`: tells the marks that are drawn, and how many words were drawn.
+/// `COUNT counting` or `COUNT constant`: prints the marks that are drawn, and how many words were drawn.
 pub fn tell_drawn(alloc: Global, told: &mut Told, line: &mut Words<'_>) -> Result<(), Failure> {
     let count = line.count();
     let step = match line.word() {
@@ -49,7 +49,7 @@ pub fn tell_drawn(alloc: Global, told: &mut Told, line: &mut Words<'_>) -> Resul
     Ok(())
 }
 
-/// Tells a mark, or that there is none.
+/// Prints a mark, or that there is none.
 pub fn tell_mark(told: &mut Told, mark: Option<Tuid>) {
     told.begin();
     match mark {

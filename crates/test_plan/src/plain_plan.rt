@@ -207,7 +207,7 @@ impl<'a> Plain<'a> {
         }
     }
 
-    /// A message's flags behind the other steps.
+    /// A message's flags after the other steps.
     fn flags_then(&self, side: Side, number: u32, flags: Flags) -> Flags {
         let Some(entry) = self.full(side, number) else {
             return flags;

@@ -17,7 +17,7 @@ use test_scripts::told::Told;
 use test_scripts::words::Words;
 use worlds::world::{Waiting, World};
 
-/// Tells what a call of the planner answers on the world of a text: `news`, `unfit`, or `plan` with the marks that the rest of the
+/// Prints what a call of the planner answers on the world of a text: `news`, `unfit`, or `plan` with the marks that the rest of the
 /// line names. `Script`: the text is no world, or the plan wants another number of marks.
 pub fn tell_planned(
     alloc: Global,
@@ -115,7 +115,7 @@ fn tell_side(told: &mut Told, name: &str, side: &PlanSide) {
     told.end();
 }
 
-/// Tells a step, with the flags and the mark of a copy.
+/// Prints a step, with the flags and the mark of a copy.
 fn tell_step(told: &mut Told, step: &Step) {
     told.begin();
     told.shown(&StepLine(step));

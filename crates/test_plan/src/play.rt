@@ -61,7 +61,7 @@ impl Player for LastWorld {
 }
 
 impl LastWorld {
-    /// Tells what is asked of the last world.
+    /// Prints what is asked of the last world.
     fn ask(&self, word: &str, line: &mut Words<'_>, told: &mut Told) -> Result<(), Failure> {
         let (alloc, world) = (self.alloc, self.text.as_slice());
         match word {
@@ -87,7 +87,7 @@ impl LastWorld {
     }
 }
 
-/// Tells what is asked of words of mail.
+/// Prints what is asked of words of mail.
 fn ask_mail(
     alloc: Global,
     word: &str,

@@ -6,11 +6,11 @@ use std::alloc::Global;
 use test_scripts::failure::Failure;
 use test_scripts::told::Told;
 
-/// What standard error is told where memory runs out.
+/// What standard error gets where memory runs out.
 const NO_MEMORY: &[u8] = b"mbplan: no memory\n";
 
-/// Tells what a run on this world prints, what it tells on standard error, how many bytes it leaves unread, and its status.
-/// `NoMemory`: also where the run tells it; a writer that cuts this short hides it.
+/// Prints what a run on this world writes to standard output and standard error, how many bytes it leaves unread, and its status.
+/// `NoMemory`: also where the run reports it; a writer that cuts this short hides it.
 pub fn tell_run(
     alloc: Global,
     told: &mut Told,
@@ -55,7 +55,7 @@ fn tell_number(told: &mut Told, before: &str, number: u64, behind: &str) {
     told.end();
 }
 
-/// Tells each line of a text, behind the name of the text. A line that has no end says so.
+/// Prints each line of a text, after the name of the text. A line that has no end says so.
 pub fn tell_lines(told: &mut Told, name: &str, text: &[u8]) {
     for line in text.split_inclusive(|byte| *byte == b'\n') {
         told.begin();
@@ -71,7 +71,7 @@ pub fn tell_lines(told: &mut Told, name: &str, text: &[u8]) {
     }
 }
 
-/// Tells what a run gives on each beginning of a world but the whole. Beginnings with one answer stand together.
+/// Prints what a run gives on each beginning of a world but the whole. Beginnings with one answer stand together.
 pub fn tell_beginnings(alloc: Global, told: &mut Told, world: &[u8]) -> Result<(), Failure> {
     let mut is_whole = true;
     let mut first = 0;
@@ -94,7 +94,7 @@ pub fn tell_beginnings(alloc: Global, told: &mut Told, world: &[u8]) -> Result<(
     }
 }
 
-/// Tells what the beginnings of these lengths give, up to the second length and without it.
+/// Prints what the beginnings of these lengths give, up to the second length and without it.
 fn tell_range(told: &mut Told, first: usize, end: usize, answer: &str) {
     if first < end {
         told.begin();

@@ -43,7 +43,7 @@ impl Bounds {
     }
 }
 
-/// Tells within which bounds the turns are that the planner takes on the world of a text, with the marks that the rest of the line
+/// Prints within which bounds the turns are that the planner takes on the world of a text, with the marks that the rest of the line
 /// names. `Script`: the text is no world, or the plan wants another number of marks.
 pub fn tell_turns(
     alloc: Global,

@@ -12,7 +12,7 @@ use worlds::read::read_world;
 use worlds::world::{Waiting, World};
 use written_worlds::write::{write_from_far, write_world};
 
-/// Tells how what the rest of the line says is written of a world: all of it, a line, or its part from `far` on.
+/// Prints how what the rest of the line says is written of a world: all of it, a line, or its part from `far` on.
 pub fn tell_written(
     alloc: Global,
     told: &mut Told,
@@ -35,7 +35,7 @@ pub fn tell_written(
     tell_part(alloc, told, world, Some(waiting))
 }
 
-/// `N "BYTES"`: tells how line N is written, once the world has these bytes there.
+/// `N "BYTES"`: prints how line N is written, once the world has these bytes there.
 fn tell_line(
     alloc: Global,
     told: &mut Told,

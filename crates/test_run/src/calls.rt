@@ -127,7 +127,7 @@ impl Schedule {
         }
     }
 
-    /// Adds a stop behind the others.
+    /// Adds a stop after the others.
     fn stop(&mut self, stop: Stop<Call>) -> Result<(), Failure> {
         let Stop {
             call,

@@ -1,4 +1,4 @@
-//! Runs over mailboxes and a shelf in memory, with the marks of the trial generator. Of a run it is told what `mbtrial` prints of a
+//! Runs over mailboxes and a shelf in memory, with the marks of the trial generator. Of a run is printed what `mbtrial` prints of a
 //! trial: what it came to, what became of its steps, and the world from its line `far` on (docs/FORMATS.md, "Trial").
 //!
 //! A case has these lines, those that say what stops before its first run.
@@ -14,7 +14,7 @@
 //! | `run N` | a run is made in up to N attempts, over what the one before it left |
 //!
 //! The calls of the far mailbox are `far.open`, `far.list`, `far.find_mark`, `far.load`, `far.append`, `far.add_flags`,
-//! `far.remove_flags` and `far.expunge`. Those of the near mailbox have the same names behind `near.`, and two more are `near.admit`
+//! `far.remove_flags` and `far.expunge`. Those of the near mailbox have the same names after `near.`, and two more are `near.admit`
 //! and `near.sync`. Those of the shelf are `shelf.read`, `shelf.append`, `shelf.replace` and `shelf.remove`. `near.sync` and the calls
 //! of the shelf are not refused. Calls are counted over the whole case.
 #![tactic(auto)]

@@ -34,7 +34,7 @@ struct Runs {
     journal: Option<Vec<u8>>,
     /// Which calls stop or are refused, until the first run.
     schedule: Schedule,
-    /// What stands behind the last run.
+    /// What the last run left.
     stage: Option<Stage>,
 }
 
@@ -75,7 +75,7 @@ impl Runs {
         Ok(())
     }
 
-    /// Makes a run, and tells of it.
+    /// Makes a run, and prints what came of it.
     fn run(&mut self, tries: u32, told: &mut Told) -> Result<(), Failure> {
         let stage = match self.stage.take() {
             Some(stage) => Ok(stage),
@@ -101,7 +101,7 @@ impl Runs {
     }
 }
 
-/// Tells what a run came to, and what it left.
+/// Prints what a run came to, and what it left.
 fn tell_run(alloc: Global, told: &mut Told, stage: &Stage, ending: &Ending) -> Result<(), Failure> {
     told.lines(&ending.text(alloc)?);
     told.lines(&left_in(alloc, &stage.parts)?);

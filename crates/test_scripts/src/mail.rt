@@ -28,7 +28,7 @@ pub fn read_message(alloc: Global, line: &mut Words<'_>) -> Result<Message, Fail
     })
 }
 
-/// An answer for each line of what a server said. A line that does not end with CR LF is told so.
+/// An answer for each line of what a server said. A line that does not end with CR LF is marked so.
 pub fn tell_replies(told: &mut Told, replies: &[u8]) {
     for line in replies.split_inclusive(|byte| *byte == b'\n') {
         told.begin();

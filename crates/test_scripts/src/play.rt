@@ -11,7 +11,7 @@ pub trait Player {
     /// A line `case NAME`: what follows begins anew.
     fn begin(&mut self) -> Result<(), Failure>;
 
-    /// Plays a line: what it answers is told in the transcript. `Script`: it has no meaning here.
+    /// Plays a line: what it answers is printed in the transcript. `Script`: it has no meaning here.
     fn play(&mut self, line: &mut Words<'_>, script: &mut Script<'_>) -> Result<(), Failure>;
 
     /// Ends the script.
@@ -19,7 +19,7 @@ pub trait Player {
 }
 
 /// Plays the lines of a script, up to the next one that says who plays. Empty lines and those that begin with `#` are comments.
-/// From a line `clock` on, standard error is told how many microseconds each line took.
+/// From a line `clock` on, standard error gets how many microseconds each line took.
 ///
 /// `Line`: that line is bad.
 pub fn play_all<P: Player>(

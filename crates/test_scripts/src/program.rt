@@ -11,7 +11,7 @@ pub trait Libraries {
     fn play(&self, rt: &HostRuntime, name: &[u8], script: &mut Script<'_>) -> Result<(), Failure>;
 }
 
-/// Plays standard input and prints the transcript. Where a line is bad, its number is told on standard error behind the name of
+/// Plays standard input and prints the transcript. Where a line is bad, its number is printed on standard error after the name of
 /// the program, and nothing is printed.
 pub fn play_input<L: Libraries>(rt: &HostRuntime, name: &str, libraries: &L) -> ExitCode {
     match run(rt, libraries) {

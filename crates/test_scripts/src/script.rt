@@ -5,7 +5,7 @@ use crate::told::Told;
 use std::alloc::Global;
 use texts::cut::cut;
 
-/// With which word the line begins that says who plays the lines behind it.
+/// The word with which the line begins that says who plays the lines after it.
 const HEAD: &[u8] = b"script ";
 
 /// A script from its next line on. Lines that were taken stand in the transcript.
@@ -42,7 +42,7 @@ impl<'a> Script<'a> {
         self.number
     }
 
-    /// Takes the line that says who plays the lines behind it, and gives the name.
+    /// Takes the line that says who plays the lines after it, and gives the name.
     pub fn next_head(&mut self) -> Option<&'a [u8]> {
         if !self.rest.starts_with(HEAD) {
             return None;

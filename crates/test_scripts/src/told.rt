@@ -1,4 +1,4 @@
-//! What is told: the lines of a script, and the answers behind them.
+//! The transcript: the lines of a script, each followed by its answers.
 
 use mailcore::flags::Flags;
 use std::alloc::Global;
@@ -27,12 +27,12 @@ impl Told {
         }
     }
 
-    /// What was told.
+    /// The text so far.
     pub fn as_str(&self) -> &str {
         self.text.as_str()
     }
 
-    /// Whether something could not be told for want of memory.
+    /// Whether something was lost because memory ran out.
     pub fn is_lost(&self) -> bool {
         self.is_lost
     }

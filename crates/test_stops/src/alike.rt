@@ -37,12 +37,12 @@ pub(crate) enum Unlike {
     Run,
     /// The waiting files are others.
     Waiting,
-    /// Memory ran out: it cannot be told.
+    /// Memory ran out: the answer is not known.
     NoMemory,
 }
 
 impl Unlike {
-    /// How it is told.
+    /// How it is printed.
     pub(crate) fn text(self) -> &'static str {
         match self {
             Unlike::Given(_) => "another number of UIDs was given",
@@ -58,7 +58,7 @@ impl Unlike {
         }
     }
 
-    /// The side that it is told of, if it is one.
+    /// The side that it is about, if it is about one.
     pub(crate) fn side(self) -> Option<Side> {
         match self {
             Unlike::Given(side)

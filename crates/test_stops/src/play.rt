@@ -82,7 +82,7 @@ impl Stops<'_> {
         self.compare(&found, told)
     }
 
-    /// Tells whether this end is alike to the outcome.
+    /// Prints whether this end is alike to the outcome.
     fn compare(&self, found: &World, told: &mut Told) -> Result<(), Failure> {
         let (Some(opening), Some(outcome)) = (&self.opening, &self.outcome) else {
             return Err(Failure::Script);
@@ -101,7 +101,7 @@ impl Stops<'_> {
         Ok(())
     }
 
-    /// `each stop`, `each beginning`, `each pair`, `each beginning and stop`: tells how many were met.
+    /// `each stop`, `each beginning`, `each pair`, `each beginning and stop`: prints how many were met.
     fn sweep(&mut self, kind: &[u8], told: &mut Told) -> Result<(), Failure> {
         let world = self.world.as_slice();
         let (stops, cuts) = (&mut self.singles, &mut self.beginnings);

@@ -60,13 +60,13 @@ impl<'a> Sweep<'a> {
         met
     }
 
-    /// Makes the run with these stops. Whether it met them all; if it came to something else than the unbroken one, that is told.
+    /// Makes the run with these stops. Whether it met them all; if it came to something else than the unbroken one, that is printed.
     fn check(&mut self, told: &mut Told, stops: &[Halt]) -> Result<bool, Failure> {
         let run = run_of(self.rt, self.text, stops)?;
         self.judge(told, stops, &run)
     }
 
-    /// Tells a run that came to something else than the unbroken one. Whether it met all of these stops.
+    /// Prints a run that came to something else than the unbroken one. Whether it met all of these stops.
     fn judge(&mut self, told: &mut Told, stops: &[Halt], run: &Run) -> Result<bool, Failure> {
         let count = stops.len() as u64;
         let verdict = match run.stops {
@@ -99,7 +99,7 @@ impl<'a> Sweep<'a> {
         Ok(alike(self.rt.alloc(), ends).err())
     }
 
-    /// Each stop before and behind a call that the unbroken run makes: those that were met.
+    /// Each stop before and after a call that the unbroken run makes: those that were met.
     pub(crate) fn each_stop(&mut self, told: &mut Told) -> Result<Vec<Halt>, Failure> {
         let mut met = Vec::new(self.rt.alloc());
         for call in CALLS {
@@ -108,7 +108,7 @@ impl<'a> Sweep<'a> {
         Ok(met)
     }
 
-    /// The same behind another stop, at the calls of this name, from the one with this number on.
+    /// The same after another stop, at the calls of this name, from the one with this number on.
     fn each_of(
         &mut self,
         told: &mut Told,
@@ -150,8 +150,8 @@ impl<'a> Sweep<'a> {
         }
     }
 
-    /// Each append that the unbroken run makes, cut behind each of its bytes but the last: those that were met. A cut behind the last
-    /// byte comes to what a stop behind the call does.
+    /// Each append that the unbroken run makes, cut after each of its bytes but the last: those that were met. A cut after the last
+    /// byte comes to what a stop after the call does.
     pub(crate) fn each_beginning(&mut self, told: &mut Told) -> Result<Vec<Halt>, Failure> {
         let mut met = Vec::new(self.rt.alloc());
         for number in 1..MOST_CALLS {
@@ -169,7 +169,7 @@ impl<'a> Sweep<'a> {
         Ok(met)
     }
 
-    /// The append of this number, cut behind each of its bytes but the last: those that were met. The other run stopped behind it.
+    /// The append of this number, cut after each of its bytes but the last: those that were met. The other run stopped after it.
     fn each_part(
         &mut self,
         told: &mut Told,
@@ -194,7 +194,7 @@ impl<'a> Sweep<'a> {
         Ok(())
     }
 
-    /// Each of the stops at calls, with each of those behind it and with each that the resumed attempt alone comes to.
+    /// Each of the stops at calls, with each of those after it and with each that the resumed attempt alone comes to.
     pub(crate) fn each_pair(&mut self, told: &mut Told, stops: &[Halt]) -> Result<(), Failure> {
         for (place, first) in stops.iter().enumerate() {
             let others = stops.get(place.saturating_add(1)..).unwrap_or_default();
@@ -216,7 +216,7 @@ impl<'a> Sweep<'a> {
         Ok(())
     }
 
-    /// One stop, with each of the others, and with each behind the calls at which the unbroken run stops.
+    /// One stop, with each of the others, and with each after the calls at which the unbroken run stops.
     fn each_second(
         &mut self,
         told: &mut Told,
@@ -302,7 +302,7 @@ fn stops_in(text: &[u8]) -> Option<u64> {
     words.nth(1)?.parse().ok()
 }
 
-/// Tells which stops left something else.
+/// Prints which stops left something else.
 fn tell(told: &mut Told, stops: &[Halt], side: Option<&'static str>, text: &str) {
     told.begin();
     for (place, stop) in stops.iter().enumerate() {

@@ -1,4 +1,4 @@
-//! Worlds before and behind a run.
+//! Worlds before and after a run.
 
 use mailcore::mailbox::Mailbox;
 use mailcore::side::Side;
