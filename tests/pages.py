@@ -1,7 +1,7 @@
 #!/usr/bin/env python3
 """Checks what people read of this repository against what it is read about: that generated pages are current, that each link leads
-somewhere, that README and docs/ keep their limits, that calls whose errors say too little are listed, and that each planted bug can still
-be planted. Builds nothing. Ends with the line `N passed, M failed`."""
+somewhere, that README and docs/ keep their limits, that they and the comments of crates have no words that CONTRIBUTING.md replaces, that
+calls whose errors say too little are listed, and that each planted bug can still be planted. Builds nothing. Ends with the line `N passed, M failed`."""
 import glob
 import os
 import pathlib
@@ -14,6 +14,20 @@ from tests.support.places import TOP, parser_of
 from tests.support.tally import Tally
 
 README_WORDS, DOCS_WORDS, CONTENTS_FROM = 900, 22_000, 150
+# Words that CONTRIBUTING.md replaces. "Tells you" may stand: it speaks to the reader.
+UNUSUAL = re.compile(r"\b(?:behind|told|tells?(?! you\b)|taken\s+up|takes\s+up|kept\s+alike|passed\s+over|keeps\s+its\s+word)\b", re.I)
+# The crates and pages that still have such words. One that has none any more leaves this list, which is to become empty.
+NOT_SWEPT = """
+    channels config device guarded imap_answers imap_client imap_commands imap_link imap_messages imap_replies imap_server imap_session
+    law_session link_face mem_link near_places outside passed_marks reply_buf run_both run_pair run_states run_trial runner serve test_client
+    test_face test_lying test_server test_trials test_wanting test_wire trial_imapd wire_reader wire_strings wire_tokens
+    docs/ARCHITECTURE.md docs/CLIENT.md docs/DECISIONS.md docs/GUARANTEES.md docs/RUN.md docs/WIRE.md
+""".split()
+# The comment of a line, by the ending of its file: what follows the first mark that stands in no literal.
+COMMENT = {
+    ".rt": re.compile(r"""(?:[^"'/]|"(?:\\.|[^"\\])*"|'(?:\\.|[^'\\])'|'|/(?!/))*//[/!]?(.*)"""),
+    ".antt": re.compile(r"(?:.*?\s)?--(?=\s|$)(.*)"),
+}
 LINK = re.compile(r"(?<!!)\[[^\]]*\]\(([^)\s]+)\)|!\[[^\]]*\]\(([^)\s]+)\)")
 
 
@@ -69,6 +83,48 @@ def sizes(tally):
             tally.check(f"{page} has a table of contents", any(line.count("](#") for line in lines[:30]))
 
 
+def comments(path):
+    """The comments of a source file, each on its line."""
+    mark = COMMENT[os.path.splitext(path)[1]]
+    found = [mark.match(line) for line in read(path).splitlines()]
+    return "\n".join(it[1] if it else "" for it in found)
+
+
+def unusual(text):
+    """The unusual words of a text, each with the number of its line. Code and what is quoted do not count."""
+    text = re.sub(r"^```.*?^```", lambda block: "\n" * block[0].count("\n"), text, flags=re.M | re.S)
+    text = re.sub(r'`[^`\n]*`|"[^"\n]*"', "", text)
+    return [(text.count("\n", 0, it.start()) + 1, " ".join(it[0].split())) for it in UNUSUAL.finditer(text)]
+
+
+def sources(crate):
+    """The files of a crate that have comments."""
+    found = [path for part in ("src", "specs", "proofs") for path in glob.glob(f"crates/{crate}/{part}/**", root_dir=TOP, recursive=True)]
+    return sorted(path for path in found if os.path.splitext(path)[1] in COMMENT)
+
+
+def words(tally):
+    """Pages and comments have no unusual words, but for those that are not swept."""
+    texts = [(page, page, read(os.path.join(TOP, page))) for page in pages() if not page.startswith("crates/")]
+    for crate in sorted(os.listdir(os.path.join(TOP, "crates"))):
+        texts += [(crate, path, comments(os.path.join(TOP, path))) for path in sources(crate)]
+    unswept = set()
+    for of, path, text in texts:
+        found = [f"{path}:{line}: {word!r}" for line, word in unusual(text)]
+        if of in NOT_SWEPT:
+            unswept |= {of} if found else set()
+        elif found:
+            for it in found:
+                tally.fails(it)
+        else:
+            tally.passes()
+    for of in NOT_SWEPT:
+        if of in unswept:
+            tally.passes()
+        else:
+            tally.fails(f"{of} has no unusual words: take it out of NOT_SWEPT")
+
+
 def planted(edit):
     """What a planted bug replaces, in turn: a file, the text there, and the text that it puts there, each of one line, as rt reads them."""
     found, file, old = [], None, None
@@ -111,6 +167,7 @@ def main():
     is_current(tally, "bin/silent-refusals")
     links(tally)
     sizes(tally)
+    words(tally)
     bugs(tally)
     tally.end()
 
