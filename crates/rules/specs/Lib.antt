@@ -21,3 +21,4 @@ pub mod AlikeBy
 pub mod Renaming
 pub mod Alike
 pub mod AlikeExamples
+pub mod ValidityExamples
