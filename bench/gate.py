@@ -1,17 +1,18 @@
 #!/usr/bin/env python3
-"""Runs the gate on a clean clone of HEAD and prints what it cost, crate by crate, as the table of docs/GATE.md.
+"""Runs the gate on a clean clone of HEAD and prints what it cost, crate by crate, as the table bench/gate.tsv.
 
 usage: bench/gate.py [--kept] [--compare OLD] [LOG]
 
 First tests/pages.py looks whether generated pages are current. The gate is `rt ci`, and here it proves all anew: what earlier runs on
-this machine kept is not taken, unless `--kept` asks for it; the table then has what was left to do. What the gate prints goes to LOG (gate.log in the folder for temporary files
-where none is given). Minutes are processor minutes, asked of the system twice a second while the checks run: a check's last
-half second may be missing, and what no check used (compilers, linkers, the programs) is in the line `all else`. Run it
-with nothing beside it. Control-C ends it, and prints what it cost so far.
+this machine kept is not taken, unless `--kept` asks for it; the table then has what was left to do. What the gate prints goes to LOG
+(gate.log in the folder for temporary files where none is given). Minutes are processor minutes, asked of the system twice a second while
+the checks run: a check's last half second may be missing, and what no check used (compilers, linkers, the programs) is in the line
+`all else`. Run it with nothing beside it. Control-C ends it, and prints what it cost so far.
 
-With `--compare OLD`, a file with such a table (docs/GATE.md, say), the crates that grew or shrank are printed after the table, and
-the sums. Processors differ by the hour: a crate counts only where it changed by more than a quarter, once the minutes of the crates
-that both tables have are set to one sum, and by more than half a minute.
+The cells of the table have tabs between them. With `--compare OLD`, a file with such a table (bench/gate.tsv, say, or what an earlier run
+printed), the crates that grew or shrank are printed after the table, and the sums. Processors differ by the hour: a crate counts only
+where it changed by more than a quarter, once the minutes of the crates that both tables have are set to one sum, and by more than half a
+minute.
 """
 import argparse
 import collections
@@ -25,6 +26,7 @@ import time
 
 TOP = os.path.dirname(os.path.dirname(os.path.realpath(__file__)))
 KINDS = ("proof", "tests", "wrong bodies")
+REST, SUM = "all else", "together"
 TICKS = os.sysconf("SC_CLK_TCK")
 
 
@@ -109,8 +111,8 @@ def in_order(clone):
 def table_in(path):
     """The minutes of each crate, by the last column of the table in this file."""
     with open(path, encoding="utf-8") as text:
-        rows = [[it.strip() for it in line.split("|")] for line in text if line.startswith("`") and "|" in line]
-    return {row[0].strip("`"): float(row[-1]) for row in rows}
+        rows = [line.rstrip("\n").split("\t") for line in text]
+    return {row[0]: float(row[-1]) for row in rows if len(row) > 2 and row[0] not in ("Crate", REST, SUM)}
 
 
 def print_changes(old, new):
@@ -132,13 +134,13 @@ def print_table(clone, used, checks):
     for check in checks:
         minutes[check.crate, check.kind] += check.seconds / 60
     kinds = [kind for kind in KINDS if any(of == kind for _, of in minutes)]
-    print(f"Crate | {' | '.join(kind.capitalize() for kind in kinds)} | Together\n{'---|' * (len(kinds) + 1)}---")
+    print("Crate", *[kind.capitalize() for kind in kinds], "Together", sep="\t")
     for crate in in_order(clone):
         parts = [minutes[crate, kind] for kind in kinds]
-        print(f"`{crate}` | " + " | ".join(f"{part:.1f}" if part else "" for part in parts) + f" | {sum(parts):.1f}")
+        print(crate, *[f"{part:.1f}" if part else "" for part in parts], f"{sum(parts):.1f}", sep="\t")
     sums = [sum(it for (_, of), it in minutes.items() if of == kind) for kind in kinds]
-    print("all else " + "| " * len(kinds) + f"| {max(used - sum(sums), 0):.1f}")
-    print("together | " + " | ".join(f"{part:.1f}" for part in sums) + f" | {used:.1f}")
+    print(REST, *[""] * len(kinds), f"{max(used - sum(sums), 0):.1f}", sep="\t")
+    print(SUM, *[f"{part:.1f}" for part in sums], f"{used:.1f}", sep="\t")
     return {crate: sum(minutes[crate, kind] for kind in KINDS) for crate in in_order(clone)}
 
 
