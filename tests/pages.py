@@ -1,7 +1,8 @@
 #!/usr/bin/env python3
 """Checks what people read of this repository against what it is read about: that generated pages are current, that each link leads
-somewhere, that README and docs/ keep their limits, that they and the comments of crates have no words that CONTRIBUTING.md replaces, that
-calls whose errors say too little are listed, and that each planted bug can still be planted. Builds nothing. Ends with the line `N passed, M failed`."""
+somewhere, those to lines of code to the clause or function that they name, that README and docs/ keep their limits, that they and the
+comments of crates have no words that CONTRIBUTING.md replaces, that calls whose errors say too little are listed, and that each planted bug
+can still be planted. Builds nothing. Ends with the line `N passed, M failed`."""
 import glob
 import os
 import pathlib
@@ -29,6 +30,8 @@ COMMENT = {
     ".antt": re.compile(r"(?:.*?\s)?--(?=\s|$)(.*)"),
 }
 LINK = re.compile(r"(?<!!)\[[^\]]*\]\(([^)\s]+)\)|!\[[^\]]*\]\(([^)\s]+)\)")
+
+LINE_LINK = re.compile(r"\[`(?:\w+::)*(\w+)`\]\(([^)\s#]+)#L(\d+)\)")
 
 
 def read(path):
@@ -66,10 +69,28 @@ def links(tally):
             path, _, anchor = target.partition("#")
             there = os.path.normpath(os.path.join(os.path.dirname(page), path)) if path else page
             is_there = os.path.exists(os.path.join(TOP, there))
-            if is_there and (not anchor or anchor in anchors(there)):
+            # Of lines of code `clauses` looks what they have.
+            if is_there and (not anchor or (anchor in anchors(there) if there.endswith(".md") else re.fullmatch(r"L\d+", anchor))):
                 tally.passes()
             else:
                 tally.fails(f"{page} links to {target}")
+
+
+def clauses(tally):
+    """Each link to a line of code leads to a line that begins the clause or the function which it names."""
+    for page in pages():
+        text = prose(page)
+        found = LINE_LINK.findall(text)
+        if len(found) < len(re.findall(r"\]\([^)\s]+#L\d+\)", text)):
+            tally.fails(f"{page} links a line of code to something that is no name")
+        for name, path, at in found:
+            there = os.path.join(TOP, os.path.dirname(page), path)
+            lines = read(there).splitlines() if os.path.isfile(there) else []
+            line = lines[int(at) - 1] if 0 < int(at) <= len(lines) else ""
+            if re.match(rf"\s*(?:(?:ensures|requires)\*? {name} \{{|(?:pub(?:\(\w+\))? )?fn {name}\b)", line):
+                tally.passes()
+            else:
+                tally.fails(f"{page}: {name} does not begin at {path}#L{at}")
 
 
 def sizes(tally):
@@ -164,8 +185,10 @@ def main():
     tally = Tally()
     is_current(tally, "bin/list-crates", "--check")
     is_current(tally, "bin/make-manual", "--check")
+    is_current(tally, "bin/link-clauses", "--check")
     is_current(tally, "bin/silent-refusals")
     links(tally)
+    clauses(tally)
     sizes(tally)
     words(tally)
     bugs(tally)
