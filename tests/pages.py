@@ -93,6 +93,23 @@ def clauses(tally):
                 tally.fails(f"{page}: {name} does not begin at {path}#L{at}")
 
 
+def terms(tally):
+    """Each word that docs/READING.md explains begins a definition or a clause in a file to which its row leads, or else the lines before."""
+    around = []
+    for line in read(os.path.join(TOP, "docs", "READING.md")).splitlines():
+        files = re.findall(r"\]\(\.\./(crates/[^)\s]+\.(?:rt|antt))\)", line)
+        if " | " not in line:
+            around = [] if line.startswith("#") else files or around
+            continue
+        texts = [read(os.path.join(TOP, file)) for file in files or around]
+        for name in re.findall(r"`(?:\w+ )?(\w+)`", line.split(" | ")[0]) if texts else ():
+            begins = rf"\b(?:abbrev|data|ensures|fn|ghost|pub|record|requires) (?:pub )?{name}\b"
+            if any(re.search(begins, text) for text in texts):
+                tally.passes()
+            else:
+                tally.fails(f"docs/READING.md: {name} is not defined in {', '.join(files or around)}")
+
+
 def sizes(tally):
     words = len(read(os.path.join(TOP, "README.md")).split())
     tally.check(f"README.md has at most {README_WORDS} words", words <= README_WORDS, words)
@@ -189,6 +206,7 @@ def main():
     is_current(tally, "bin/silent-refusals")
     links(tally)
     clauses(tally)
+    terms(tally)
     sizes(tally)
     words(tally)
     bugs(tally)
