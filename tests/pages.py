@@ -20,7 +20,6 @@ UNUSUAL = re.compile(r"\b(?:behind|told|tells?(?! you\b)|taken\s+up|takes\s+up|k
 # The crates and pages that still have such words. One that has none any more leaves this list, which is to become empty.
 NOT_SWEPT = """
     channels config guarded near_places outside run_both run_pair run_states run_trial runner test_trials test_wanting
-    docs/ARCHITECTURE.md docs/CLIENT.md docs/DECISIONS.md docs/GUARANTEES.md docs/RUN.md docs/WIRE.md
 """.split()
 # The comment of a line, by the ending of its file: what follows the first mark that stands in no literal.
 COMMENT = {
