@@ -40,7 +40,7 @@ rests v honest does seen whole done = record {
 }
 
 -- nothing waits, so that nothing is admitted
-pub none_admitted : (alone : Bool) (s : Store) → Admits alone (settled s) (settled s)
+pub none_admitted : (alone : Bool) (s : Store) → Admits alone [] (settled s) (settled s)
 none_admitted alone s =
     let none : s.next + 0 ≡ s.next = omega arith in
     admits_all alone (settled s) (settled s)

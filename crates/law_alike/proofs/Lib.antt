@@ -9,3 +9,4 @@ pub mod GivenUp
 pub mod CalledNext
 pub mod Others
 pub mod Among
+pub mod Waited

@@ -4,3 +4,4 @@ pub mod Beginnings
 pub mod GivenUp
 pub mod Others
 pub mod Among
+pub mod Waited

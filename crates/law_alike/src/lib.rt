@@ -8,6 +8,7 @@ ghost use Rattle.law_alike.specs.Beginnings as beginning;
 ghost use Rattle.law_alike.specs.GivenUp as given_up;
 ghost use Rattle.law_alike.specs.Others as other;
 ghost use Rattle.law_alike.specs.Runs as run;
+ghost use Rattle.law_alike.specs.Waited as waited;
 ghost use Rattle.law_alike.specs.Worlds as world;
 
 /// Worlds that are alike have as many messages on each side, and as many entries.
@@ -48,6 +49,14 @@ pub fn others_are_left_to_the_next_run()
     ensures stay { other.OthersStay }
     ensures left { other.OthersAreLeft }
     ensures copied { other.OthersAreCopiedNext }
+{}
+
+/// A file that waited for its UID when a run began is a message of the world that the run was planned on, also where others add files. So it
+/// is not left to a later run: the plan copies it, if it is fit and new near messages are copied.
+pub fn files_that_waited_are_read()
+    ensures planned { waited.WaitingArePlanned }
+    ensures read { waited.WaitingAreRead }
+    ensures copied { waited.WaitingAreCopied }
 {}
 
 /// Where others add messages, a run that is done has left, without these, both mailboxes and the state alike to the outcome of the world that was

@@ -16,8 +16,8 @@ nothing_left count b =
       waiting = ws;
     }) (sym (append-nil (drop count b.waiting)))
 
-pub admits_all : (alone : Bool) (b b' : Mailbox) → b' ≡ all_admitted b → Admits alone b b'
-admits_all alone b b' is = record { read = b.waiting; left = []; reading = all_read alone b; now = is ∙ nothing_left (length b.waiting) b }
+pub admits_all : (alone : Bool) (b b' : Mailbox) → b' ≡ all_admitted b → Admits alone b.waiting b b'
+admits_all alone b b' is = record { read = b.waiting; left = []; reading = all_read alone b; least = λ f c. c; now = is ∙ nothing_left (length b.waiting) b }
 
 pub admits_some : (alone : Bool) (b b' : Mailbox) → AdmitsSome b b' → AdmitsPart alone b b'
 admits_some alone b b' some = record { read = b.waiting; left = []; reading = all_read alone b; count = some.count; now = some.now ∙ nothing_left some.count b }

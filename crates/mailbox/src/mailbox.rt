@@ -149,7 +149,8 @@ pub trait Mailbox {
         ensures call { Call {T = Unit {0}} (honest self.new) (ended self.old self.new) (Arrives side ours alone) Never
             (λ _. Turns (removed uid)) Nothing (seen self.old) (seen self.new) result };
 
-    /// Gives what waits its UIDs, as far as it was read: what others deliver after that waits for the next time. At a server nothing waits.
+    /// Gives what waits its UIDs: all that waited before the call. What others deliver meanwhile may be left for the next time. At a server
+    /// nothing waits.
     fn admit(&mut self) -> Result<(), BoxFault>
         requires whole { (seen self.old).is_broken ≡ false }
         requires open { is_open self.old ≡ true }
@@ -157,7 +158,8 @@ pub trait Mailbox {
         ensures keywords { keywords self.new ≡ keywords self.old }
         ensures open { is_open self.new ≡ true }
         ensures call { Call {T = Unit {0}} (honest self.new) (ended self.old self.new) (Arrives side ours alone)
-            (NoRoom side (λ b. length b.waiting)) (λ _. Admits alone) (AdmitsPart alone) (seen self.old) (seen self.new) result };
+            (NoRoom side (λ b. length b.waiting)) (λ _. Admits alone (seen self.old).stored.waiting) (AdmitsPart alone) (seen self.old)
+            (seen self.new) result };
 
     /// Makes what was changed since the mailbox was opened outlive a loss of power, where that is not the other end's affair. Nothing is
     /// done where it is closed.

@@ -189,7 +189,7 @@ module _ {F : Type 0} {folders : folder.Ghosts F} (s : NearSide F folders) (new 
   some_admitted (inr (inl all)) = inr (inl (record { answer = tt; done = admits_all folders.visitors.alone n n' all.done }))
   some_admitted (inr (inr some)) = inr (inr (admits_some folders.visitors.alone n n' some))
 
-  admitted : (because : BoxFault → Mailbox → Type 0) (answer : Result (Unit {0}) NearFault) → Left because (λ _ b b'. b' ≡ all_admitted b) AdmitsSome answer n n' → Left because (λ _. Admits folders.visitors.alone) (AdmitsPart folders.visitors.alone) answer n n'
+  admitted : (because : BoxFault → Mailbox → Type 0) (answer : Result (Unit {0}) NearFault) → Left because (λ _ b b'. b' ≡ all_admitted b) AdmitsSome answer n n' → Left because (λ _. Admits folders.visitors.alone n.waiting) (AdmitsPart folders.visitors.alone) answer n n'
   admitted because (Ok x) did = admits_all folders.visitors.alone n n' did
   admitted because (Err near.Stopped) did = some_admitted did
   admitted because (Err near.NoMemory) did = some_admitted did
@@ -201,8 +201,8 @@ module _ {F : Type 0} {folders : folder.Ghosts F} (s : NearSide F folders) (new 
   -- it gives all that waits its UIDs
   pub admits : (answer : Result (Unit {0}) NearFault) → Ends true (box_of s.near) (box_of new) answer → (honest → TurnsMailbox all_admitted AdmitsSome s.near new answer)
       → (honest → IsErrOf answer near.UidsExhausted → IsFull (length n.waiting) n)
-      → Call {T = Unit {0}} honest ⊥ others (NoRoom side.Near (λ b. length b.waiting)) (λ _. Admits folders.visitors.alone) (AdmitsPart folders.visitors.alone) (seen_of s) now (told_by answer)
-  admits answer ends did full = calls true (NoRoom side.Near (λ b. length b.waiting)) (λ _. Admits folders.visitors.alone) (AdmitsPart folders.visitors.alone) answer ends
+      → Call {T = Unit {0}} honest ⊥ others (NoRoom side.Near (λ b. length b.waiting)) (λ _. Admits folders.visitors.alone n.waiting) (AdmitsPart folders.visitors.alone) (seen_of s) now (told_by answer)
+  admits answer ends did full = calls true (NoRoom side.Near (λ b. length b.waiting)) (λ _. Admits folders.visitors.alone n.waiting) (AdmitsPart folders.visitors.alone) answer ends
       (λ h. admitted (NoRoom side.Near (λ b. length b.waiting)) answer (turned true (NoRoom side.Near (λ b. length b.waiting)) AdmitsSome all_admitted answer ends (did h) (λ is _. (refl, full h is))))
 
   -- it adds a message

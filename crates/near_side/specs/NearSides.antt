@@ -52,7 +52,7 @@ module _ {F : Type 0} {folders : folder.Ghosts F} where
   Calls because does part old new result =
       Call (folders.is_honest ≡ true) ⊥ (Arrives side.Near folders.visitors.ours folders.visitors.alone) because does part (seen_of old) (seen_of new) result
 
-  -- the waiting files that were read have their UIDs, or some of them, or there is no room for all that wait
+  -- all files that waited have their UIDs, or some of them, or there is no room for all that wait
   abbrev pub CallsAdmit : (old new : NearSide F folders) → Result (Unit {0}) BoxFault → Type 0
   CallsAdmit old new result =
-      Calls {T = Unit {0}} (NoRoom side.Near (λ b. length b.waiting)) (λ _. Admits folders.visitors.alone) (AdmitsPart folders.visitors.alone) old new result
+      Calls {T = Unit {0}} (NoRoom side.Near (λ b. length b.waiting)) (λ _. Admits folders.visitors.alone (seen_of old).stored.waiting) (AdmitsPart folders.visitors.alone) old new result

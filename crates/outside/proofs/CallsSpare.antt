@@ -7,7 +7,7 @@ use Rattle.mailcore.specs.declared.side.Direction.{Direction}
 use Rattle.mailcore.specs.declared.side.Side.{Side}
 use Rattle.mailcore.specs.Operations.{flags_added, flags_removed}
 use Rattle.mailcore.specs.Sides.{target}
-use Rattle.mailcore.specs.Stores.{Store}
+use Rattle.mailcore.specs.Stores.{Store, Waiting}
 use Rattle.rules.specs.Copies.{copy_of}
 use Rattle.book.specs.declared.book.Pending.{Pending}
 use Rattle.book.specs.Shelves.{Files}
@@ -73,8 +73,8 @@ carrying_spares direction uid flags mark (Made told) d d' t =
 pub aside_spares : (side : Side) → IsSparing (SetsAside side)
 aside_spares side d d' t = keeping_spares side (λ s. record s { next = t.next }) d d' (λ s m c. c) (λ is. store_raised (box d side) t.next t.least is) t.now
 
-pub admitting_spares : (alone : Bool) → IsSparing (Admits alone)
-admitting_spares alone d d' t = let n = t.near in admission_spares alone (length n.read) n.read n.left d d' n.reading t.far t.named n.now
+pub admitting_spares : (alone : Bool) (known : List Waiting) → IsSparing (Admits alone known)
+admitting_spares alone known d d' t = let n = t.near in admission_spares alone (length n.read) n.read n.left d d' n.reading t.far t.named n.now
 
 pub admitting_part_spares : (alone : Bool) → IsSparing (AdmitsPart alone)
 admitting_part_spares alone d d' t = let n = t.near in admission_spares alone n.count n.read n.left d d' n.reading t.far t.named n.now

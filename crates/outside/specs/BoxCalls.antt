@@ -9,7 +9,7 @@ use Rattle.mailcore.specs.declared.listing.Listing.{Listing}
 use Rattle.mailcore.specs.Content.{fit}
 use Rattle.mailcore.specs.Operations.{ShowsSparing, bytes_of}
 use Rattle.mailcore.specs.Sides.{source, target}
-use Rattle.mailcore.specs.Stores.{Store}
+use Rattle.mailcore.specs.Stores.{Store, Waiting}
 use Rattle.mailcore.specs.Mailboxes.{Mailbox}
 use Rattle.rules.specs.Copies.{copy_of}
 use Rattle.outside.specs.declared.outside.Carried.{Carried}
@@ -45,9 +45,9 @@ pub record OnNear (does : Effect Mailbox) (d d' : Device) : Type 0 where
   pub named : d'.named ≡ d.named
   pub near : does d.near d'.near
 
--- the waiting files that were read have the UIDs from next on
-abbrev pub Admits : (alone : Bool) → Effect Device
-Admits alone = OnNear (ops.Admits alone)
+-- the waiting files that were read, each that was known among them, have the UIDs from next on
+abbrev pub Admits : (alone : Bool) → (known : List Waiting) → Effect Device
+Admits alone known = OnNear (ops.Admits alone known)
 
 -- the UIDs of all of these are set aside, and some of them have theirs
 abbrev pub AdmitsPart : (alone : Bool) → Effect Device

@@ -168,14 +168,14 @@ pub trait Outside {
         ensures call { Reads (honest self.new) (Arrives ours alone) (λ validity d. validity ≡ (box d side).validity) (seen self.old)
             (seen self.new) result };
 
-    /// Gives the waiting near files that were read their UIDs. Those that came later wait for the next plan.
+    /// Gives the waiting near files their UIDs: all that waited before the call. Those that come later may wait for the next plan.
     fn admit(&mut self) -> Result<(), OutsideFault>
         requires is_open { IsOpen Side.Near (opened self.old) }
         ensures was_honest { honest self.new → honest self.old }
         ensures keywords { keywords self.new ≡ keywords self.old }
         ensures opened { opened self.new ≡ opened self.old }
-        ensures call { Changes {T = Unit {0}} (honest self.new) (Arrives ours alone) (λ _. Admits alone) (AdmitsPart alone) (seen self.old)
-            (seen self.new) result };
+        ensures call { Changes {T = Unit {0}} (honest self.new) (Arrives ours alone) (λ _. Admits alone (seen self.old).device.near.waiting)
+            (AdmitsPart alone) (seen self.old) (seen self.new) result };
 
     /// What the far mailbox lists.
     fn list_far(&mut self) -> Result<Listing, OutsideFault>

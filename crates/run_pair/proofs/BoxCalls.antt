@@ -141,11 +141,11 @@ module _ (d : Device) where
   pub reading_weaker : (alone alone' : Bool) (read left : List Waiting) (b : Mailbox) → (alone' ≡ true → alone ≡ true) → ops.IsReading alone read left b → ops.IsReading alone' read left b
   reading_weaker alone alone' read left b lone r = record { parts = r.parts; all = λ e. r.all (lone e) }
 
-  abbrev pub admitting : (alone alone' : Bool) → (alone' ≡ true → alone ≡ true) → Move Near d (Unit {0})
-  admitting alone alone' lone = changing Near d (NoRoom Near (λ b. length b.waiting)) (λ _. ops.Admits alone) (ops.AdmitsPart alone) (λ _. Admits alone') (AdmitsPart alone')
-      (λ _ b b' h. record { far = refl; files = refl; named = refl; near = record { read = h.read; left = h.left; reading = reading_weaker alone alone' h.read h.left b lone h.reading; now = h.now } })
+  abbrev pub admitting : (alone alone' : Bool) → (alone' ≡ true → alone ≡ true) → (known : List Waiting) → Move Near d (Unit {0})
+  admitting alone alone' lone known = changing Near d (NoRoom Near (λ b. length b.waiting)) (λ _. ops.Admits alone known) (ops.AdmitsPart alone) (λ _. Admits alone' known) (AdmitsPart alone')
+      (λ _ b b' h. record { far = refl; files = refl; named = refl; near = record { read = h.read; left = h.left; reading = reading_weaker alone alone' h.read h.left b lone h.reading; least = h.least; now = h.now } })
       (λ b b' h. record { far = refl; files = refl; named = refl; near = record { read = h.read; left = h.left; reading = reading_weaker alone alone' h.read h.left b lone h.reading; count = h.count; now = h.now } })
-      (λ _. admitting_spares alone') (admitting_part_spares alone')
+      (λ _. admitting_spares alone' known) (admitting_part_spares alone')
 
 -- ---- a call that names a message
 

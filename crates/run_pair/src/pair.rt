@@ -255,7 +255,8 @@ impl<F: Mailbox + Drop, N: Mailbox + Drop, S: Shelf + Drop> Outside for Pair<F, 
         ensures was_honest { honest_of self.new → honest_of self.old }
         ensures keywords { F.keywords self.new.far ≡ F.keywords self.old.far }
         ensures opened { opened_of self.new ≡ opened_of self.old }
-        ensures call { BoxChange (Admits (F.alone && N.alone)) (AdmitsPart (F.alone && N.alone)) self.old self.new result }
+        ensures call { BoxChange (Admits (F.alone && N.alone) (seen_of self.old).device.near.waiting) (AdmitsPart (F.alone && N.alone))
+            self.old self.new result }
         ensures why { IfErr result (ByBox Side.Near (NoRoom Side.Near (λ b. length b.waiting)) self.old self.new) }
         ensures tallied { Tallied (ended no_copies) result self.old.tally self.new.tally }
     {

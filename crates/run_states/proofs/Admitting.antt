@@ -1,8 +1,9 @@
 -- Waiting files that get their UIDs.
-use Rattle.std.proofs.Common.{◌≡◌, ◌≤◌, ◌+◌, ℕ, Bool, List, [], ◌∷◌, ◌++◌, length, take, drop, refl, sym, ◌∙◌, ap, subst, arith, append-nil, append_assoc, length-append}
-use Rattle.std.specs.Prelude.{IsPermutation}
-use Rattle.std.proofs.lemmas.List.{take-append-drop}
-use Rattle.std.proofs.lemmas.List.Sorted.{IsPermutation-append_right, IsPermutation-sym, IsPermutation-trans}
+use Rattle.std.proofs.Common.{◌≡◌, ◌≤◌, ◌+◌, inl, inr, ℕ, Bool, List, [], ◌∷◌, ◌++◌, length, take, drop, refl, sym, ◌∙◌, ap, subst, arith, append-nil, append_assoc, length-append}
+use Rattle.std.specs.Prelude.{Contains, IsPermutation}
+use Rattle.std.proofs.lemmas.List.{take-append-drop, take_all}
+use Rattle.std.proofs.lemmas.List.Elements.{Contains-append_cases, Contains-append_left, Contains-append_right}
+use Rattle.std.proofs.lemmas.List.Sorted.{Contains-permutation, IsPermutation-append_right, IsPermutation-sym, IsPermutation-trans}
 use Rattle.mailcore.specs.declared.mailbox.Message.{Message}
 use Rattle.mailcore.specs.declared.side.Side.TheVariants.{Far, Near}
 use Rattle.mailcore.specs.Rise.{Rise}
@@ -60,16 +61,17 @@ first_named count named read left =
     ∙ ap (λ (fs : List Waiting). named ++ fs) (append_assoc (take count read) (drop count read) left)
     ∙ sym (append_assoc named (take count read) (drop count read ++ left))
 
--- the first of what was read has its UIDs
-pub grows_numbered : (alone : Bool) (w : World) (s : SyncState) (count : ℕ) (read left : List Waiting) (d d' : Device) → IsReading alone read left d.near → d'.far ≡ d.far → d'.near ≡ read_admitted count read left d.near → Grows alone w (world_at d s) → Grows alone w (world_at d' s)
-grows_numbered alone w s count read left d d' reading far_is near_is g =
+-- the first of what was read has its UIDs; those that had theirs have them still
+pub numbered_with : (P : List Waiting → Type 0) (alone : Bool) (w : World) (s : SyncState) (count : ℕ) (read left : List Waiting) (d d' : Device) → IsReading alone read left d.near → d'.far ≡ d.far → d'.near ≡ read_admitted count read left d.near
+    → (g : Grows alone w (world_at d s)) → P (g.named ++ take count read) → (h : Grows alone w (world_at d' s)) × P h.named
+numbered_with P alone w s count read left d d' reading far_is near_is g p =
     let n : Mailbox = d.near in
     let first : List Waiting = take count read in
     let few = take_few count read in
     let now : World = record { far = d.far; near = (read_admitted count read left n).store; waiting = drop count read ++ left; state = s } in
     let v = g.validity in
     let there : now ≡ world_at d' s = rw (far_is, near_is) refl in
-    subst (λ (x : World). Grows alone w x) there (record {
+    let grown : Grows alone w now = record {
       in_order = record { far = g.in_order.far; near = is_store-numbered n.store first (n.store.next + length read) (omega arith) g.in_order.near; pairs = g.in_order.pairs };
       state = g.state;
       validity = two (λ side. (store now side).validity ≡ (store w side).validity) (v Far) (v Near);
@@ -87,4 +89,15 @@ grows_numbered alone w s count read left d d' reading far_is near_is g =
           let all = reading.all e in
           let both : read ++ left ≡ n.waiting = ap (λ (fs : List Waiting). read ++ fs) all.1 ∙ append-nil read ∙ all.0 in
           ((g.nobody e).0, sym (first_named count g.named read left) ∙ ap (λ (fs : List Waiting). g.named ++ fs) both ∙ (g.nobody e).1);
-    })
+    } in
+    subst (λ (x : World). (h : Grows alone w x) × P h.named) there (grown, p)
+
+pub grows_numbered : (alone : Bool) (w : World) (s : SyncState) (count : ℕ) (read left : List Waiting) (d d' : Device) → IsReading alone read left d.near → d'.far ≡ d.far → d'.near ≡ read_admitted count read left d.near → Grows alone w (world_at d s) → Grows alone w (world_at d' s)
+grows_numbered alone w s count read left d d' reading far_is near_is g = (numbered_with (λ _. Unit {0}) alone w s count read left d d' reading far_is near_is g tt).0
+
+-- Once all that was read has its UIDs, each file that had waited at the opening has one: it had one before, or waited then and was read.
+pub waited_named : (alone : Bool) (w now : World) (g : Grows alone w now) (read : List Waiting) → ((f : Waiting) → Contains now.waiting f → Contains read f) → (f : Waiting) → Contains w.waiting f → Contains (g.named ++ take (length read) read) f
+waited_named alone w now g read least f c = elim (Contains-append_cases g.named now.waiting f (Contains-permutation (w.waiting ++ g.arrived) (g.named ++ now.waiting) f g.gathered (Contains-append_left w.waiting g.arrived f c))) [
+  | inl named ↦ Contains-append_left g.named (take (length read) read) f named
+  | inr waits ↦ Contains-append_right g.named (take (length read) read) f (subst (λ (fs : List Waiting). Contains fs f) (sym (take_all (length read) read (omega arith))) (least f waits))
+]

@@ -25,13 +25,14 @@ gathered_more ws arrived named waiting files now m k =
     (subst (λ (l : List Waiting). IsPermutation l (named ++ now)) (sym (append_assoc named waiting files)) (IsPermutation-append_right named (waiting ++ files) now k)))
 
 module _ (ours : List ℕ → Bool) where
-  pub grows_arrives : (alone : Bool) (w : World) (s : SyncState) (d m : Device) → Grows alone w (world_at d s) → Arrives ours alone d m → Grows alone w (world_at m s)
-  grows_arrives true w s d m g a = subst (λ (x : Device). Grows true w (world_at x s)) (sym (a.nobody refl)) g
-  grows_arrives false w s d m g a =
+  -- where others add any
+  grown : (w : World) (s : SyncState) (d m : Device) → Grows false w (world_at d s) → (a : Arrives ours false d m)
+      → Grows false w (world_at (record d { far = record d.far { next = a.next; messages = d.far.messages ++ a.messages }; near = record d.near { waiting = a.waiting } }) s)
+  grown w s d m g a =
       let now : Device = record d { far = record d.far { next = a.next; messages = d.far.messages ++ a.messages }; near = record d.near { waiting = a.waiting } } in
       let low = rise-ends d.far.next (map (λ (x : Message). x.uid) a.messages) a.next a.rise in
       let v = g.validity in
-      subst (λ (x : Device). Grows false w (world_at x s)) (sym a.now) (record {
+      record {
         in_order = record { far = store_more d.far.validity d.far.next a.next d.far.messages a.messages g.in_order.far a.rise; near = g.in_order.near; pairs = g.in_order.pairs };
         state = g.state;
         validity = two (λ side. (store (world_at now s) side).validity ≡ (store w side).validity) (v Far) (v NearSide);
@@ -46,7 +47,16 @@ module _ (ours : List ℕ → Bool) where
         each = g.each;
         near = g.near;
         nobody = λ e. absurd (both_ways false refl e);
-      })
+      }
+
+  -- files that have their UIDs keep them: whatever is so of those is so still
+  pub grows_with : (P : List Waiting → Type 0) (alone : Bool) (w : World) (s : SyncState) (d m : Device) (g : Grows alone w (world_at d s)) → Arrives ours alone d m → P g.named → (h : Grows alone w (world_at m s)) × P h.named
+  unfolding grown
+  grows_with P true w s d m g a p = subst (λ (x : Device). (h : Grows true w (world_at x s)) × P h.named) (sym (a.nobody refl)) (g, p)
+  grows_with P false w s d m g a p = subst (λ (x : Device). (h : Grows false w (world_at x s)) × P h.named) (sym a.now) (grown w s d m g a, p)
+
+  pub grows_arrives : (alone : Bool) (w : World) (s : SyncState) (d m : Device) → Grows alone w (world_at d s) → Arrives ours alone d m → Grows alone w (world_at m s)
+  grows_arrives alone w s d m g a = (grows_with (λ _. Unit {0}) alone w s d m g a tt).0
 
   pub files_same : (alone : Bool) (d m : Device) → Arrives ours alone d m → m.files ≡ d.files
   files_same alone d m a = ap (λ (x : Device). x.files) a.now
@@ -79,4 +89,4 @@ unplanned_filed opening pending d d' idle far near named holds u = record {
 
 -- what is so of some world since the opening is so with all that is known of the world
 pub since_map : {ours : List ℕ → Bool} {alone : Bool} (opening : Opening ours alone) (P Q : World → Type 0) → ((w : World) → Grows alone opening.world w → P w → Q w) → Since opening P → Since opening Q
-since_map opening P Q f s = record { world = s.world; grows = s.grows; admitted = s.admitted; below = s.below; within = s.within; holds = f s.world s.grows s.holds }
+since_map opening P Q f s = record { world = s.world; grows = s.grows; waited = s.waited; admitted = s.admitted; below = s.below; within = s.within; holds = f s.world s.grows s.holds }

@@ -7,6 +7,7 @@ use Rattle.mailcore.specs.declared.side.Side.{Side}
 use Rattle.mailcore.specs.declared.side.Side.TheVariants.{Far, Near}
 use Rattle.mailcore.proofs.RiseLemmas.{rise-ends}
 use Rattle.mailcore.specs.Mailboxes.{Mailbox}
+use Rattle.mailcore.specs.Stores.{Waiting}
 use Rattle.sync_state.specs.declared.version.Version.{Version}
 use Rattle.rules.specs.declared.entry.Entry.{Entry}
 use Rattle.rules.specs.declared.options.Options.{Options}
@@ -36,11 +37,13 @@ use Rattle.run_states.proofs.Naming.{named_none}
 abbrev pub listed_world : (s : SyncState) (next : ℕ) (d m : Device) → World
 listed_world s next d m = record { far = record d.far { next = next }; near = m.near.store; waiting = m.near.waiting; state = s }
 
-pub listed_grows : (alone : Bool) (w : World) (s : SyncState) (far : Listing) (d m : Device) → Grows alone w (world_at d s) → Grows alone w (world_at m s) → TellsNext alone w.far.next far d.far → Grows alone w (listed_world s far.next d m)
-listed_grows alone w s far d m g h told =
+-- it has grown, and the files that have their UIDs in it are those of the near listing
+pub listed_with : (P : List Waiting → Type 0) (alone : Bool) (w : World) (s : SyncState) (far : Listing) (d m : Device) → Grows alone w (world_at d s) → (h : Grows alone w (world_at m s)) → P h.named → TellsNext alone w.far.next far d.far
+    → (g : Grows alone w (listed_world s far.next d m)) × P g.named
+listed_with P alone w s far d m g h p told =
     let v = g.validity in
     let n = h.validity in
-    record {
+    let grown : Grows alone w (listed_world s far.next d m) = record {
       in_order = record { far = told_store alone w.far.next far d.far told g.in_order.far; near = h.in_order.near; pairs = h.in_order.pairs };
       state = h.state;
       validity = two (λ side. (store (listed_world s far.next d m) side).validity ≡ (store w side).validity) (v Far) (n Near);
@@ -55,7 +58,8 @@ listed_grows alone w s far d m g h told =
       each = h.each;
       near = h.near;
       nobody = λ e. (ap (λ (n : ℕ). record d.far { next = n }) (told_alone alone w.far.next far d.far told e) ∙ (g.nobody e).0, (h.nobody e).1);
-    }
+    } in
+    (grown, p)
 
 -- UIDs are given again by neither side
 pub grows_next : (alone : Bool) (w now : World) → Grows alone w now → (side : Side) → (store w side).next ≤ (store now side).next

@@ -1,5 +1,5 @@
 -- What a run begins with, and what becomes of it before there is a plan.
-use Rattle.std.specs.Prelude.{◌≡◌, ◌≤◌, ℕ, Bool, true, List, [], ◌++◌, IsPermutation, length}
+use Rattle.std.specs.Prelude.{◌≡◌, ◌≤◌, ℕ, Bool, true, List, [], ◌++◌, Contains, IsPermutation, length}
 use Rattle.mailcore.specs.declared.side.Side.{Side}
 use Rattle.mailcore.specs.declared.mailbox.Message.{Message}
 use Rattle.mailcore.specs.Rise.{Rise}
@@ -60,11 +60,12 @@ pub record Unplanned {ours : List ℕ → Bool} {alone : Bool} (opening : Openin
   pub grows : Grows alone opening.world (world_at d opening.world.state)
   pub named : d.named ≡ opening.named
 
--- So much is so of some world since the opening, that of both listings on which the plan was made: each flag that is listed has a name.
--- Where nobody adds any files, all have their UIDs by then.
+-- So much is so of some world since the opening, that of both listings on which the plan was made: each flag that is listed has a name, and each
+-- file that waited at the opening has its UID. Where nobody adds any files, all have.
 pub record Since {ours : List ℕ → Bool} {alone : Bool} (opening : Opening ours alone) (P : World → Type 0) : Type 0 where
   pub world : World
   pub grows : Grows alone opening.world world
+  pub waited : (f : Waiting) → Contains opening.world.waiting f → Contains grows.named f
   pub admitted : alone ≡ true → world.waiting ≡ []
   pub below : NamesBelow world
   pub within : IsWithinWorld opening.options.keywords world

@@ -70,6 +70,7 @@ pending {ours} {alone} opening d none p =
     record {
       world = p.world;
       grows = p.grows;
+      waited = p.waited;
       admitted = p.admitted;
       below = p.below;
       within = p.within;

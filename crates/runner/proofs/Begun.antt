@@ -1,5 +1,6 @@
 -- Admission, two listings and the writing of the plan.
-use Rattle.std.proofs.Common.{◌≡◌, ◌⊎◌, inl, inr, ℕ, Bool, true, false, List, ◌++◌, length, Option, Some, None, refl, ◌∙◌, ap}
+use Rattle.std.proofs.Common.{◌≡◌, ◌⊎◌, inl, inr, ℕ, Bool, true, false, List, ◌++◌, length, take, Option, Some, None, refl, ◌∙◌, ap}
+use Rattle.std.specs.Prelude.{Contains}
 use Rattle.std.proofs.lemmas.Bool.{both_ways}
 use Rattle.mailcore.specs.declared.side.Side.TheVariants.{Far, Near as NearSide}
 use Rattle.mailcore.specs.declared.listing.Listing.{Listing}
@@ -21,15 +22,19 @@ use Rattle.outside.specs.Devices.{Device}
 use Rattle.outside.specs.Opened.{Opened, turned}
 use Rattle.run_states.specs.Conditions.{Underway}
 use Rattle.run_states.specs.Moments.{Listed}
-use Rattle.run_states.specs.Openings.{Opening, Since, Unplanned}
-use Rattle.run_states.proofs.Admitting.{drop_whole, grows_numbered}
-use Rattle.run_states.proofs.Growth.{files_same, since_map, unplanned_arrives, unplanned_filed}
-use Rattle.run_states.proofs.Listings.{listed_arrives, listed_grows, listed_here, listed_world, names_below, plan_written as written_midway}
+use Rattle.run_states.specs.Openings.{Opening, Since, Unplanned, world_at}
+use Rattle.run_states.proofs.Admitting.{drop_whole, grows_numbered, numbered_with, waited_named}
+use Rattle.run_states.proofs.Growth.{files_same, grows_with, since_map, unplanned_arrives, unplanned_filed}
+use Rattle.run_states.proofs.Listings.{listed_arrives, listed_here, listed_with, listed_world, names_below, plan_written as written_midway}
 use Rattle.runner.specs.Before.{AreOld, AreShown, BothListed, FarListed, IsClear, IsMade}
 use Rattle.runner.specs.Going.{BeforeStep}
 use Rattle.runner.proofs.Within.{shown_within}
 
 module _ {ours : List ℕ → Bool} {alone : Bool} (opening : Opening ours alone) where
+  -- these are all files that waited at the opening, and more
+  abbrev Have : List Waiting → Type 0
+  Have named = (f : Waiting) → Contains opening.world.waiting f → Contains named f
+
   pub clear_unplanned : (opened : Option Opened) (is_admitted : Bool) (d : Device) → IsClear opening opened is_admitted d → Unplanned opening d
   clear_unplanned opened is_admitted d c = record { pending = Missing; idle = tt; files = c.files; chosen = c.chosen; below = c.below; grows = c.grows; named = c.named }
 
@@ -39,29 +44,34 @@ module _ {ours : List ℕ → Bool} {alone : Bool} (opening : Opening ours alone
   pub clear_arrives : (opened : Option Opened) (is_admitted : Bool) (d m : Device) → Arrives ours alone d m → IsClear opening opened is_admitted d → IsClear opening opened is_admitted m
   clear_arrives opened is_admitted d m a c =
       let n = unplanned_arrives opening d m a (clear_unplanned opened is_admitted d c) in
+      let k = grows_with ours (λ (named : List Waiting). is_admitted ≡ true → Have named) alone opening.world opening.world.state d m c.grows a c.waited in
       record {
         state = c.state;
         files = rw (files_same ours alone d m a) c.files;
         chosen = c.chosen;
         below = c.below;
-        grows = n.grows;
+        grows = k.0;
         named = n.named;
+        waited = k.1;
         admitted = λ is e. rw (a.nobody e) (c.admitted is e);
       }
 
   -- ---- admission
 
-  pub admitted_all : (opened : Option Opened) (d m d' : Device) → Arrives ours alone d m → IsClear opening opened false d → Admits alone m d' → IsClear opening opened true d'
+  pub admitted_all : (opened : Option Opened) (d m d' : Device) → Arrives ours alone d m → IsClear opening opened false d → Admits alone d.near.waiting m d' → IsClear opening opened true d'
   admitted_all opened d m d' a c t =
       let k = clear_arrives opened false d m a c in
       let n = t.near in
+      let r = grows_with ours (λ (named : List Waiting). Have (named ++ take (length n.read) n.read)) alone opening.world opening.world.state d m c.grows a (waited_named alone opening.world (world_at d opening.world.state) c.grows n.read n.least) in
+      let g = numbered_with Have alone opening.world opening.world.state (length n.read) n.read n.left m d' n.reading t.far n.now r.0 r.1 in
       record {
         state = k.state;
         files = rw t.files k.files;
         chosen = k.chosen;
         below = k.below;
-        grows = grows_numbered alone opening.world opening.world.state (length n.read) n.read n.left m d' n.reading t.far n.now k.grows;
+        grows = g.0;
         named = t.named ∙ k.named;
+        waited = λ _. g.1;
         admitted = λ is e. ap (λ (b : Mailbox). b.waiting) n.now ∙ ap (λ (fs : List Waiting). fs ++ n.left) (drop_whole n.read) ∙ (n.reading.all e).1;
       }
 
@@ -76,6 +86,7 @@ module _ {ours : List ℕ → Bool} {alone : Bool} (opening : Opening ours alone
         below = k.below;
         grows = grows_numbered alone opening.world opening.world.state n.count n.read n.left m d' n.reading t.far n.now k.grows;
         named = t.named ∙ k.named;
+        waited = λ e. absurd (both_ways false refl e);
         admitted = λ e. absurd (both_ways false refl e);
       }
 
@@ -91,11 +102,13 @@ module _ {ours : List ℕ → Bool} {alone : Bool} (opening : Opening ours alone
       let c = clear_arrives opened true d m a f.clear in
       let s = opening.world.state in
       let told = f.lists.next in
-      let grows = listed_grows alone opening.world s far d m f.clear.grows c.grows told in
+      let both = listed_with Have alone opening.world s far d m f.clear.grows c.grows (c.waited refl) told in
+      let grows = both.0 in
       let most = told_most alone opening.world.far.next far d.far told in
       let since : Since opening (λ w. AreShown w far near × Listed ours alone opening.named w m) = record {
         world = listed_world s far.next d m;
         grows = grows;
+        waited = both.1;
         admitted = λ e. c.admitted refl e;
         below = names_below alone opening.world (listed_world s far.next d m) grows c.below;
         within = record { far = shown_within opening.options.keywords (item_of Far) (λ _. refl) far.items d.far.messages f.lists.shows.items f.within; near = shown_within opening.options.keywords (item_sparing NearSide spared) (λ _. refl) near.items m.near.store.messages l.items within };

@@ -328,8 +328,8 @@ module _ {ours : List ℕ → Bool} {alone : Bool} (opening : Opening ours alone
   split_done d s = by_world s.holds
     where
       by_world : PlannedAt ours alone opening.named s.world opening.options d ⊎ DoneAt ours alone opening.named s.world opening.options d → Underway opening d
-      by_world (inl p) = inr (inl (record { world = s.world; grows = s.grows; admitted = s.admitted; below = s.below; within = s.within; holds = p }))
-      by_world (inr x) = inr (inr (record { world = s.world; grows = s.grows; admitted = s.admitted; below = s.below; within = s.within; holds = x }))
+      by_world (inl p) = inr (inl (record { world = s.world; grows = s.grows; waited = s.waited; admitted = s.admitted; below = s.below; within = s.within; holds = p }))
+      by_world (inr x) = inr (inr (record { world = s.world; grows = s.grows; waited = s.waited; admitted = s.admitted; below = s.below; within = s.within; holds = x }))
 
   pub half_ended_at : (opened : Option Opened) (is_resumed : Bool) (d m d' : Device) → IsGoing opened → next_at opened ≡ None → Arrives ours alone d m → BeforeStep opening opened is_resumed d → OfBook CommitsHalf opened m d' → Underway opening d'
   half_ended_at opened is_resumed d m d' g none a k t =

@@ -5,7 +5,7 @@ use Rattle.mailcore.specs.declared.side.Side.{Side}
 use Rattle.mailcore.specs.declared.side.Side.TheVariants.{Far, Near}
 use Rattle.mailcore.specs.declared.listing.Listing.{Listing}
 use Rattle.mailcore.specs.Mailboxes.{Mailbox}
-use Rattle.mailcore.specs.Stores.{Store}
+use Rattle.mailcore.specs.Stores.{Store, Waiting}
 use Rattle.rules.specs.declared.state.SyncState.{SyncState}
 use Rattle.book.specs.declared.book.Pending.{Pending}
 use Rattle.book.specs.declared.book.Pending.TheVariants.{Missing, Useless, Planned}
@@ -114,8 +114,8 @@ module _ (ours : List ℕ → Bool) (alone : Bool) where
       validities_next d m d' k.validities (record { far = rw t.far refl; near = rw t.near refl })
 
   -- waiting files are admitted
-  pub admitted_validities : (d m d' : Device) → Arrives ours alone d m → Admits alone m d' → KeepsValidities d d'
-  admitted_validities d m d' a t =
+  pub admitted_validities : (known : List Waiting) (d m d' : Device) → Arrives ours alone d m → Admits alone known m d' → KeepsValidities d d'
+  admitted_validities known d m d' a t =
       let k = kept_arrives d m a in
       validities_next d m d' k.validities (record { far = ap (λ (s : Store). s.validity) t.far; near = ap (λ (b : Mailbox). b.store.validity) t.near.now })
 

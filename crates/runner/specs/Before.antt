@@ -1,9 +1,10 @@
 -- What is so before the steps of a plan: the shelf was read, the journal is cleared away, both mailboxes are listed, the plan is made.
-use Rattle.std.specs.Prelude.{◌≡◌, ◌||◌, ◌==◌, nat_le, ℕ, Bool, true, List, [], Option, None, Some}
+use Rattle.std.specs.Prelude.{◌≡◌, ◌||◌, ◌==◌, nat_le, ℕ, Bool, true, Contains, List, [], Option, None, Some}
 use Rattle.std.specs.List.{list_any}
 use Rattle.mailcore.specs.declared.side.Side.TheVariants.{Far, Near}
 use Rattle.mailcore.specs.declared.listing.Listing.{Listing}
 use Rattle.mailcore.specs.Operations.{Shows, ShowsSparing}
+use Rattle.mailcore.specs.Stores.{Waiting}
 use Rattle.rules.specs.declared.entry.Entry.{Entry}
 use Rattle.rules.specs.declared.plan.Plan.{Plan}
 use Rattle.rules.specs.declared.state.SyncState.{SyncState}
@@ -55,7 +56,8 @@ pub record HasNone {ours : List ℕ → Bool} {alone : Bool} (opening : Opening 
   pub unplanned : Unplanned opening d
   pub held : IsHeld opened d
 
--- there is no journal, and no call has named a message; once the waiting files are admitted, none waits where nobody adds any
+-- there is no journal, and no call has named a message; once the waiting files are admitted, each that waited at the opening has its UID, and none
+-- waits where nobody adds any
 pub record IsClear {ours : List ℕ → Bool} {alone : Bool} (opening : Opening ours alone) (opened : Option Opened) (is_admitted : Bool) (d : Device) : Type 0 where
   pub state : state_of opened ≡ Some opening.world.state
   pub files : Holds d.files opening.world.state Missing
@@ -63,6 +65,7 @@ pub record IsClear {ours : List ℕ → Bool} {alone : Bool} (opening : Opening 
   pub below : NamesBelow opening.world
   pub grows : Grows alone opening.world (world_at d opening.world.state)
   pub named : d.named ≡ opening.named
+  pub waited : is_admitted ≡ true → (f : Waiting) → Contains opening.world.waiting f → Contains grows.named f
   pub admitted : is_admitted ≡ true → alone ≡ true → d.near.waiting ≡ []
 
 -- the far mailbox was listed, each flag by its name; others may have added since

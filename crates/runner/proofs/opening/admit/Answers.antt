@@ -24,4 +24,4 @@ returns-in-Err-clause-part g c =
     )))
 
 pub returns-in-Ok-clause-validities : goal.returns-in-Ok-clause-validities
-returns-in-Ok-clause-validities g c = λ honest. let w = c.in-Ok.ensures.call in let acts = w.acts in let e = acts.effect honest in admitted_validities g.O.Outside.ours g.O.Outside.alone _ e.mid _ e.before e.behind
+returns-in-Ok-clause-validities g c = λ honest. let w = c.in-Ok.ensures.call in let acts = w.acts in let e = acts.effect honest in admitted_validities g.O.Outside.ours g.O.Outside.alone _ _ e.mid _ e.before e.behind

@@ -23,7 +23,7 @@ returns g c =
     let b = c.admit-answer in
     let e = c.end_at in
     let whole = sym c.is_broken.ensures ∙ c.if-is_broken.false in
-    let ends = near_ends p (admitting (device_of p) g.N.Mailbox.alone (g.F.Mailbox.alone && g.N.Mailbox.alone) (alone_right g.F.Mailbox.alone g.N.Mailbox.alone)) b.new.self e.new.self b.result e.result whole e.ensures.same e.ensures.now (rw p.near_is at b.ensures.call) in
+    let ends = near_ends p (admitting (device_of p) g.N.Mailbox.alone (g.F.Mailbox.alone && g.N.Mailbox.alone) (alone_right g.F.Mailbox.alone g.N.Mailbox.alone) (g.N.Mailbox.seen p.near).stored.waiting) b.new.self e.new.self b.result e.result whole e.ensures.same e.ensures.now (rw p.near_is at b.ensures.call) in
     record {
       was_honest = λ h. (h.0, b.ensures.was_honest h.1, h.2);
       keywords = refl;
