@@ -1,7 +1,9 @@
 mod Again
 mod Arrivals
 mod Behind
+mod Dropped
 mod Fails
+mod LookedUp
 pub mod PlanReads
 mod Rests
 mod Stops

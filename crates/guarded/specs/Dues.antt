@@ -1,12 +1,13 @@
 -- Messages that are asked about in a part of a plan.
-use Rattle.std.specs.Prelude.{ℕ, Bool, true, false, ◌&&◌, nat_lt, nat_le, max, Option, None, Some, if◌then◌else◌}
+use Rattle.std.specs.Prelude.{ℕ, Bool, true, ◌&&◌, ◌==◌, nat_lt, nat_le, max, List, ◌++◌, Option, None, Some, option_and_then, option_map, if◌then◌else◌}
+use Rattle.std.specs.List.{enumerate_from, filter_map, find, list_any}
 use Rattle.mailcore.specs.FlagSet.{has}
 use Rattle.mailcore.specs.declared.side.Direction.TheVariants.{Pull, Push}
 use Rattle.mailcore.specs.declared.side.Side.TheVariants.{Far, Near}
 use Rattle.rules.specs.declared.plan.Note.{Note}
 use Rattle.rules.specs.declared.plan.Note.TheVariants.{Record, Drop}
 use Rattle.rules.specs.declared.plan.Step.{Step}
-use Rattle.rules.specs.declared.plan.Step.TheVariants.{New, Gone, Flags, Expunge}
+use Rattle.rules.specs.declared.plan.Step.TheVariants.{Gone, Flags, Expunge}
 use Rattle.guarded.specs.declared.due.Due.{Due}
 
 -- ---- when a message is asked about, where so many steps are logged
@@ -87,3 +88,43 @@ expunged_near other = None
 abbrev pub dropped_near : Note → Option ℕ
 dropped_near (Drop far near) = near
 dropped_near (Record far near flags) = None
+
+-- ---- what steps and notes ask
+
+-- in the whole plan
+abbrev pub always : ℕ → Due
+always uid = record { uid = uid; after = None; until = None }
+
+-- the step once which a message is asked about, if it is one of these
+abbrev pub step_of : List Due → ℕ → Option ℕ
+step_of dues uid = option_and_then (λ due. due.after) (find (λ due. due.uid == uid) dues)
+
+-- the last step for which the near message of a step is asked about: the far one that it marks may be removed by a later one
+abbrev pub last_of : (far : List Due) → ℕ → Step → ℕ
+last_of far number step = later number (option_and_then (step_of far) (marked_far step))
+
+-- far messages, each once its step has removed it
+abbrev pub expunged_of : List Step → List Due
+expunged_of steps = filter_map (λ at. expunged_by at.0 at.1) (enumerate_from 0 steps)
+
+-- near messages that steps take to be removed
+abbrev pub gone_by_steps : (far : List Due) → List Step → List Due
+gone_by_steps far steps = filter_map (λ at. gone_by (last_of far at.0 at.1) at.1) (enumerate_from 0 steps)
+
+-- the near message of an entry that goes, unless a step removes it
+abbrev pub dropped_by : (expunged : List ℕ) → Note → Option Due
+dropped_by expunged note = option_and_then (λ uid. if list_any (λ one. one == uid) expunged then None else Some (always uid)) (dropped_near note)
+
+abbrev pub gone_of : (far : List Due) → List Step → List Note → List Due
+gone_of far steps notes = gone_by_steps far steps ++ filter_map (dropped_by (filter_map expunged_near steps)) notes
+
+-- near messages that steps mark as deleted, each once its step has
+abbrev pub set_of : List Step → List Due
+set_of steps = filter_map (λ at. set_by at.0 at.1) (enumerate_from 0 steps)
+
+-- the near message that a step takes to be marked as deleted; one that a step marks, from then on
+abbrev pub marked_in : (far set : List Due) → ℕ → Step → Option Due
+marked_in far set number step = option_map (λ (due : Due). record due { after = step_of set due.uid }) (marked_by (last_of far number step) step)
+
+abbrev pub marked_of : (far set : List Due) → List Step → List Due
+marked_of far set steps = filter_map (λ at. marked_in far set at.0 at.1) (enumerate_from 0 steps)

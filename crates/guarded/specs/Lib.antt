@@ -1,2 +1,4 @@
 pub mod Dues
 pub mod Given
+pub mod Listed
+pub mod Removals

@@ -12,4 +12,5 @@ pub mod guarded_outside;
 pub mod near_look;
 pub mod objection;
 mod removals;
+mod sorted;
 mod still_listed;

@@ -108,8 +108,8 @@ impl<R: Files + AllocGlobal + Clone + Drop> NearLook<R> {
     /// The first near message that is not as the steps that are left take it to be. Where they remove nothing, the folder is not read.
     fn stale(&self) -> io::Result<Option<Objection>> {
         let alloc = self.rt.alloc();
-        let gone = due_of(alloc, &self.removals.gone, self.logged)?;
-        let marked = due_of(alloc, &self.removals.marked, self.logged)?;
+        let gone = due_of(alloc, self.removals.gone.as_slice(), self.logged)?;
+        let marked = due_of(alloc, self.removals.marked.as_slice(), self.logged)?;
         if gone.is_empty() && marked.is_empty() {
             return Ok(None);
         }
@@ -199,11 +199,11 @@ impl<R: Files + Clock + AllocGlobal + Clone + Drop> Guard for NearLook<R> {
     fn asks_far(&self, change: Change) -> bool {
         matches!(change, Change::Expunge(Side::Near))
             && !self.has_listed
-            && !self.removals.expunged.is_empty()
+            && !self.removals.expunged.as_slice().is_empty()
     }
 
     fn may_remove(&mut self, far: &Listing) -> bool {
-        if let Some(uid) = still_listed(&self.removals.expunged, self.logged, far) {
+        if let Some(uid) = still_listed(self.removals.expunged.as_slice(), self.logged, far) {
             self.note(Objection::Undeleted(uid.get()));
         }
         self.has_listed = true;

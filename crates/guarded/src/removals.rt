@@ -1,11 +1,14 @@
 //! What a plan removes, and by which messages it shows that it is not to.
 
-ghost use Rattle.std.specs.Prelude.{◌≡◌, IfOk};
-ghost use Rattle.std.specs.List.{enumerate_from, filter_map};
-ghost use Rattle.guarded.specs.Dues.{after, until, later, gone_by, dropped_near, marked_by, marked_far, set_by, expunged_by, expunged_near, marks_by};
+ghost use Rattle.std.specs.Prelude.{◌≡◌, [], IfOk};
+ghost use Rattle.std.specs.List.{filter_map};
+ghost use Rattle.guarded.specs.Dues.{after, always, until, later, gone_by, dropped_near, marked_by, marked_far, set_by, expunged_by, expunged_near, marks_by};
+ghost use Rattle.guarded.specs.Dues.{dropped_by, expunged_of, gone_by_steps, gone_of, last_of, marked_in, marked_of, set_of};
+ghost use Rattle.guarded.specs.Removals.{AreRemovals, removes_far};
 
 use crate::due::Due;
 use crate::guard::Change;
+use crate::sorted::{Dues, Uids};
 use mailcore::flags::Flag;
 use mailcore::side::{Direction, Side};
 use mailcore::uid::Uid;
@@ -15,46 +18,55 @@ use std::alloc::{AllocError, Global};
 /// What a plan removes.
 #[derive(Drop)]
 pub(crate) struct Removals {
-    /// The near messages that it takes to be removed, by rising UIDs: their counterparts are marked as deleted, or their entries go
-    /// without the plan removing them itself.
-    pub(crate) gone: Vec<Due>,
-    /// The near messages that it takes to be marked as deleted, by rising UIDs: it removes them, or marks their counterparts so.
-    pub(crate) marked: Vec<Due>,
-    /// The far messages that it marks as deleted since their counterparts are removed, by rising UIDs.
-    pub(crate) marks: Vec<Uid>,
-    /// The far messages that it removes, each once it is removed, by rising UIDs.
-    pub(crate) expunged: Vec<Due>,
+    /// The near messages that it takes to be removed: their counterparts are marked as deleted, or their entries go without the plan
+    /// removing them itself.
+    pub(crate) gone: Dues,
+    /// The near messages that it takes to be marked as deleted: it removes them, or marks their counterparts so.
+    pub(crate) marked: Dues,
+    /// The far messages that it marks as deleted since their counterparts are removed.
+    pub(crate) marks: Uids,
+    /// The far messages that it removes, each once it is removed.
+    pub(crate) expunged: Dues,
 }
 
 impl Removals {
     /// Nothing is removed.
-    pub(crate) fn none(alloc: Global) -> Self {
+    pub(crate) fn none(alloc: Global) -> Self
+        ensures { result ≡ record { gone = []; marked = []; marks = []; expunged = [] } }
+    {
         Removals {
-            gone: Vec::new(alloc),
-            marked: Vec::new(alloc),
-            marks: Vec::new(alloc),
-            expunged: Vec::new(alloc),
+            gone: Dues::none(alloc),
+            marked: Dues::none(alloc),
+            marks: Uids::none(alloc),
+            expunged: Dues::none(alloc),
         }
     }
 
     /// What this plan removes.
-    pub(crate) fn of(alloc: Global, plan: &Plan) -> Result<Self, AllocError> {
+    pub(crate) fn of(alloc: Global, plan: &Plan) -> Result<Self, AllocError>
+        ensures { IfOk result (AreRemovals plan.now.steps plan.now.notes) }
+    {
         let steps = plan.steps.as_slice();
-        let mut expunged = expunged_of(alloc, steps)?;
-        expunged.sort_unstable_by_key(|due| due.uid.get());
+        let expunged = Dues::sorted(expunged_of(alloc, steps)?);
+        let set = Dues::sorted(set_of(alloc, steps)?);
+        let gone = gone_of(alloc, steps, plan.notes.as_slice(), &expunged)?;
+        let marked = marked_of(alloc, steps, &expunged, &set)?;
+        let marks = marks_of(alloc, steps)?;
         Ok(Removals {
-            gone: gone_of(alloc, steps, plan.notes.as_slice(), &expunged)?,
-            marked: marked_of(alloc, steps, &expunged)?,
-            marks: in_order(steps.iter().filter_map(marks_by).collect(alloc)?),
+            gone: Dues::sorted(gone),
+            marked: Dues::sorted(marked),
+            marks: Uids::sorted(marks),
             expunged,
         })
     }
 
     /// Whether a call removes a far message, or marks it since its counterpart is removed.
-    pub(crate) fn removes_far(&self, change: Change, uid: Uid) -> bool {
+    pub(crate) fn removes_far(&self, change: Change, uid: Uid) -> bool
+        ensures { result ≡ removes_far self.now change uid }
+    {
         match change {
             Change::Expunge(Side::Far) => true,
-            Change::AddFlags(Side::Far) => is_among(uid, &self.marks),
+            Change::AddFlags(Side::Far) => self.marks.has(uid),
             _ => false,
         }
     }
@@ -65,50 +77,100 @@ fn gone_of(
     alloc: Global,
     steps: &[Step],
     notes: &[Note],
-    far: &[Due],
-) -> Result<Vec<Due>, AllocError> {
-    let expunged = in_order(steps.iter().filter_map(expunged_near).collect(alloc)?);
-    let mut gone: Vec<Due> = steps
-        .iter()
-        .enumerate()
-        .filter_map(|(number, step)| gone_by(last_of(number, step, far), step))
-        .collect(alloc)?;
-    for note in notes {
-        if let Some(uid) = dropped_near(note) {
-            if !is_among(uid, &expunged) {
-                gone.push(always(uid))?;
-            }
-        }
-    }
-    gone.sort_unstable_by_key(|due| due.uid.get());
+    far: &Dues,
+) -> Result<Vec<Due>, AllocError>
+    ensures { IfOk result (λ dues. dues.items ≡ gone_of far.now steps.now notes.now) }
+{
+    let expunged = Uids::sorted(near_expunged_of(alloc, steps)?);
+    let mut gone = gone_by_steps(alloc, steps, far)?;
+    gone.extend_from_slice(&dropped_of(alloc, notes, &expunged)?)?;
     Ok(gone)
 }
 
-/// The near messages that these steps take to be marked as deleted, where they remove these far ones. One that a step marks is asked about
-/// once that step is logged.
-fn marked_of(alloc: Global, steps: &[Step], far: &[Due]) -> Result<Vec<Due>, AllocError> {
-    let mut set: Vec<Due> = steps
+/// The near messages that these steps remove.
+fn near_expunged_of(alloc: Global, steps: &[Step]) -> Result<Vec<Uid>, AllocError>
+    ensures { IfOk result (λ uids. uids.items ≡ filter_map expunged_near steps.now) }
+{
+    steps.iter().filter_map(expunged_near).collect(alloc)
+}
+
+/// The near messages that these steps take to be removed, where they remove these far ones.
+fn gone_by_steps(alloc: Global, steps: &[Step], far: &Dues) -> Result<Vec<Due>, AllocError>
+    ensures { IfOk result (λ dues. dues.items ≡ gone_by_steps far.now steps.now) }
+{
+    steps
+        .iter()
+        .enumerate()
+        .filter_map(|(number, step)| gone_by(last_of(number, step, far), step))
+        .collect(alloc)
+}
+
+/// The near messages of entries that go, but for those that steps remove.
+fn dropped_of(alloc: Global, notes: &[Note], expunged: &Uids) -> Result<Vec<Due>, AllocError>
+    ensures { IfOk result (λ dues. dues.items ≡ filter_map (dropped_by expunged.now) notes.now) }
+{
+    notes
+        .iter()
+        .filter_map(|note| dropped_by(expunged, note))
+        .collect(alloc)
+}
+
+/// The near message of an entry that goes, unless it is one of those that steps remove.
+fn dropped_by(expunged: &Uids, note: &Note) -> Option<Due>
+    ensures { result ≡ dropped_by expunged.now note.now }
+{
+    match dropped_near(note) {
+        Some(uid) if !expunged.has(uid) => Some(always(uid)),
+        _ => None,
+    }
+}
+
+/// The near messages that these steps mark as deleted, each once its step is logged.
+fn set_of(alloc: Global, steps: &[Step]) -> Result<Vec<Due>, AllocError>
+    ensures { IfOk result (λ dues. dues.items ≡ set_of steps.now) }
+{
+    steps
         .iter()
         .enumerate()
         .filter_map(|(number, step)| set_by(number, step))
-        .collect(alloc)?;
-    set.sort_unstable_by_key(|due| due.uid.get());
-    let mut marked: Vec<Due> = steps
+        .collect(alloc)
+}
+
+/// The near messages that these steps take to be marked as deleted, where they remove these far ones and mark these near ones.
+fn marked_of(alloc: Global, steps: &[Step], far: &Dues, set: &Dues) -> Result<Vec<Due>, AllocError>
+    ensures { IfOk result (λ dues. dues.items ≡ marked_of far.now set.now steps.now) }
+{
+    steps
         .iter()
         .enumerate()
-        .filter_map(|(number, step)| marked_by(last_of(number, step, far), step))
-        .collect(alloc)?;
-    for due in &mut marked {
-        due.after = step_of(&set, due.uid);
-    }
-    marked.sort_unstable_by_key(|due| due.uid.get());
-    Ok(marked)
+        .filter_map(|(number, step)| marked_in(far, set, number, step))
+        .collect(alloc)
+}
+
+/// The near message that a step takes to be marked as deleted. One that a step marks is asked about once that step is logged.
+fn marked_in(far: &Dues, set: &Dues, number: usize, step: &Step) -> Option<Due>
+    ensures { result ≡ marked_in far.now set.now number step.now }
+{
+    let due = marked_by(last_of(number, step, far), step)?;
+    Some(Due {
+        after: set.step_of(due.uid),
+        ..due
+    })
+}
+
+/// The far messages that these steps mark as deleted since their counterparts are removed.
+fn marks_of(alloc: Global, steps: &[Step]) -> Result<Vec<Uid>, AllocError>
+    ensures { IfOk result (λ uids. uids.items ≡ filter_map marks_by steps.now) }
+{
+    steps.iter().filter_map(marks_by).collect(alloc)
 }
 
 /// The last step for which the near message of a step is asked about: the far one that it marks may be removed by a later one.
-fn last_of(number: usize, step: &Step, far: &[Due]) -> usize {
+fn last_of(number: usize, step: &Step, far: &Dues) -> usize
+    ensures { result ≡ last_of far.now number step.now }
+{
     match marked_far(step) {
-        Some(uid) => later(number, step_of(far, uid)),
+        Some(uid) => later(number, far.step_of(uid)),
         None => number,
     }
 }
@@ -125,7 +187,7 @@ fn later(number: usize, other: Option<usize>) -> usize
 
 /// The far messages that these steps remove.
 fn expunged_of(alloc: Global, steps: &[Step]) -> Result<Vec<Due>, AllocError>
-    ensures { IfOk result (λ dues. dues.items ≡ filter_map (λ at. expunged_by at.0 at.1) (enumerate_from 0 steps.now)) }
+    ensures { IfOk result (λ dues. dues.items ≡ expunged_of steps.now) }
 {
     steps
         .iter()
@@ -134,29 +196,10 @@ fn expunged_of(alloc: Global, steps: &[Step]) -> Result<Vec<Due>, AllocError>
         .collect(alloc)
 }
 
-/// These UIDs, in rising order.
-fn in_order(uids: Vec<Uid>) -> Vec<Uid> {
-    let mut uids = uids;
-    uids.sort_unstable_by_key(|uid| uid.get());
-    uids
-}
-
-/// Whether a UID is one of these, which rise.
-fn is_among(uid: Uid, uids: &[Uid]) -> bool {
-    uids.binary_search_by_key(&uid.get(), |one| one.get())
-        .is_ok()
-}
-
-/// The step once which a message is asked about, if it is one of these, which rise.
-fn step_of(dues: &[Due], uid: Uid) -> Option<usize> {
-    match dues.binary_search_by_key(&uid.get(), |due| due.uid.get()) {
-        Ok(at) => dues[at].after,
-        Err(_) => None,
-    }
-}
-
 /// A message that is asked about in the whole plan.
-fn always(uid: Uid) -> Due {
+fn always(uid: Uid) -> Due
+    ensures { result ≡ always uid }
+{
     Due {
         uid,
         after: None,

@@ -1,0 +1,7 @@
+use Rattle.std.proofs.Common.{rules}
+use Rattle.guarded.specs.declared.due.Due.{Due}
+use Rattle.guarded.proofs.LookedUp.{rises_by}
+use Rattle.guarded.proofs.sorted.Dues.sorted.Goals as goal
+
+pub invariant_of-result : goal.invariant_of-result
+invariant_of-result c = rises_by (λ (due : Due). due.uid) _ c.sort_unstable_by_key.ensures.sorted (λ a r q k. search rules)
