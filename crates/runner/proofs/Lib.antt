@@ -23,5 +23,6 @@ pub mod Naming
 pub mod GivingUp
 pub mod GivenUpRead
 pub mod PassTells
+pub mod StageLemmas
 pub mod Sourced
 pub mod HalfEntries

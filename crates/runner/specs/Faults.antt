@@ -136,6 +136,10 @@ performing refused = record { changed = λ side. ⊥; keywords = ⊥; repeats = 
 abbrev pub because : (changed : Side → Type 0) → (repeats : Type 0) → Reasons
 because changed repeats = record { changed = changed; keywords = ⊥; repeats = repeats; beyond = ⊥; greatest = ⊥; unread = λ fault. ⊥; refused = λ step. ⊥; unstepped = Unit {0} }
 
+-- where marks may repeat too
+abbrev pub or_repeats : (repeats : Type 0) → Reasons → Reasons
+or_repeats repeats reasons = record reasons { repeats = repeats }
+
 -- where the map of keywords may have changed too
 abbrev pub or_keywords : (keywords : Type 0) → Reasons → Reasons
 or_keywords keywords reasons = record reasons { keywords = keywords }

@@ -13,6 +13,7 @@ pub mod Finding
 pub mod Naming
 pub mod Settled
 pub mod Passes
+pub mod PassStages
 pub mod Sources
 pub mod HalfEntries
 pub mod GivingUp

@@ -1,21 +1,19 @@
-//! A whole run: it is begun, or taken up where its plan is pending, and its state is committed.
+//! A whole run: it is begun, or resumed where its plan is pending, and its state is committed.
 
-ghost use Rattle.std.specs.Prelude.{◌≡◌, ◌<◌, ◌+◌, ◌^◌, [], None, IsErr, OnOk, IfOk, true, false};
-ghost use Rattle.outside.specs.Opened.{AreCommitted, IsBook, IsHeld, IsRead, TakesCommit};
+ghost use Rattle.std.specs.Prelude.{◌≡◌, ◌<◌, ◌+◌, ◌^◌, None, IsErr, OnOk, IfOk, true, false};
+ghost use Rattle.outside.specs.Opened.{IsBook, IsRead, TakesCommit};
 ghost use Rattle.run_states.specs.Conditions.{Underway};
 ghost use Rattle.run_states.specs.Openings.{Opening};
-ghost use Rattle.runner.specs.Faults.{ReadsBeyond, because, or_beyond, or_keywords};
 ghost use Rattle.runner.specs.Maps.{HasMapIn};
-ghost use Rattle.runner.specs.ChangedMaps.{TellsMap};
+ghost use Rattle.runner.specs.Faults.{or_repeats};
 ghost use Rattle.runner.specs.Parts.{IsStuck, Part, PartOr, RunPart, Unstepped};
-ghost use Rattle.runner.specs.Validities.{IsKept, LeavesBoxes, TellsChange, TellsUnlessSame};
-ghost use Rattle.runner.specs.Going.{AreOpen, BeforeStep, IsGoing, log_at, next_at, plan_at};
-ghost use Rattle.runner.specs.Before.{HasNoPlan, HasPlan, IsEmptied, ReadUnderway, Resumed};
-ghost use Rattle.runner.specs.Results.{EndsBy, HasResults, Report, PassedOver};
-ghost use Rattle.runner.specs.Finding.{FindsBy, OfSame};
-ghost use Rattle.runner.specs.Naming.{NamesBy};
-ghost use Rattle.runner.specs.Answers.{AnswersTo, RunEnd, HasRepeats, PlanStart, PassStart, ReadPassStart, IsRun, Moves, OfFiles, PassEnd, RunsBy, made_in, run_of};
+ghost use Rattle.runner.specs.Validities.{IsKept};
+ghost use Rattle.runner.specs.Going.{AreOpen, BeforeStep, IsGoing, next_at};
+ghost use Rattle.runner.specs.Before.{HasPlan, ReadUnderway, Resumed};
+ghost use Rattle.runner.specs.Results.{HasResults};
+ghost use Rattle.runner.specs.Answers.{RunEnd, HasRepeats, PlanStart, PassStart, Moves, OfFiles, PassEnd, made_in, run_of};
 ghost use Rattle.runner.specs.Attempts.{AnswersAt};
+ghost use Rattle.runner.specs.PassStages.{Concluded, DrawnStage, Frame, IsReadFor, LeavesSkipped, MayPlan, Proposed, ReadStage, Stage, plan_reasons, read_reasons, run_reasons};
 ghost use Rattle.runner.specs.Passes.{LeavesMade, TellsRun, pass_reasons};
 
 use crate::fault::{RunFault, call_fault};
@@ -38,15 +36,10 @@ fn conclude<O: Outside>(outside: &mut O, is_resumed: bool) -> Result<(), RunFaul
     requires going { IsGoing (O.opened outside.old) }
     requires takes { TakesCommit (O.opened outside.old) }
     requires ended { next_at (O.opened outside.old) ≡ None }
-    ensures was_honest { O.honest outside.new → O.honest outside.old }
-    ensures keywords { O.keywords outside.new ≡ O.keywords outside.old }
-    ensures committed { OnOk result (AreCommitted (O.opened outside.old) (O.opened outside.new)) }
-    ensures held { OnOk result (O.honest outside.new → IsHeld (O.opened outside.new) (O.seen outside.new).device) }
-    ensures ends { OnOk result (O.honest outside.new → BeforeStep opening (O.opened outside.old) is_resumed
-        (O.seen outside.old).device → EndsBy opening (plan_at (O.opened outside.old)) (log_at (O.opened outside.old))
-        (O.seen outside.new).device) }
-    ensures part { Part (O.honest outside.new) (BeforeStep opening (O.opened outside.old) is_resumed)
-        (Underway opening) (λ _. 0) (λ _. RunEnd opening) (O.seen outside.old) (O.seen outside.new) result }
+    ensures frame { Frame O.Outside outside.old outside.new }
+    ensures concluded { OnOk result (Concluded O.Outside opening is_resumed outside.old outside.new) }
+    ensures part { Part (O.honest outside.new) (BeforeStep opening (O.opened outside.old) is_resumed) (Underway opening) (λ _. 0)
+        (λ _. RunEnd opening) (O.seen outside.old) (O.seen outside.new) result }
 {
     match outside.commit() {
         Ok(()) => Ok(()),
@@ -62,23 +55,14 @@ fn propose<O: Outside, R: Rng>(
     rng: &mut R,
 ) -> Result<Vec<(Side, Uid)>, RunFault>
     ghost opening: { Opening O.ours O.alone }
-    requires none { HasNoPlan (O.opened outside.old) }
-    requires boxes { AreOpen (O.opened outside.old) }
-    requires room { run_of (O.opened outside.old) + 1 < 2 ^ 64 }
-    requires map { opening.options.keywords ≡ O.keywords outside.old }
-    ensures was_honest { O.honest outside.new → O.honest outside.old }
-    ensures keywords { O.keywords outside.new ≡ O.keywords outside.old }
-    ensures going { OnOk result (IsGoing (O.opened outside.new)) }
-    ensures log { OnOk result (log_at (O.opened outside.new) ≡ []) }
-    ensures run { IfOk result (λ unfit. IsRun (O.opened outside.old) options.now (R.stream rng.old) (plan_at (O.opened outside.new)).steps
-        unfit.items) }
-    ensures passed_over { IfOk result (λ unfit. O.honest outside.new → PlanStart opening (O.opened outside.old) options.now
-        (R.stream rng.old) (O.seen outside.old).device → PassedOver opening (plan_at (O.opened outside.new)) unfit.items) }
+    requires ready { MayPlan O.Outside opening outside.old }
+    ensures frame { Frame O.Outside outside.old outside.new }
     ensures moved { Moves (R.stream rng.old) (R.stream rng.new) }
-    ensures part { PartOr (because (TellsUnlessSame (O.honest outside.new) (O.opened outside.old) (O.seen outside.old).device)
-        (HasRepeats opening (O.honest outside.new) (PlanStart opening (O.opened outside.old) options.now
-        (R.stream rng.old) (O.seen outside.old).device) options.now (R.stream rng.old))) (O.honest outside.new)
-        (PlanStart opening (O.opened outside.old) options.now (R.stream rng.old)) (Underway opening) (λ _. 0)
+    ensures proposed { IfOk result (λ unfit. Proposed O.Outside opening options.now (R.stream rng.old) outside.old outside.new
+        unfit.items) }
+    ensures part { PartOr (or_repeats (HasRepeats opening (O.honest outside.new) (PlanStart opening (O.opened outside.old) options.now
+        (R.stream rng.old) (O.seen outside.old).device) options.now (R.stream rng.old)) (plan_reasons O.Outside outside.old outside.new))
+        (O.honest outside.new) (PlanStart opening (O.opened outside.old) options.now (R.stream rng.old)) (Underway opening) (λ _. 0)
         (λ _. BeforeStep opening (O.opened outside.new) false) (O.seen outside.old) (O.seen outside.new) result }
 {
     clear(outside)?;
@@ -98,30 +82,10 @@ fn begin<O: Outside, R: Rng, P: Progress>(
     progress: &P,
 ) -> Result<Pass, RunFault>
     ghost opening: { Opening O.ours O.alone }
-    requires none { HasNoPlan (O.opened outside.old) }
-    requires boxes { AreOpen (O.opened outside.old) }
-    requires room { run_of (O.opened outside.old) + 1 < 2 ^ 64 }
-    requires map { opening.options.keywords ≡ O.keywords outside.old }
-    ensures was_honest { O.honest outside.new → O.honest outside.old }
-    ensures keywords { O.keywords outside.new ≡ O.keywords outside.old }
-    ensures answer { IfOk result (AnswersTo (run_of (O.opened outside.old) + 1) (O.opened outside.old)) }
-    ensures results { IfOk result (λ pass. O.honest outside.new → HasResults pass (O.seen outside.new).device) }
-    ensures told { IfOk result (λ pass. O.honest outside.new → PlanStart opening (O.opened outside.old)
-        options.now (R.stream rng.old) (O.seen outside.old).device → Report opening pass (O.seen outside.new).device) }
-    ensures runs { IfOk result (RunsBy (O.opened outside.old) options.now (R.stream rng.old)) }
-    ensures fresh { IfOk result (λ pass. pass ≡ Pass.Already → ⊥) }
-    ensures moved { Moves (R.stream rng.old) (R.stream rng.new) }
-    ensures found { IfOk result (λ pass. O.honest outside.new → PlanStart opening (O.opened outside.old)
-        options.now (R.stream rng.old) (O.seen outside.old).device
-        → OfSame O.ours (O.seen outside.old).device (λ d. FindsBy (O.opened outside.old) d pass)) }
-    ensures named { IfOk result (λ pass. O.honest outside.new → PlanStart opening (O.opened outside.old)
-        options.now (R.stream rng.old) (O.seen outside.old).device
-        → NamesBy opening (O.opened outside.old) pass (O.seen outside.old).device (O.seen outside.new).device) }
-    ensures part { RunPart (because (TellsUnlessSame (O.honest outside.new) (O.opened outside.old) (O.seen outside.old).device)
-        (HasRepeats opening (O.honest outside.new) (PlanStart opening (O.opened outside.old) options.now
-        (R.stream rng.old) (O.seen outside.old).device) options.now (R.stream rng.old))) (O.opened outside.new) (O.honest outside.new)
-        (PlanStart opening (O.opened outside.old) options.now (R.stream rng.old)) (Underway opening) made_in
-        (λ _. RunEnd opening) (O.seen outside.old) (O.seen outside.new) result }
+    requires ready { MayPlan O.Outside opening outside.old }
+    ensures stage { DrawnStage O.Outside opening (run_of (O.opened outside.old) + 1) options.now (R.stream rng.old) (R.stream rng.new)
+        (plan_reasons O.Outside outside.old outside.new) (PlanStart opening (O.opened outside.old) options.now (R.stream rng.old))
+        (RunEnd opening) outside.old outside.new result }
 {
     let unfit = propose(alloc, outside, options, rng)?;
     let performed = carry_out(alloc, outside, false, progress)?;
@@ -140,21 +104,8 @@ fn resume<O: Outside, P: Progress>(
     requires plan { HasPlan (O.opened outside.old) }
     requires boxes { AreOpen (O.opened outside.old) }
     requires map { opening.options.keywords ≡ O.keywords outside.old }
-    ensures was_honest { O.honest outside.new → O.honest outside.old }
-    ensures keywords { O.keywords outside.new ≡ O.keywords outside.old }
-    ensures answer { IfOk result (AnswersTo (run_of (O.opened outside.old) + 1) (O.opened outside.old)) }
-    ensures results { IfOk result (λ pass. O.honest outside.new → HasResults pass (O.seen outside.new).device) }
-    ensures told { IfOk result (λ pass. O.honest outside.new → Resumed opening (O.opened outside.old)
-        (O.seen outside.old).device → Report opening pass (O.seen outside.new).device) }
-    ensures finished { IfOk result (λ pass. pass ≡ Pass.Already → ⊥) }
-    ensures found { IfOk result (λ pass. O.honest outside.new → Resumed opening (O.opened outside.old)
-        (O.seen outside.old).device
-        → OfSame O.ours (O.seen outside.old).device (λ d. FindsBy (O.opened outside.old) d pass)) }
-    ensures named { IfOk result (λ pass. O.honest outside.new → Resumed opening (O.opened outside.old)
-        (O.seen outside.old).device
-        → NamesBy opening (O.opened outside.old) pass (O.seen outside.old).device (O.seen outside.new).device) }
-    ensures part { RunPart Unstepped (O.opened outside.new) (O.honest outside.new) (Resumed opening (O.opened outside.old))
-        (Underway opening) made_in (λ _. RunEnd opening) (O.seen outside.old) (O.seen outside.new) result }
+    ensures stage { Stage O.Outside opening (run_of (O.opened outside.old) + 1) Unstepped (Resumed opening (O.opened outside.old))
+        (RunEnd opening) outside.old outside.new result }
 {
     untear(outside)?;
     let performed = carry_out(alloc, outside, true, progress)?;
@@ -167,14 +118,11 @@ fn skip<O: Outside>(outside: &mut O) -> Result<Pass, RunFault>
     ghost opening: { Opening O.ours O.alone }
     requires read { IsRead (O.opened outside.old) }
     requires whole { (O.seen outside.old).is_broken ≡ false }
-    ensures was_honest { O.honest outside.new → O.honest outside.old }
-    ensures keywords { O.keywords outside.new ≡ O.keywords outside.old }
+    ensures frame { Frame O.Outside outside.old outside.new }
     ensures answer { IfOk result (λ pass. pass ≡ Pass.Already) }
-    ensures stores { OnOk result (LeavesBoxes (O.honest outside.new) O.alone (O.seen outside.old).device (O.seen outside.new).device) }
-    ensures emptied { OnOk result (O.honest outside.new → IsHeld (O.opened outside.old) (O.seen outside.old).device
-        → IsEmptied (O.opened outside.old) (O.seen outside.new).device) }
-    ensures part { Part (O.honest outside.new) (ReadUnderway opening (O.opened outside.old)) (Underway opening)
-        made_in (λ _. PassEnd opening (run_of (O.opened outside.old))) (O.seen outside.old) (O.seen outside.new) result }
+    ensures made { OnOk result (LeavesSkipped O.Outside outside.old outside.new) }
+    ensures part { Part (O.honest outside.new) (ReadUnderway opening (O.opened outside.old)) (Underway opening) made_in
+        (λ _. PassEnd opening (run_of (O.opened outside.old))) (O.seen outside.old) (O.seen outside.new) result }
 {
     forget(outside)?;
     Ok(Pass::Already)
@@ -194,28 +142,8 @@ fn work<O: Outside, R: Rng, P: Progress>(
     requires room { run_of (O.opened outside.old) + 1 < 2 ^ 64 }
     requires mapped { HasMapIn options.now.keywords (O.opened outside.old) }
     requires map { opening.options.keywords ≡ O.keywords outside.old }
-    ensures was_honest { O.honest outside.new → O.honest outside.old }
-    ensures keywords { O.keywords outside.new ≡ O.keywords outside.old }
-    ensures answer { IfOk result (AnswersTo (run_of (O.opened outside.old) + 1) (O.opened outside.old)) }
-    ensures results { IfOk result (λ pass. O.honest outside.new → HasResults pass (O.seen outside.new).device) }
-    ensures told { IfOk result (λ pass. O.honest outside.new → ReadPassStart opening (O.opened outside.old)
-        (run_of (O.opened outside.old) + 1) options.now (R.stream rng.old) (O.seen outside.old).device → Report opening
-        pass (O.seen outside.new).device) }
-    ensures runs { IfOk result (RunsBy (O.opened outside.old) options.now (R.stream rng.old)) }
-    ensures fresh { IfOk result (λ pass. pass ≡ Pass.Already → ⊥) }
-    ensures moved { Moves (R.stream rng.old) (R.stream rng.new) }
-    ensures found { IfOk result (λ pass. O.honest outside.new → ReadPassStart opening (O.opened outside.old)
-        (run_of (O.opened outside.old) + 1) options.now (R.stream rng.old) (O.seen outside.old).device
-        → OfSame O.ours (O.seen outside.old).device (λ d. FindsBy (O.opened outside.old) d pass)) }
-    ensures named { IfOk result (λ pass. O.honest outside.new → ReadPassStart opening (O.opened outside.old)
-        (run_of (O.opened outside.old) + 1) options.now (R.stream rng.old) (O.seen outside.old).device
-        → NamesBy opening (O.opened outside.old) pass (O.seen outside.old).device (O.seen outside.new).device) }
-    ensures part { RunPart (because (TellsUnlessSame (O.honest outside.new) (O.opened outside.old) (O.seen outside.old).device)
-        (HasRepeats opening (O.honest outside.new) (ReadPassStart opening (O.opened outside.old)
-        (run_of (O.opened outside.old) + 1) options.now (R.stream rng.old) (O.seen outside.old).device) options.now (R.stream rng.old)))
-        (O.opened outside.new) (O.honest outside.new)
-        (ReadPassStart opening (O.opened outside.old) (run_of (O.opened outside.old) + 1) options.now (R.stream rng.old))
-        (Underway opening) made_in (λ _. RunEnd opening) (O.seen outside.old) (O.seen outside.new) result }
+    ensures stage { ReadStage O.Outside opening (run_of (O.opened outside.old) + 1) options.now (R.stream rng.old) (R.stream rng.new)
+        (plan_reasons O.Outside outside.old outside.new) (RunEnd opening) outside.old outside.new result }
 {
     if outside.pending().is_some() {
         resume(alloc, outside, progress)
@@ -236,38 +164,16 @@ fn open_and_work<O: Outside, R: Rng, P: Progress>(
     requires book { IsBook (O.opened outside.old) }
     requires room { run_of (O.opened outside.old) + 1 < 2 ^ 64 }
     requires map { O.keywords outside.old ≡ options.now.keywords }
-    ensures was_honest { O.honest outside.new → O.honest outside.old }
-    ensures keywords { O.keywords outside.new ≡ O.keywords outside.old }
-    ensures answer { IfOk result (AnswersTo (run_of (O.opened outside.old) + 1) (O.opened outside.old)) }
-    ensures results { IfOk result (λ pass. O.honest outside.new → HasResults pass (O.seen outside.new).device) }
-    ensures told { IfOk result (λ pass. O.honest outside.new → ReadPassStart opening (O.opened outside.old)
-        (run_of (O.opened outside.old) + 1) options.now (R.stream rng.old) (O.seen outside.old).device → Report opening
-        pass (O.seen outside.new).device) }
-    ensures runs { IfOk result (RunsBy (O.opened outside.old) options.now (R.stream rng.old)) }
-    ensures fresh { IfOk result (λ pass. pass ≡ Pass.Already → ⊥) }
-    ensures moved { Moves (R.stream rng.old) (R.stream rng.new) }
-    ensures found { IfOk result (λ pass. O.honest outside.new → ReadPassStart opening (O.opened outside.old)
-        (run_of (O.opened outside.old) + 1) options.now (R.stream rng.old) (O.seen outside.old).device
-        → OfSame O.ours (O.seen outside.old).device (λ d. FindsBy (O.opened outside.old) d pass)) }
-    ensures named { IfOk result (λ pass. O.honest outside.new → ReadPassStart opening (O.opened outside.old)
-        (run_of (O.opened outside.old) + 1) options.now (R.stream rng.old) (O.seen outside.old).device
-        → NamesBy opening (O.opened outside.old) pass (O.seen outside.old).device (O.seen outside.new).device) }
-    ensures part { RunPart (or_keywords (TellsMap (O.honest outside.new) O.alone (O.opened outside.old) (O.opened outside.new)
-        options.now.keywords (O.seen outside.old).device (O.seen outside.new).device)
-        (because (TellsChange (O.honest outside.new) O.alone (O.opened outside.old) (O.seen outside.old).device (O.seen outside.new).device)
-        (HasRepeats opening (O.honest outside.new) (ReadPassStart opening (O.opened outside.old)
-        (run_of (O.opened outside.old) + 1) options.now (R.stream rng.old) (O.seen outside.old).device) options.now (R.stream rng.old))))
-        (O.opened outside.new) (O.honest outside.new)
-        (ReadPassStart opening (O.opened outside.old) (run_of (O.opened outside.old) + 1) options.now (R.stream rng.old))
-        (Underway opening) made_in (λ _. RunEnd opening) (O.seen outside.old) (O.seen outside.new) result }
+    ensures stage { ReadStage O.Outside opening (run_of (O.opened outside.old) + 1) options.now (R.stream rng.old) (R.stream rng.new)
+        (read_reasons O.Outside options.now.keywords outside.old outside.new) (RunEnd opening) outside.old outside.new result }
 {
     open_boxes(outside)?;
     same_map(outside, options)?;
     work(alloc, outside, options, rng, progress)
 }
 
-/// Carries out the run of this number, once the shelf was read.
-fn take_up<O: Outside, R: Rng, P: Progress>(
+/// Makes the run of this number, or resumes it, once the shelf was read. A run that was made before is skipped.
+fn make_or_resume<O: Outside, R: Rng, P: Progress>(
     alloc: Global,
     outside: &mut O,
     run: u64,
@@ -276,36 +182,11 @@ fn take_up<O: Outside, R: Rng, P: Progress>(
     progress: &P,
 ) -> Result<Pass, RunFault>
     ghost opening: { Opening O.ours O.alone }
-    requires book { IsBook (O.opened outside.old) }
-    requires whole { (O.seen outside.old).is_broken ≡ false }
-    requires map { O.keywords outside.old ≡ options.now.keywords }
-    ensures was_honest { O.honest outside.new → O.honest outside.old }
-    ensures keywords { O.keywords outside.new ≡ O.keywords outside.old }
-    ensures answer { IfOk result (AnswersTo run (O.opened outside.old)) }
-    ensures results { IfOk result (λ pass. O.honest outside.new → HasResults pass (O.seen outside.new).device) }
-    ensures told { IfOk result (λ pass. O.honest outside.new → ReadPassStart opening (O.opened outside.old)
-        run options.now (R.stream rng.old) (O.seen outside.old).device → Report opening pass (O.seen outside.new).device) }
-    ensures runs { IfOk result (RunsBy (O.opened outside.old) options.now (R.stream rng.old)) }
-    ensures stores { IfOk result (λ pass. pass ≡ Pass.Already → LeavesBoxes (O.honest outside.new) O.alone (O.seen outside.old).device
-        (O.seen outside.new).device) }
-    ensures emptied { IfOk result (λ pass. pass ≡ Pass.Already → O.honest outside.new → IsHeld (O.opened outside.old)
-        (O.seen outside.old).device → IsEmptied (O.opened outside.old) (O.seen outside.new).device) }
-    ensures moved { Moves (R.stream rng.old) (R.stream rng.new) }
-    ensures found { IfOk result (λ pass. O.honest outside.new → ReadPassStart opening (O.opened outside.old)
-        run options.now (R.stream rng.old) (O.seen outside.old).device
-        → OfSame O.ours (O.seen outside.old).device (λ d. FindsBy (O.opened outside.old) d pass)) }
-    ensures named { IfOk result (λ pass. O.honest outside.new → ReadPassStart opening (O.opened outside.old)
-        run options.now (R.stream rng.old) (O.seen outside.old).device
-        → NamesBy opening (O.opened outside.old) pass (O.seen outside.old).device (O.seen outside.new).device) }
+    requires read { IsReadFor O.Outside options.now outside.old }
+    ensures stage { ReadStage O.Outside opening run options.now (R.stream rng.old) (R.stream rng.new)
+        (run_reasons O.Outside run options.now.keywords outside.old outside.new) (PassEnd opening run) outside.old outside.new result }
+    ensures made { IfOk result (λ pass. pass ≡ Pass.Already → LeavesSkipped O.Outside outside.old outside.new) }
     ensures beyond { run_of (O.opened outside.old) + 1 < run → IsErr result × (O.seen outside.new ≡ O.seen outside.old) }
-    ensures part { RunPart (or_beyond (ReadsBeyond (O.opened outside.old) run × ReadsBeyond (O.opened outside.new) run)
-        (or_keywords (TellsMap (O.honest outside.new) O.alone (O.opened outside.old) (O.opened outside.new) options.now.keywords
-        (O.seen outside.old).device (O.seen outside.new).device)
-        (because (TellsChange (O.honest outside.new) O.alone (O.opened outside.old) (O.seen outside.old).device (O.seen outside.new).device)
-        (HasRepeats opening (O.honest outside.new) (ReadPassStart opening (O.opened outside.old) run options.now
-        (R.stream rng.old) (O.seen outside.old).device) options.now (R.stream rng.old))))) (O.opened outside.new) (O.honest outside.new)
-        (ReadPassStart opening (O.opened outside.old) run options.now (R.stream rng.old)) (Underway opening)
-        made_in (λ _. PassEnd opening run) (O.seen outside.old) (O.seen outside.new) result }
 {
     let last = outside.state().run;
     if run <= last {
@@ -363,5 +244,5 @@ pub fn pass<O: Outside, R: Rng, P: Progress>(
         (O.seen outside.new) result }
 {
     recall(outside)?;
-    take_up(alloc, outside, run, options, rng, progress)
+    make_or_resume(alloc, outside, run, options, rng, progress)
 }

@@ -1,3 +1,4 @@
+use Rattle.std.proofs.Common.{refl}
 use Rattle.run_states.specs.Conditions.{Underway}
 use Rattle.runner.specs.Going.{BeforeStep, log_at, plan_at}
 use Rattle.runner.specs.Parts.{Passed}
@@ -26,12 +27,18 @@ returns-in-Err-clause-part g c =
           (λ x t. end_underway g.opening s1.device (ended_at g.opening opened seek _ m s1.device c.requires.1.0 c.requires.1.1.1 a at t)),
     )))
 
-pub returns-in-Ok-clause-ends : goal.returns-in-Ok-clause-ends
-returns-in-Ok-clause-ends g c = λ h k.
+pub returns-in-Ok-clause-frame : goal.returns-in-Ok-clause-frame
+returns-in-Ok-clause-frame g c = record { was_honest = c.in-Ok.ensures.was_honest; keywords = c.in-Ok.ensures.keywords }
+
+pub returns-in-Err-clause-frame : goal.returns-in-Err-clause-frame
+returns-in-Err-clause-frame g c = record { was_honest = c.in-Err.ensures.was_honest; keywords = c.in-Err.ensures.keywords }
+
+pub returns-in-Ok-clause-concluded : goal.returns-in-Ok-clause-concluded
+returns-in-Ok-clause-concluded g c =
     let opened = g.O.Outside.opened c.args.outside.now in
     let seek = c.args.is_resumed in
     let s0 = g.O.Outside.seen c.args.outside.now in
     let s1 = g.O.Outside.seen c.commit.new.self in
     let p : Passed (g.O.Outside.honest c.commit.new.self) (BeforeStep g.opening opened seek) (EndsBy g.opening (plan_at opened) (log_at opened)) 0 s0 s1 =
     passed_call _ _ _ _ _ _ _ _ _ _ _ c.in-Ok.ensures.call (λ m at a own. ends_by g.opening opened seek _ m s1.device c.requires.1.0 c.requires.1.1.1 a at own) in
-    p.reaches h k
+    record { committed = c.in-Ok.ensures.opened; held = c.in-Ok.ensures.held refl; ends = p.reaches }

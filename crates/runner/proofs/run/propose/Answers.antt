@@ -1,13 +1,14 @@
 use Rattle.std.proofs.Common.{◌≡◌, refl, rules, ap, subst, sym, ◌∙◌}
 use Rattle.std.proofs.lemmas.Result.{err_from_is_err_and}
 use Rattle.book.specs.declared.book.Pending.TheVariants.{Missing}
+use Rattle.book.specs.BookLogs.{begun}
 use Rattle.outside.specs.Opened.{turned}
 use Rattle.rules.specs.declared.plan.Plan.{Plan}
 use Rattle.run_states.specs.Conditions.{Underway}
 use Rattle.runner.specs.Answers.{HasRepeats, Inputs, PlanStart}
 use Rattle.runner.specs.Before.{IsMade}
 use Rattle.runner.specs.Faults.{because}
-use Rattle.runner.specs.Going.{plan_at}
+use Rattle.runner.specs.Going.{IsGoing, log_at, plan_at}
 use Rattle.runner.specs.Results.{PassedOver}
 use Rattle.runner.specs.Validities.{TellsUnlessSame}
 use Rattle.runner.proofs.StepParts.{left_unstepped}
@@ -22,14 +23,14 @@ use Rattle.runner.proofs.run.propose.Goals as goal
 pub list_both-requires : goal.list_both-requires
 list_both-requires g c κs within =
     let old = g.O.Outside.opened c.args.outside.now in
-    (search rules, (rw c.in_ok-clear.ensures.opened (turned_read (λ _. Missing) old (none_read old c.requires.1.1.0)), (rw c.in_ok-clear.ensures.opened (turned_open (λ _. Missing) old c.requires.1.1.1.0), c.requires.1.1.1.1.1 ∙ sym c.clear.ensures.keywords)))
+    (search rules, (rw c.in_ok-clear.ensures.opened (turned_read (λ _. Missing) old (none_read old c.requires.1.1.none)), (rw c.in_ok-clear.ensures.opened (turned_open (λ _. Missing) old c.requires.1.1.boxes), c.requires.1.1.map ∙ sym c.clear.ensures.keywords)))
 
 pub make_plan-requires : goal.make_plan-requires
 make_plan-requires g c =
     let old = g.O.Outside.opened c.args.outside.now in
     record {
-      journal = rw (c.list_both.ensures.opened, c.in_ok-clear.ensures.opened) (missing_here old c.requires.1.1.0);
-      room = rw (c.list_both.ensures.opened, c.in_ok-clear.ensures.opened, turned_run (λ _. Missing) old) c.requires.1.1.1.1.0;
+      journal = rw (c.list_both.ensures.opened, c.in_ok-clear.ensures.opened) (missing_here old c.requires.1.1.none);
+      room = rw (c.list_both.ensures.opened, c.in_ok-clear.ensures.opened, turned_run (λ _. Missing) old) c.requires.1.1.room;
       far_numbers = c.in_ok-both.ensures.far_numbers;
       near_numbers = c.in_ok-both.ensures.near_numbers;
     }
@@ -37,7 +38,7 @@ make_plan-requires g c =
 pub passed_over-requires : goal.passed_over-requires
 passed_over-requires g c =
     let old = g.O.Outside.opened c.args.outside.now in
-    record { read = rw (c.list_both.ensures.opened, c.in_ok-clear.ensures.opened) (turned_read (λ _. Missing) old (none_read old c.requires.1.1.0)) }
+    record { read = rw (c.list_both.ensures.opened, c.in_ok-clear.ensures.opened) (turned_read (λ _. Missing) old (none_read old c.requires.1.1.none)) }
 
 pub write_plan-requires : goal.write_plan-requires
 write_plan-requires g c κs within = (search rules, c.in_ok-plan.ensures.takes)
@@ -63,7 +64,7 @@ returns-in_err-plan-clause-part g c =
     let emptied = c.list_both.ensures.opened ∙ c.in_ok-clear.ensures.opened in
     let s2 = g.O.Outside.seen c.list_both.new.outside in
     let reasons = because (TellsUnlessSame (g.O.Outside.honest c.list_both.new.outside) old (g.O.Outside.seen c.args.outside.now).device) (HasRepeats g.opening (g.O.Outside.honest c.list_both.new.outside) (PlanStart g.opening old c.args.options.now (g.R.Rng.stream c.args.rng.now) (g.O.Outside.seen c.args.outside.now).device) c.args.options.now (g.R.Rng.stream c.args.rng.now)) in
-    rw (e.1, e.2) (left_weaker _ _ _ _ _ _ _ (λ d k. k.none) (left_here _ _ _ _ _ _ _ _ so_far (caused_plan reasons _ s2 s2 c.in_err-plan.ensures.fault (λ side is. unless_same _ _ old _ both.far both.near side _ s1.device emptied c.requires.1.1.0 c.in_ok-both.ensures.was_honest c.in_ok-clear.ensures.validities c.in_ok-both.ensures.validities (c.in_err-plan.ensures.changed side is)) (λ is. repeats_since g.opening (g.O.Outside.opened c.list_both.new.outside) c.args.options.now (g.R.Rng.stream c.args.rng.now) both.far both.near _ _ s2.device (c.in_err-plan.ensures.repeats is) (λ h (k : PlanStart g.opening old c.args.options.now (g.R.Rng.stream c.args.rng.now) (g.O.Outside.seen c.args.outside.now).device). rw c.list_both.ensures.opened (so_far.reaches h k.none)))) (λ k. after_plan (Underway g.opening) _ _ _ c.in_err-plan.ensures.fault (clear_underway g.opening _ _ _ k.clear))))
+    rw (e.1, e.2) (left_weaker _ _ _ _ _ _ _ (λ d k. k.none) (left_here _ _ _ _ _ _ _ _ so_far (caused_plan reasons _ s2 s2 c.in_err-plan.ensures.fault (λ side is. unless_same _ _ old _ both.far both.near side _ s1.device emptied c.requires.1.1.none c.in_ok-both.ensures.was_honest c.in_ok-clear.ensures.validities c.in_ok-both.ensures.validities (c.in_err-plan.ensures.changed side is)) (λ is. repeats_since g.opening (g.O.Outside.opened c.list_both.new.outside) c.args.options.now (g.R.Rng.stream c.args.rng.now) both.far both.near _ _ s2.device (c.in_err-plan.ensures.repeats is) (λ h (k : PlanStart g.opening old c.args.options.now (g.R.Rng.stream c.args.rng.now) (g.O.Outside.seen c.args.outside.now).device). rw c.list_both.ensures.opened (so_far.reaches h k.none)))) (λ k. after_plan (Underway g.opening) _ _ _ c.in_err-plan.ensures.fault (clear_underway g.opening _ _ _ k.clear))))
 
 pub returns-in_err-unfit-clause-part : goal.returns-in_err-unfit-clause-part
 returns-in_err-unfit-clause-part g c =
@@ -74,25 +75,6 @@ returns-in_err-unfit-clause-part g c =
     let s2 = g.O.Outside.seen c.list_both.new.outside in
     let reasons = because (TellsUnlessSame (g.O.Outside.honest c.list_both.new.outside) old (g.O.Outside.seen c.args.outside.now).device) (HasRepeats g.opening (g.O.Outside.honest c.list_both.new.outside) (PlanStart g.opening old c.args.options.now (g.R.Rng.stream c.args.rng.now) (g.O.Outside.seen c.args.outside.now).device) c.args.options.now (g.R.Rng.stream c.args.rng.now)) in
     rw (e.1, e.2) (left_weaker _ _ _ _ _ _ _ (λ d k. k.none) (left_here _ _ _ _ _ _ _ _ so_far (caused_memory reasons _ s2 s2 c.in_err-unfit.ensures.fault) (λ k. after_plan (Underway g.opening) _ _ _ (memory_plan _ c.in_err-unfit.ensures.fault) (clear_underway g.opening _ _ _ k.clear))))
-
-pub returns-clause-going : goal.returns-clause-going
-returns-clause-going g c =
-    let old = g.O.Outside.opened c.args.outside.now in
-    rw (c.in_ok-write_plan.ensures.opened, c.list_both.ensures.opened, c.in_ok-clear.ensures.opened) (begun_going (turned (λ _. Missing) old) c.in_ok-plan.plan (turned_read (λ _. Missing) old (none_read old c.requires.1.1.0)) (turned_open (λ _. Missing) old c.requires.1.1.1.0))
-
-pub returns-clause-log : goal.returns-clause-log
-returns-clause-log g c =
-    let old = g.O.Outside.opened c.args.outside.now in
-    rw (c.in_ok-write_plan.ensures.opened, c.list_both.ensures.opened, c.in_ok-clear.ensures.opened) (begun_log (turned (λ _. Missing) old) c.in_ok-plan.plan (turned_read (λ _. Missing) old (none_read old c.requires.1.1.0)))
-
-pub returns-clause-run : goal.returns-clause-run
-returns-clause-run g c =
-    let old = g.O.Outside.opened c.args.outside.now in
-    let now = g.O.Outside.opened c.list_both.new.outside in
-    let both = c.in_ok-both.both in
-    let plan = c.in_ok-plan.plan in
-    let steps : (plan_at (g.O.Outside.opened c.write_plan.new.outside)).steps ≡ plan.steps = rw (c.in_ok-write_plan.ensures.opened, c.list_both.ensures.opened, c.in_ok-clear.ensures.opened) (ap (λ (p : Plan). p.steps) (begun_plan (turned (λ _. Missing) old) plan (turned_read (λ _. Missing) old (none_read old c.requires.1.1.0)))) in
-    run_here old now c.args.options.now _ both.far both.near plan _ _ (c.list_both.ensures.opened ∙ c.in_ok-clear.ensures.opened) steps c.in_ok-plan.ensures.drawn c.in_ok-unfit.ensures.unfit
 
 pub returns-in_err-write_plan-clause-part : goal.returns-in_err-write_plan-clause-part
 returns-in_err-write_plan-clause-part g c =
@@ -127,16 +109,26 @@ returns-in_err-clear-clause-moved g c = moved_none _
 pub returns-in_err-both-clause-moved : goal.returns-in_err-both-clause-moved
 returns-in_err-both-clause-moved g c = moved_none _
 
-pub returns-clause-passed_over : goal.returns-clause-passed_over
-returns-clause-passed_over g c = λ h k.
+pub returns-clause-proposed : goal.returns-clause-proposed
+returns-clause-proposed g c =
     let old = g.O.Outside.opened c.args.outside.now in
     let now = g.O.Outside.opened c.list_both.new.outside in
+    let new = g.O.Outside.opened c.write_plan.new.outside in
     let s1 = g.O.Outside.seen c.clear.new.outside in
     let both = c.in_ok-both.both in
     let plan = c.in_ok-plan.plan in
-    let same : plan_at (g.O.Outside.opened c.write_plan.new.outside) ≡ plan = rw (c.in_ok-write_plan.ensures.opened, c.list_both.ensures.opened, c.in_ok-clear.ensures.opened) (begun_plan (turned (λ _. Missing) old) plan (turned_read (λ _. Missing) old (none_read old c.requires.1.1.0))) in
-    let so_far = passed_after _ _ _ _ _ _ _ _ s1 _ c.in_ok-both.ensures.was_honest c.in_ok-clear.ensures.part c.in_ok-both.ensures.part in
-    let listed = so_far.reaches (c.in_ok-write_plan.ensures.was_honest h) k.none in
-    let unfit = c.in_ok-unfit.unfit.items in
-    let here = passed_by g.opening now c.args.options.now (g.R.Rng.stream c.args.rng.now) both.far both.near plan unfit c.in_ok-plan.ensures.drawn c.in_ok-plan.ensures.plan c.in_ok-unfit.ensures.unfit (g.O.Outside.seen c.list_both.new.outside).device k.asked (rw c.list_both.ensures.opened listed) in
-    subst (λ (p : Plan). PassedOver g.opening p unfit) (sym same) here
+    let emptied = c.list_both.ensures.opened ∙ c.in_ok-clear.ensures.opened in
+    let read = turned_read (λ _. Missing) old (none_read old c.requires.1.1.none) in
+    let written : new ≡ turned (λ _. begun plan) (turned (λ _. Missing) old) = c.in_ok-write_plan.ensures.opened ∙ ap (turned (λ _. begun plan)) emptied in
+    let same : plan_at new ≡ plan = ap plan_at written ∙ begun_plan (turned (λ _. Missing) old) plan read in
+    record {
+      going = subst IsGoing (sym written) (begun_going (turned (λ _. Missing) old) plan read (turned_open (λ _. Missing) old c.requires.1.1.boxes));
+      log = ap log_at written ∙ begun_log (turned (λ _. Missing) old) plan read;
+      run = run_here old now c.args.options.now _ both.far both.near plan _ _ emptied (ap (λ (p : Plan). p.steps) same) c.in_ok-plan.ensures.drawn c.in_ok-unfit.ensures.unfit;
+      passed_over = λ h k.
+          let so_far = passed_after _ _ _ _ _ _ _ _ s1 _ c.in_ok-both.ensures.was_honest c.in_ok-clear.ensures.part c.in_ok-both.ensures.part in
+          let listed = so_far.reaches (c.in_ok-write_plan.ensures.was_honest h) k.none in
+          let unfit = c.in_ok-unfit.unfit.items in
+          let here = passed_by g.opening now c.args.options.now (g.R.Rng.stream c.args.rng.now) both.far both.near plan unfit c.in_ok-plan.ensures.drawn c.in_ok-plan.ensures.plan c.in_ok-unfit.ensures.unfit (g.O.Outside.seen c.list_both.new.outside).device k.asked (rw c.list_both.ensures.opened listed) in
+          subst (λ (p : Plan). PassedOver g.opening p unfit) (sym same) here;
+    }

@@ -3,7 +3,8 @@ use Rattle.rules.specs.declared.plan.Plan.{Plan}
 use Rattle.run_states.specs.Plans.{NamedBy}
 use Rattle.runner.specs.Before.{Resumed}
 use Rattle.runner.specs.Finding.{AreFoundSo}
-use Rattle.runner.specs.Going.{logs_of, made, plan_at}
+use Rattle.runner.specs.Going.{log_at, logs_of, made, plan_at}
+use Rattle.runner.specs.Results.{EndsBy}
 use Rattle.std.proofs.lemmas.Result.{err_from_is_err_and}
 use Rattle.book.specs.Books.{mended}
 use Rattle.outside.specs.Opened.{turned}
@@ -12,6 +13,7 @@ use Rattle.runner.proofs.PartCalls.{left_after, left_told, passed_after, passed_
 use Rattle.runner.proofs.Passes.{book_few, finished_answers, mended_book, mended_going, mended_rest, takes_commit}
 use Rattle.runner.proofs.Told.{named_last, told, told_rest}
 use Rattle.runner.proofs.Finding.{mended_plan, same_then}
+use Rattle.runner.proofs.StageLemmas.{frame_of, frame_then, stage_left}
 use Rattle.runner.proofs.run.resume.Goals as goal
 
 pub carry_out-requires : goal.carry_out-requires
@@ -31,76 +33,66 @@ conclude-requires g c κs within =
       ),
     )
 
-pub returns-in_err-untear-clause-part : goal.returns-in_err-untear-clause-part
-returns-in_err-untear-clause-part g c =
+pub returns-in_err-untear : goal.returns-in_err-untear
+returns-in_err-untear g c =
     let e = err_from_is_err_and c.from_residual.result c.from_residual.ensures.1 in
-    rw (e.1, e.2) (left_unstepped _ _ _ _ _ _ tt c.in_err-untear.ensures.part)
+    let frame = frame_of g.O.Outside _ _ c.in_err-untear.ensures.was_honest c.in_err-untear.ensures.keywords in
+    rw (e.1, e.2) (record { stage = stage_left g.O.Outside g.opening _ _ _ _ _ _ _ frame (left_unstepped _ _ _ _ _ _ tt c.in_err-untear.ensures.part) })
 
-pub returns-in_err-performed-clause-part : goal.returns-in_err-performed-clause-part
-returns-in_err-performed-clause-part g c =
+pub returns-in_err-performed : goal.returns-in_err-performed
+returns-in_err-performed g c =
     let e = err_from_is_err_and c.from_residual-in_err-performed.result c.from_residual-in_err-performed.ensures.1 in
     let s1 = g.O.Outside.seen c.untear.new.outside in
     let honest = c.in_err-performed.ensures.was_honest in
-    let untorn = c.in_ok-untear.ensures.part in
-    rw (e.1, e.2) (left_after _ _ _ _ _ _ _ _ s1 _ honest untorn (left_told _ _ _ _ _ _ _ _ (steps_told _ _ (refused_from _ _ _ _ _ (λ h at. untorn.reaches (honest h) at))) c.in_err-performed.ensures.part))
+    let untorn = c.in_ok-untear.ensures in
+    let part = untorn.part in
+    let frame = frame_then g.O.Outside _ _ _ (frame_of g.O.Outside _ _ untorn.was_honest untorn.keywords) (frame_of g.O.Outside _ _ honest c.in_err-performed.ensures.keywords) in
+    rw (e.1, e.2) (record { stage = stage_left g.O.Outside g.opening _ _ _ _ _ _ _ frame (left_after _ _ _ _ _ _ _ _ s1 _ honest part (left_told _ _ _ _ _ _ _ _ (steps_told _ _ (refused_from _ _ _ _ _ (λ h at. part.reaches (honest h) at))) c.in_err-performed.ensures.part)) })
 
-pub returns-in_err-conclude-clause-part : goal.returns-in_err-conclude-clause-part
-returns-in_err-conclude-clause-part g c =
+pub returns-in_err-conclude : goal.returns-in_err-conclude
+returns-in_err-conclude g c =
     let e = err_from_is_err_and c.from_residual-in_err-conclude.result c.from_residual-in_err-conclude.ensures.1 in
     let s1 = g.O.Outside.seen c.untear.new.outside in
     let s2 = g.O.Outside.seen c.carry_out.new.outside in
-    let so_far = passed_after _ _ _ _ _ _ _ _ s1 _ c.in_ok-performed.ensures.was_honest c.in_ok-untear.ensures.part c.in_ok-performed.ensures.part in
-    rw (e.1, e.2) (left_unstepped _ _ _ _ _ _ tt (left_after _ _ _ _ _ _ _ _ s2 _ c.in_err-conclude.ensures.was_honest so_far c.in_err-conclude.ensures.part))
-
-pub returns-clause-part : goal.returns-clause-part
-returns-clause-part g c =
-    let s1 = g.O.Outside.seen c.untear.new.outside in
-    let s2 = g.O.Outside.seen c.carry_out.new.outside in
-    let so_far = passed_after _ _ _ _ _ _ _ _ s1 _ c.in_ok-performed.ensures.was_honest c.in_ok-untear.ensures.part c.in_ok-performed.ensures.part in
-    let from = Resumed g.opening (g.O.Outside.opened c.args.outside.now) in
-    passed_weaker _ from from _ _ _ (made c.in_ok-performed.performed.items) _ _ (omega arith) (λ d k. k) (λ d k. k) (passed_after _ _ _ _ _ _ _ _ s2 _ c.in_ok-conclude.ensures.was_honest so_far c.in_ok-conclude.ensures.part)
-
-pub returns-clause-answer : goal.returns-clause-answer
-returns-clause-answer g c =
-    let old = g.O.Outside.opened c.args.outside.now in
-    finished_answers old c.in_ok-performed.performed (mended_rest old c.in_ok-performed.performed.items c.requires.1.1.1.0 (rw (← c.in_ok-untear.ensures.opened) c.in_ok-performed.ensures.steps))
-
-pub returns-clause-results : goal.returns-clause-results
-returns-clause-results g c = λ h.
-    let performed = c.in_ok-performed.ensures in
-    let concluded = c.in_ok-conclude.ensures in
-    told (g.O.Outside.opened c.untear.new.outside) (g.O.Outside.opened c.carry_out.new.outside) (g.O.Outside.opened c.conclude.new.outside) c.in_ok-performed.performed.items _ performed.opened performed.steps performed.fits concluded.committed (concluded.held h)
-
-pub returns-clause-told : goal.returns-clause-told
-returns-clause-told g c = λ h k.
-    let performed = c.in_ok-performed.ensures in
-    let concluded = c.in_ok-conclude.ensures in
-    let s1 = g.O.Outside.seen c.untear.new.outside in
-    let so_far = passed_after _ _ _ _ _ _ _ _ s1 _ performed.was_honest c.in_ok-untear.ensures.part performed.part in
-    told_rest g.opening (g.O.Outside.opened c.untear.new.outside) (g.O.Outside.opened c.carry_out.new.outside) c.in_ok-performed.performed.items _ performed.opened performed.steps
-    (concluded.ends h (so_far.reaches (concluded.was_honest h) k))
-
-pub returns-clause-found : goal.returns-clause-found
-returns-clause-found g c = λ h k d to.
-    let performed = c.in_ok-performed.ensures in
     let untorn = c.in_ok-untear.ensures in
-    let carried = c.in_ok-conclude.ensures.was_honest h in
-    let part = untorn.part in
-    let old = g.O.Outside.opened c.args.outside.now in
-    let s1 = g.O.Outside.seen c.untear.new.outside in
-    let same : plan_at (g.O.Outside.opened c.untear.new.outside) ≡ plan_at old = rw untorn.opened (mended_plan old) in
-    subst (λ (p : Plan). AreFoundSo p d c.in_ok-performed.performed.items) same (performed.found carried (part.reaches (performed.was_honest carried) k) d (same_then g.O.Outside.ours d (g.O.Outside.seen c.args.outside.now).device s1.device to (untorn.same (performed.was_honest carried))))
+    let carried = c.in_ok-performed.ensures in
+    let last = c.in_err-conclude.ensures.frame in
+    let so_far = passed_after _ _ _ _ _ _ _ _ s1 _ carried.was_honest untorn.part carried.part in
+    let frame = frame_then g.O.Outside _ _ _ (frame_then g.O.Outside _ _ _ (frame_of g.O.Outside _ _ untorn.was_honest untorn.keywords) (frame_of g.O.Outside _ _ carried.was_honest carried.keywords)) last in
+    rw (e.1, e.2) (record { stage = stage_left g.O.Outside g.opening _ _ _ _ _ _ _ frame (left_unstepped _ _ _ _ _ _ tt (left_after _ _ _ _ _ _ _ _ s2 _ last.was_honest so_far c.in_err-conclude.ensures.part)) })
 
-pub returns-clause-named : goal.returns-clause-named
-returns-clause-named g c = λ h k.
-    let performed = c.in_ok-performed.ensures in
-    let concluded = c.in_ok-conclude.ensures in
-    let untorn = c.in_ok-untear.ensures in
+pub returns : goal.returns
+returns g c =
     let old = g.O.Outside.opened c.args.outside.now in
     let ready = g.O.Outside.opened c.untear.new.outside in
+    let done = g.O.Outside.opened c.carry_out.new.outside in
+    let new = g.O.Outside.opened c.conclude.new.outside in
+    let d0 = (g.O.Outside.seen c.args.outside.now).device in
     let s1 = g.O.Outside.seen c.untear.new.outside in
+    let s2 = g.O.Outside.seen c.carry_out.new.outside in
     let d2 = (g.O.Outside.seen c.conclude.new.outside).device in
-    let so_far = passed_after _ _ _ _ _ _ _ _ s1 _ performed.was_honest untorn.part performed.part in
+    let untorn = c.in_ok-untear.ensures in
+    let carried = c.in_ok-performed.ensures in
+    let performed = c.in_ok-performed.performed in
+    let last = c.in_ok-conclude.ensures.frame in
+    let concluded = c.in_ok-conclude.ensures.concluded in
+    let part = untorn.part in
+    let from = Resumed g.opening old in
+    let so_far = passed_after _ _ _ _ _ _ _ _ s1 _ carried.was_honest part carried.part in
     let same : plan_at ready ≡ plan_at old = rw untorn.opened (mended_plan old) in
-    subst (λ (p : Plan). NamedBy g.opening.named p.steps d2.named) same
-    (named_last g.opening ready (g.O.Outside.opened c.carry_out.new.outside) (logs_of c.in_ok-performed.performed.items) d2 performed.opened (concluded.ends h (so_far.reaches (concluded.was_honest h) k)))
+    let over : g.O.Outside.honest c.conclude.new.outside → from d0 → EndsBy g.opening (plan_at done) (log_at done) d2 = (λ h k. concluded.ends h (so_far.reaches (last.was_honest h) k)) in
+    record {
+      stage = record {
+        frame = frame_then g.O.Outside _ _ _ (frame_then g.O.Outside _ _ _ (frame_of g.O.Outside _ _ untorn.was_honest untorn.keywords) (frame_of g.O.Outside _ _ carried.was_honest carried.keywords)) last;
+        answer = record {
+          by_files = finished_answers old performed (mended_rest old performed.items c.requires.1.1.1.0 (rw (← untorn.opened) carried.steps));
+          results = λ h. told ready done new performed.items _ carried.opened carried.steps carried.fits concluded.committed (concluded.held h);
+          told = λ h k. told_rest g.opening ready done performed.items _ carried.opened carried.steps (over h k);
+          found = λ h k d to.
+              let before = carried.was_honest (last.was_honest h) in
+              subst (λ (p : Plan). AreFoundSo p d performed.items) same (carried.found (last.was_honest h) (part.reaches before k) d (same_then g.O.Outside.ours d d0 s1.device to (untorn.same before)));
+          named = λ h k. subst (λ (p : Plan). NamedBy g.opening.named p.steps d2.named) same (named_last g.opening ready done (logs_of performed.items) d2 carried.opened (over h k));
+        };
+        part = passed_weaker _ from from _ _ _ (made performed.items) _ _ (omega arith) (λ d k. k) (λ d k. k) (passed_after _ _ _ _ _ _ _ _ s2 _ last.was_honest so_far c.in_ok-conclude.ensures.part);
+      };
+    }

@@ -1,4 +1,4 @@
-use Rattle.runner.proofs.run.take_up.Given as goal
+use Rattle.runner.proofs.run.make_or_resume.Given as goal
 
 abbrev pub ghost-skip : goal.ghost-skip
 ghost-skip g a = g.opening
