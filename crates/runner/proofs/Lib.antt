@@ -24,5 +24,6 @@ pub mod GivingUp
 pub mod GivenUpRead
 pub mod PassTells
 pub mod StageLemmas
+pub mod AttemptLemmas
 pub mod Sourced
 pub mod HalfEntries

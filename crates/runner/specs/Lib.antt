@@ -14,6 +14,7 @@ pub mod Naming
 pub mod Settled
 pub mod Passes
 pub mod PassStages
+pub mod AttemptStages
 pub mod Sources
 pub mod HalfEntries
 pub mod GivingUp

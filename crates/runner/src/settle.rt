@@ -1,19 +1,16 @@
 //! A run in several attempts, each after one that met a stop.
 
-ghost use Rattle.std.specs.Prelude.{◌≡◌, ◌≤◌, ◌+◌, ◌^◌, None, Some, OnOk, OnErr, IfOk, IfErr, false, ℕ};
-ghost use Rattle.outside.specs.Opened.{IsRead};
-ghost use Rattle.run_states.specs.Conditions.{IsOver};
+ghost use Rattle.std.specs.Prelude.{◌≡◌, ◌≤◌, ◌+◌, None, Some, OnOk, OnErr, IfOk, IfErr, false, ℕ};
 ghost use Rattle.run_states.specs.Openings.{Opening};
-ghost use Rattle.runner.specs.Answers.{HasRepeats, Moves, OfFiles, made_in};
-ghost use Rattle.runner.specs.Attempts.{AnswersAt, AtOpening, FromOpening, HasNoNext, HasReached, IsReached, AttemptStart, AttemptAt, found_by};
-ghost use Rattle.runner.specs.Faults.{TellsLastRun, TellsUnread, because, or_beyond, or_greatest, or_keywords, or_unread};
-ghost use Rattle.runner.specs.Finding.{FindsAt, FindsSame};
-ghost use Rattle.runner.specs.Naming.{NamesAt};
-ghost use Rattle.runner.specs.ChangedMaps.{TellsOtherMap};
-ghost use Rattle.runner.specs.Parts.{IsStuck, PartOr, RunPart, Unstepped};
-ghost use Rattle.runner.specs.Results.{HasResults, Report};
+ghost use Rattle.runner.specs.Answers.{Moves};
+ghost use Rattle.runner.specs.AttemptStages.{Attempt};
+ghost use Rattle.runner.specs.Attempts.{AtOpening, FromOpening, HasNoNext, HasReached, IsReached, AttemptAt, found_by};
+ghost use Rattle.runner.specs.Faults.{TellsLastRun, TellsUnread, or_greatest, or_unread};
+ghost use Rattle.runner.specs.Finding.{FindsSame};
+ghost use Rattle.runner.specs.Parts.{IsStuck, PartOr, Unstepped};
+ghost use Rattle.runner.specs.Results.{HasResults};
 ghost use Rattle.runner.specs.Settled.{CountsAttempts, HasReason, IsSettled, IsUnsettled};
-ghost use Rattle.runner.specs.Validities.{IsKept, TellsChanged};
+ghost use Rattle.runner.specs.Validities.{IsKept};
 
 use crate::fault::{RunFault, call_fault};
 use crate::pass::{Pass, Settled};
@@ -91,34 +88,8 @@ fn attempt<O: Outside, R: Rng, P: Progress>(
     ghost opening: { Opening O.ours O.alone }
     requires whole { (number : ℕ) → run.old ≡ Some number → (O.seen outside.old).is_broken ≡ false }
     requires map { O.keywords outside.old ≡ options.now.keywords }
-    ensures was_honest { O.honest outside.new → O.honest outside.old }
-    ensures keywords { O.keywords outside.new ≡ O.keywords outside.old }
-    ensures moved { Moves (R.stream rng.old) (R.stream rng.new) }
-    ensures answer { IfOk result (λ pass. O.honest outside.new → AttemptAt opening run.old (O.seen outside.old).device
-        → AnswersAt (opening.world.state.run + 1) options.now pass (O.seen outside.old).device (R.stream rng.old)) }
-    ensures results { IfOk result (λ pass. O.honest outside.new → HasResults pass (O.seen outside.new).device) }
-    ensures told { IfOk result (λ pass. O.honest outside.new → AttemptStart opening options.now (R.stream rng.old) run.old
-        (O.seen outside.old).device → Report opening pass (O.seen outside.new).device) }
-    ensures found { IfOk result (λ pass. O.honest outside.new → AttemptStart opening options.now (R.stream rng.old) run.old
-        (O.seen outside.old).device → FindsAt O.ours (O.seen outside.old).device pass) }
-    ensures named { IfOk result (λ pass. O.honest outside.new → AttemptStart opening options.now (R.stream rng.old) run.old
-        (O.seen outside.old).device → NamesAt opening pass (O.seen outside.old).device (O.seen outside.new).device) }
-    ensures greatest { run.old ≡ None → HasNoNext (O.honest outside.new) O.alone (O.seen outside.old).device (O.seen outside.new).device result }
-    ensures unfixed { run.old ≡ None → OfFiles (O.honest outside.new) (O.seen outside.old).device (λ s p. s.run + 1 ≡ 2 ^ 64 → run.new ≡ None) }
-    ensures reached { O.honest outside.new → IsReached run.old (O.seen outside.old).device.files
-        → IsReached run.new (O.seen outside.new).device.files }
-    ensures stuck { IsStuck (O.seen outside.old) (O.seen outside.new) result }
-    ensures part { RunPart (or_unread (TellsUnread (O.honest outside.new) (O.seen outside.new).device)
-        (or_greatest (TellsLastRun (O.opened outside.new) (O.honest outside.new) (O.seen outside.new).device)
-        (or_beyond (IsRead (O.opened outside.new) × (O.honest outside.new → IsReached run.old (O.seen outside.old).device.files → ⊥))
-        (or_keywords (TellsOtherMap (O.opened outside.new) (O.honest outside.new) O.alone options.now.keywords (O.seen outside.old).device
-        (O.seen outside.new).device)
-        (because (TellsChanged (O.honest outside.new) O.alone (O.seen outside.old).device (O.seen outside.new).device)
-        (HasRepeats opening (O.honest outside.new) (AttemptStart opening options.now (R.stream rng.old) run.old
-        (O.seen outside.old).device) options.now (R.stream rng.old)))))))
-        (O.opened outside.new) (O.honest outside.new) (AttemptStart opening options.now (R.stream rng.old) run.old)
-        (AttemptStart opening options.now (R.stream rng.new) run.new)
-        made_in (λ _. IsOver opening) (O.seen outside.old) (O.seen outside.new) result }
+    ensures attempt { Attempt O.Outside opening options.now (R.stream rng.old) (R.stream rng.new) run.old run.new outside.old
+        outside.new result }
 {
     let number = fix_run(outside, run)?;
     pass(alloc, outside, number, options, rng, progress)
