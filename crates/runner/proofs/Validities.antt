@@ -21,11 +21,12 @@ use Rattle.rules.specs.Outcome.{changed_side}
 use Rattle.outside.specs.BookCalls.{OfBook}
 use Rattle.outside.specs.BoxCalls.{Admits}
 use Rattle.outside.specs.Devices.{Device, box}
-use Rattle.outside.specs.Opened.{IsHeld, Opened, state_of, turned, with_box}
+use Rattle.outside.specs.Opened.{IsHeld, IsOpen, Opened, state_of, turned, with_box}
 use Rattle.runner.specs.Before.{HasNoJournal, HasNoPlan}
 use Rattle.runner.specs.Answers.{as_read}
 use Rattle.runner.specs.ChangedMaps.{TellsMap, TellsOtherMap}
-use Rattle.runner.specs.Validities.{BothSame, HasChanged, HasOther, HasSame, HaveValidities, IsKept, IsOther, IsSame, KeepsValidities, ListsChanged, TellsChange, TellsChanged, TellsOther, TellsUnlessSame, after_run, named_after, recorded, recorded_in}
+use Rattle.runner.specs.Going.{AreOpen}
+use Rattle.runner.specs.Validities.{BothSame, HasChanged, HasOther, HasSame, HaveValidities, IsCompared, IsKept, IsOther, IsSame, KeepsValidities, ListsChanged, TellsChange, TellsChanged, TellsOther, TellsUnlessSame, after_run, named_after, plan_validity, recorded, recorded_in, state_validity}
 
 -- ---- which one is recorded
 
@@ -160,6 +161,30 @@ side_told (Some o) s far near told side is e changed =
     let same : told ≡ side = cc in
     let here : o.state ≡ s = cc in
     subst (λ (x : SyncState). changed_side far near x ≡ Some side) (sym here) (changed ∙ ap (λ (x : Side). Some x) same)
+
+-- ---- what was compared, on each outside
+
+pub compared_here : (side : Side) (opened now : Option Opened) (before : ℕ) → now ≡ with_box side opened → recorded_in opened side ≡ Some before → IsCompared now side
+compared_here side None now before e is = cc
+compared_here side (Some o) now before e is = subst (λ (x : Option Opened). IsCompared x side) (sym e) (record { is_open = by_side side; before = before; is_recorded = boxed_recorded side side (Some o) ∙ is })
+  where
+    by_side : (side : Side) → IsOpen side (with_box side (Some o))
+    by_side Far = refl
+    by_side Near = refl
+
+-- a listing that names another than the state
+pub compared_listed : (opened : Option Opened) (far near : Listing) (side : Side) → AreOpen opened → ListsChanged opened far near side → IsCompared opened side
+compared_listed None far near side are told = absurd told
+compared_listed (Some o) far near side are told = let r = by_pending o.pending (after_one o.state.run far.validity o.state.far_validity near.validity o.state.near_validity (state_validity o.state side) told) in record { is_open = are side; before = r.0; is_recorded = r.1 }
+  where
+    after_one : (run f g n m validity : ℕ) → (if run == 0 then None else if not (f == g) then Some Far else if not (n == m) then Some Near else None) ≡ Some side → named_after run validity ≡ Some validity
+    after_one zero f g n m validity told = cc
+    after_one (suc run) f g n m validity told = grind (arith, common_steps)
+
+    by_pending : (p : Pending) → after_run o.state side ≡ Some (state_validity o.state side) → (before : ℕ) × (recorded o.state p side ≡ Some before)
+    by_pending Missing e = (state_validity o.state side, e)
+    by_pending Useless e = (state_validity o.state side, e)
+    by_pending (Planned written) e = (plan_validity written.journal.plan side, refl)
 
 -- ---- what is told
 

@@ -20,7 +20,7 @@ use Rattle.runner.specs.Going.{AreOpen, BeforeStep, IsGoing, log_at, plan_at}
 use Rattle.runner.specs.Naming.{NamesBy}
 use Rattle.runner.specs.Parts.{RunPart}
 use Rattle.runner.specs.Results.{EndsBy, HasResults, PassedOver, Report}
-use Rattle.runner.specs.Validities.{LeavesBoxes, TellsChange, TellsUnlessSame}
+use Rattle.runner.specs.Validities.{IsCompared, LeavesBoxes, TellsChange, TellsUnlessSame}
 
 module _ {O : Type 0} (o : Ghosts O) where
   -- ---- what each call keeps
@@ -34,14 +34,14 @@ module _ {O : Type 0} (o : Ghosts O) where
 
   -- that a listing names another UIDVALIDITY than the state, which it does not where both mailboxes have the recorded one
   abbrev pub plan_reasons : (old new : O) → Reasons
-  plan_reasons old new = because (TellsUnlessSame (o.honest new) (o.opened old) (o.seen old).device) ⊥
+  plan_reasons old new = because (λ side. TellsUnlessSame (o.honest new) (o.opened old) (o.seen old).device side × IsCompared (o.opened new) side) ⊥
 
   -- that a UIDVALIDITY has changed, or that a plan goes by another map, once the shelf was read; nothing else has changed then
   abbrev pub read_reasons : List Keyword → (old new : O) → Reasons
   read_reasons keywords old new =
       let d = (o.seen old).device in
       let d' = (o.seen new).device in
-      or_keywords (TellsMap (o.honest new) o.alone (o.opened old) (o.opened new) keywords d d') (because (TellsChange (o.honest new) o.alone (o.opened old) d d') ⊥)
+      or_keywords (TellsMap (o.honest new) o.alone (o.opened old) (o.opened new) keywords d d') (because (λ side. TellsChange (o.honest new) o.alone (o.opened old) d d' side × IsCompared (o.opened new) side) ⊥)
 
   -- that, or that the run is beyond the next one
   abbrev pub run_reasons : (run : ℕ) → List Keyword → (old new : O) → Reasons

@@ -10,7 +10,7 @@ use Rattle.book.specs.declared.book.Pending.{Pending}
 use Rattle.book.specs.declared.book.Pending.TheVariants.{Missing, Useless, Planned}
 use Rattle.book.specs.Books.{Holds}
 use Rattle.outside.specs.Devices.{Device, box}
-use Rattle.outside.specs.Opened.{Opened}
+use Rattle.outside.specs.Opened.{IsOpen, Opened}
 use Rattle.runner.specs.Answers.{as_read}
 
 -- ---- which one is recorded
@@ -94,6 +94,12 @@ abbrev pub LeavesBoxes : (honest : Type 0) → (alone : Bool) → (d d' : Device
 LeavesBoxes honest alone d d' = honest → (d'.named ≡ d.named) × (alone ≡ true → (d'.far ≡ d.far) × (d'.near ≡ d.near))
 
 -- ---- when a change is told
+
+-- On each outside: this side's box was opened, and one is recorded for it, so that it was compared.
+pub record IsCompared (now : Option Opened) (side : Side) : Type 0 where
+  pub is_open : IsOpen side now
+  pub before : ℕ
+  pub is_recorded : recorded_in now side ≡ Some before
 
 -- only where this side has changed, and nothing else has
 abbrev pub TellsChange : (honest : Type 0) → (alone : Bool) → Option Opened → (d d' : Device) → Side → Type 0

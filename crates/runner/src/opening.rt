@@ -11,7 +11,7 @@ ghost use Rattle.run_states.specs.Conditions.{Underway};
 ghost use Rattle.run_states.specs.Openings.{Opening};
 ghost use Rattle.runner.specs.Faults.{TellsUnread, because, or_unread};
 ghost use Rattle.runner.specs.Parts.{IsStuck, Part, PartOr, Unstepped};
-ghost use Rattle.runner.specs.Validities.{BothSame, HasSame, HaveValidities, IsKept, KeepsValidities, LeavesBoxes, TellsChange, TellsOther, recorded_in};
+ghost use Rattle.runner.specs.Validities.{BothSame, HasSame, HaveValidities, IsCompared, IsKept, KeepsValidities, LeavesBoxes, TellsChange, TellsOther, recorded_in};
 ghost use Rattle.runner.specs.Going.{AreOpen, BeforeStep};
 ghost use Rattle.runner.specs.Finding.{FindsSame};
 ghost use Rattle.runner.specs.Before.{BothListed, FarListed, SparesOld, HasNoJournal, HasNoPlan, HasNone, HasPlan, IsClear, IsEmptied, ReadUnderway, IsMade, Resumed};
@@ -262,8 +262,8 @@ fn open_one<O: Outside>(outside: &mut O, side: Side) -> Result<(), RunFault>
     ensures kept { OnOk result (O.honest outside.new → HasSame (O.opened outside.old) side (O.seen outside.new).device × IsKept O.alone
         (O.seen outside.old).device (O.seen outside.new).device) }
     ensures same { OnOk result (O.honest outside.new → FindsSame O.ours (O.seen outside.old).device (O.seen outside.new).device) }
-    ensures part { PartOr (because (TellsOther (O.honest outside.new) O.alone (O.opened outside.old) side (O.seen outside.old).device
-        (O.seen outside.new).device) ⊥) (O.honest outside.new) (ReadUnderway opening (O.opened outside.old))
+    ensures part { PartOr (because (λ at. TellsOther (O.honest outside.new) O.alone (O.opened outside.old) side (O.seen outside.old).device
+        (O.seen outside.new).device at × IsCompared (O.opened outside.new) at) ⊥) (O.honest outside.new) (ReadUnderway opening (O.opened outside.old))
         (Underway opening) (λ _. 0) (λ _. ReadUnderway opening (O.opened outside.new)) (O.seen outside.old)
         (O.seen outside.new) result }
 {
@@ -293,8 +293,8 @@ pub(crate) fn open_boxes<O: Outside>(outside: &mut O) -> Result<(), RunFault>
     ensures kept { OnOk result (O.honest outside.new → BothSame (O.opened outside.old) (O.seen outside.new).device × IsKept O.alone
         (O.seen outside.old).device (O.seen outside.new).device) }
     ensures same { OnOk result (O.honest outside.new → FindsSame O.ours (O.seen outside.old).device (O.seen outside.new).device) }
-    ensures part { PartOr (because (TellsChange (O.honest outside.new) O.alone (O.opened outside.old) (O.seen outside.old).device
-        (O.seen outside.new).device) ⊥) (O.honest outside.new) (ReadUnderway opening (O.opened outside.old))
+    ensures part { PartOr (because (λ at. TellsChange (O.honest outside.new) O.alone (O.opened outside.old) (O.seen outside.old).device
+        (O.seen outside.new).device at × IsCompared (O.opened outside.new) at) ⊥) (O.honest outside.new) (ReadUnderway opening (O.opened outside.old))
         (Underway opening) (λ _. 0) (λ _. ReadUnderway opening (O.opened outside.new)) (O.seen outside.old)
         (O.seen outside.new) result }
 {

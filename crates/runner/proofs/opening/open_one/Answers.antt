@@ -3,7 +3,7 @@ use Rattle.run_states.proofs.Arrived.{underway_arrives}
 use Rattle.runner.specs.Before.{ReadUnderway}
 use Rattle.runner.proofs.PartCalls.{from_box, left_call, left_here, line_of_box, passed_call}
 use Rattle.runner.proofs.Readings.{known_arrives, opened_known}
-use Rattle.runner.proofs.Validities.{any_read, other_read, same_read}
+use Rattle.runner.proofs.Validities.{any_read, compared_here, other_read, same_read}
 use Rattle.runner.proofs.Finding.{same_read as copies_read}
 use Rattle.runner.proofs.opening.open_one.Goals as goal
 
@@ -20,7 +20,7 @@ returns-in-None-clause-part g c =
 pub returns-else-before-validity-clause-part : goal.returns-else-before-validity-clause-part
 returns-else-before-validity-clause-part g c =
     let opened = g.O.Outside.opened c.args.outside.now in
-    left_here _ _ (ReadUnderway g.opening opened) _ _ _ _ _ (passed_call _ _ _ _ _ _ _ _ _ _ _ c.in-Ok.ensures.call (λ m at a own. rw own.0 (known_arrives g.opening opened _ m a at))) (refl, λ honest. let w = c.in-Ok.ensures.call in let acts = w.acts in let e = acts.effect honest in other_read g.O.Outside.ours g.O.Outside.alone opened c.args.side _ e.mid _ c.in-Some.before c.in-Ok.validity (sym c.recorded_validity-recorded.ensures ∙ c.in-Some.is) e.before e.behind.0 e.behind.1 c.if-before-validity.false) (λ k. k.underway)
+    left_here _ _ (ReadUnderway g.opening opened) _ _ _ _ _ (passed_call _ _ _ _ _ _ _ _ _ _ _ c.in-Ok.ensures.call (λ m at a own. rw own.0 (known_arrives g.opening opened _ m a at))) ((refl, λ honest. let w = c.in-Ok.ensures.call in let acts = w.acts in let e = acts.effect honest in other_read g.O.Outside.ours g.O.Outside.alone opened c.args.side _ e.mid _ c.in-Some.before c.in-Ok.validity (sym c.recorded_validity-recorded.ensures ∙ c.in-Some.is) e.before e.behind.0 e.behind.1 c.if-before-validity.false), compared_here c.args.side opened _ c.in-Some.before c.in-Ok.ensures.opened (sym c.recorded_validity-recorded.ensures ∙ c.in-Some.is)) (λ k. k.underway)
 
 pub returns-in-Err-clause-part : goal.returns-in-Err-clause-part
 returns-in-Err-clause-part g c =

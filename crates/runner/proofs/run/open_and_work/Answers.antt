@@ -94,7 +94,7 @@ returns g c =
           answer = answer_after g.O.Outside here g.opening run _ _ c.args.outside.now c.open_boxes.new.outside c.work.new.outside c.work.result frame.was_honest boxes.opened boxes.same (λ h. let k = boxes.kept h in k.1.named) leads stage.answer;
           part = part_after _ _ _ _ _ _ _ _ _ s1 _ _ frame.was_honest ready
               (part_told _ _ _ _ _ _ _ _ _ _ (record {
-                changed = λ side t. same_told _ _ _ old new s0.device s1.device s2.device side frame.was_honest boxes.opened boxes.kept t;
+                changed = λ side t. (same_told _ _ _ old new s0.device s1.device s2.device side frame.was_honest boxes.opened boxes.kept t.0, t.1);
                 keywords = λ n. absurd n;
                 repeats = λ k. repeats_by here g.opening _ _ _ options stream leads k;
                 beyond = λ n. n;

@@ -8,16 +8,16 @@ use Rattle.run_states.specs.Conditions.{Underway}
 use Rattle.runner.specs.Answers.{HasRepeats, Inputs, PlanStart}
 use Rattle.runner.specs.Before.{IsMade}
 use Rattle.runner.specs.Faults.{because}
-use Rattle.runner.specs.Going.{IsGoing, log_at, plan_at}
+use Rattle.runner.specs.Going.{AreOpen, IsGoing, log_at, plan_at}
 use Rattle.runner.specs.Results.{PassedOver}
-use Rattle.runner.specs.Validities.{TellsUnlessSame}
+use Rattle.runner.specs.Validities.{IsCompared, TellsUnlessSame}
 use Rattle.runner.proofs.StepParts.{left_unstepped}
 use Rattle.runner.proofs.PartCalls.{left_after, left_here, left_weaker, passed_after, passed_weaker, passed_with}
 use Rattle.runner.proofs.Begun.{clear_underway}
 use Rattle.runner.proofs.Passes.{after_plan, begun_going, begun_log, begun_plan, caused_memory, caused_plan, memory_plan, passed_by, plan_made, repeats_since, run_here, turned_run}
 use Rattle.runner.proofs.PlanFacts.{moved_none}
 use Rattle.runner.proofs.Readings.{none_read, turned_open, turned_read}
-use Rattle.runner.proofs.Validities.{missing_here, unless_same}
+use Rattle.runner.proofs.Validities.{compared_listed, missing_here, unless_same}
 use Rattle.runner.proofs.run.propose.Goals as goal
 
 pub list_both-requires : goal.list_both-requires
@@ -63,8 +63,8 @@ returns-in_err-plan-clause-part g c =
     let both = c.in_ok-both.both in
     let emptied = c.list_both.ensures.opened ∙ c.in_ok-clear.ensures.opened in
     let s2 = g.O.Outside.seen c.list_both.new.outside in
-    let reasons = because (TellsUnlessSame (g.O.Outside.honest c.list_both.new.outside) old (g.O.Outside.seen c.args.outside.now).device) (HasRepeats g.opening (g.O.Outside.honest c.list_both.new.outside) (PlanStart g.opening old c.args.options.now (g.R.Rng.stream c.args.rng.now) (g.O.Outside.seen c.args.outside.now).device) c.args.options.now (g.R.Rng.stream c.args.rng.now)) in
-    rw (e.1, e.2) (left_weaker _ _ _ _ _ _ _ (λ d k. k.none) (left_here _ _ _ _ _ _ _ _ so_far (caused_plan reasons _ s2 s2 c.in_err-plan.ensures.fault (λ side is. unless_same _ _ old _ both.far both.near side _ s1.device emptied c.requires.1.1.none c.in_ok-both.ensures.was_honest c.in_ok-clear.ensures.validities c.in_ok-both.ensures.validities (c.in_err-plan.ensures.changed side is)) (λ is. repeats_since g.opening (g.O.Outside.opened c.list_both.new.outside) c.args.options.now (g.R.Rng.stream c.args.rng.now) both.far both.near _ _ s2.device (c.in_err-plan.ensures.repeats is) (λ h (k : PlanStart g.opening old c.args.options.now (g.R.Rng.stream c.args.rng.now) (g.O.Outside.seen c.args.outside.now).device). rw c.list_both.ensures.opened (so_far.reaches h k.none)))) (λ k. after_plan (Underway g.opening) _ _ _ c.in_err-plan.ensures.fault (clear_underway g.opening _ _ _ k.clear))))
+    let reasons = because (λ side. TellsUnlessSame (g.O.Outside.honest c.list_both.new.outside) old (g.O.Outside.seen c.args.outside.now).device side × IsCompared (g.O.Outside.opened c.list_both.new.outside) side) (HasRepeats g.opening (g.O.Outside.honest c.list_both.new.outside) (PlanStart g.opening old c.args.options.now (g.R.Rng.stream c.args.rng.now) (g.O.Outside.seen c.args.outside.now).device) c.args.options.now (g.R.Rng.stream c.args.rng.now)) in
+    rw (e.1, e.2) (left_weaker _ _ _ _ _ _ _ (λ d k. k.none) (left_here _ _ _ _ _ _ _ _ so_far (caused_plan reasons _ s2 s2 c.in_err-plan.ensures.fault (λ side is. let lists = c.in_err-plan.ensures.changed side is in (unless_same _ _ old _ both.far both.near side _ s1.device emptied c.requires.1.1.none c.in_ok-both.ensures.was_honest c.in_ok-clear.ensures.validities c.in_ok-both.ensures.validities lists, compared_listed _ both.far both.near side (subst AreOpen (sym emptied) (turned_open (λ _. Missing) old c.requires.1.1.boxes)) lists)) (λ is. repeats_since g.opening (g.O.Outside.opened c.list_both.new.outside) c.args.options.now (g.R.Rng.stream c.args.rng.now) both.far both.near _ _ s2.device (c.in_err-plan.ensures.repeats is) (λ h (k : PlanStart g.opening old c.args.options.now (g.R.Rng.stream c.args.rng.now) (g.O.Outside.seen c.args.outside.now).device). rw c.list_both.ensures.opened (so_far.reaches h k.none)))) (λ k. after_plan (Underway g.opening) _ _ _ c.in_err-plan.ensures.fault (clear_underway g.opening _ _ _ k.clear))))
 
 pub returns-in_err-unfit-clause-part : goal.returns-in_err-unfit-clause-part
 returns-in_err-unfit-clause-part g c =
@@ -73,7 +73,7 @@ returns-in_err-unfit-clause-part g c =
     let so_far = passed_after _ _ _ _ _ _ _ _ s1 _ c.in_ok-both.ensures.was_honest c.in_ok-clear.ensures.part c.in_ok-both.ensures.part in
     let old = g.O.Outside.opened c.args.outside.now in
     let s2 = g.O.Outside.seen c.list_both.new.outside in
-    let reasons = because (TellsUnlessSame (g.O.Outside.honest c.list_both.new.outside) old (g.O.Outside.seen c.args.outside.now).device) (HasRepeats g.opening (g.O.Outside.honest c.list_both.new.outside) (PlanStart g.opening old c.args.options.now (g.R.Rng.stream c.args.rng.now) (g.O.Outside.seen c.args.outside.now).device) c.args.options.now (g.R.Rng.stream c.args.rng.now)) in
+    let reasons = because (λ side. TellsUnlessSame (g.O.Outside.honest c.list_both.new.outside) old (g.O.Outside.seen c.args.outside.now).device side × IsCompared (g.O.Outside.opened c.list_both.new.outside) side) (HasRepeats g.opening (g.O.Outside.honest c.list_both.new.outside) (PlanStart g.opening old c.args.options.now (g.R.Rng.stream c.args.rng.now) (g.O.Outside.seen c.args.outside.now).device) c.args.options.now (g.R.Rng.stream c.args.rng.now)) in
     rw (e.1, e.2) (left_weaker _ _ _ _ _ _ _ (λ d k. k.none) (left_here _ _ _ _ _ _ _ _ so_far (caused_memory reasons _ s2 s2 c.in_err-unfit.ensures.fault) (λ k. after_plan (Underway g.opening) _ _ _ (memory_plan _ c.in_err-unfit.ensures.fault) (clear_underway g.opening _ _ _ k.clear))))
 
 pub returns-in_err-write_plan-clause-part : goal.returns-in_err-write_plan-clause-part

@@ -80,7 +80,7 @@ returns g c =
             (λ d k. record { asked = asked_later g.opening options old new passed.moved k.0.0; tried = fixed_tried g.opening run n d fixed (k.0.1, k.1) })
             (λ x d k. let r = k.1 in let e = k.0.1 in r.done (omega (arith, e)))
             (part_with _ p _ _ _ _ _ _ _ _ (part_told _ _ _ _ _ _ _ _ _ _ (record {
-              changed = λ side t. attempt_changed alone _ _ s0.device s1.device s2.device side honest number.kept t;
+              changed = λ side t. (attempt_changed alone _ _ s0.device s1.device s2.device side honest number.kept t.0, t.1);
               keywords = λ t. attempt_map (g.O.Outside.opened c.pass.new.outside) alone _ _ options.keywords s0.device s1.device s2.device honest number.kept t;
               repeats = λ k. repeats_from g.opening _ _ _ options old leads k;
               beyond = λ b. (beyond_is_read _ n b.0, λ h at. never_beyond n s1.device (number.number (honest h) at) (b.1 h));

@@ -156,7 +156,7 @@ returns-in-Err-clause-left g c = λ h asked at.
     record {
       left = leaves_after (Underway g.opening) fault s0 s1 s2 (more_found tried s0 now s1 i.told e)
           (leaves_map after (Underway g.opening) fault s1 s2 (λ k. tried_underway g.opening c.attempt.new.run s2.device k.tried) (part.left h here));
-      changed = λ side is. changed_last g.opening s0 s1 s2 stream drawn _ _ _ tried c.args.tries side fault began (omega arith) is h part (λ told. told);
+      changed = λ side is. changed_last g.opening s0 s1 s2 stream drawn _ _ _ tried c.args.tries side fault began (omega arith) is h part (λ told. told.0);
       keywords = λ is. kept_last g.opening s0 s1 s2 stream drawn _ _ _ tried c.args.tries _ options.keywords fault began (omega arith) is h part (λ told. told);
       refused = λ step is. (refused_for _ _ _ fault s1 s2 step is part).1 h here;
     }
@@ -175,7 +175,7 @@ returns-in-Err-clause-caused g c = λ other.
     let device = found_device c.loop-tried.tried now s1 e in
     caused_since (settle_reasons (g.O.Outside.opened c.attempt.new.outside) (g.O.Outside.honest c.attempt.new.outside) g.opening c.args.options.now start (g.R.Rng.stream c.attempt.new.rng) s0.device s2.device) _ _ _ c.in-Err.fault s0 s1 s2
     (more_found c.loop-tried.tried s0 now s1 i.told e) appends other c.in-Err.ensures.attempt.part (record {
-      changed = λ side t. tt;
+      changed = λ side t. t.1;
       keywords = λ t. (t.0, λ h. (t.1 h).0);
       repeats = λ k. record { drawn = g.R.Rng.stream c.loop-tried.rng; moved = i.moved; on = c.attempt.ensures.attempt.moved; count = k.count; repeats = k.repeats; wanted = λ h asked at. k.wanted h (subst before (sym device) (i.left (c.again.ensures.was_honest (c.attempt.ensures.attempt.frame.was_honest h)) asked at)) };
       beyond = λ b. (b.0, λ h. b.1 h (subst (λ (d : Device). IsReached c.loop-tried.run d.files) (sym device) (i.reached (c.again.ensures.was_honest (c.attempt.ensures.attempt.frame.was_honest h)))));
