@@ -10,7 +10,7 @@ use Rattle.outside.specs.declared.outside.Carried.{Carried}
 use Rattle.outside.specs.declared.outside.Carried.TheVariants.{Absent}
 use Rattle.outside.specs.Arrivals.{Arrives}
 use Rattle.outside.specs.BoxCalls.{Carry, SetsAside, copies_made}
-use Rattle.outside.specs.Calls.{Call, FromBox, LeavesBy, Reads, Seen, stopped}
+use Rattle.outside.specs.Calls.{Call, FromBox, LeavesBy, Opens, Seen, stopped}
 use Rattle.outside.specs.Devices.{Device}
 use Rattle.outside.specs.Opened.{IsOpen, Opened}
 use Rattle.guarded.proofs.Behind.{call_behind}
@@ -41,20 +41,20 @@ asks_behind h1 h2 ours alone direction uid flags mark old mid new result r befor
     call_behind h1 h2 ours alone copies_made FromBox (Carry direction uid flags mark) (LeavesBy (Carry direction uid flags mark) (SetsAside (target direction))) old mid new result r before c
 
 pub not_listed : {tells : Listing → Device → Type 0} (h1 h2 : Type 0) (ours : List ℕ → Bool) (alone : Bool) (direction : Direction) (uid flags : ℕ) (mark : List ℕ) (old mid new : Seen) (carried : Carried) (fault : OutsideFault) →
-    Asks h1 ours alone direction uid flags mark old mid (Ok carried) → carried ≡ Absent → (h2 → h1) → Reads h2 (Arrives ours alone) tells mid new (Err fault) → Asks h2 ours alone direction uid flags mark old new (Err fault)
+    Asks h1 ours alone direction uid flags mark old mid (Ok carried) → carried ≡ Absent → (h2 → h1) → Opens h2 (Arrives ours alone) tells mid new (Err fault) → Asks h2 ours alone direction uid flags mark old new (Err fault)
 not_listed h1 h2 ours alone direction uid flags mark old mid new carried fault asked is before listed =
     let absent = subst (λ (c : Carried). Asks h1 ours alone direction uid flags mark old mid (Ok c)) is asked in
     asks_behind h1 h2 ours alone direction uid flags mark old mid new (Err fault) (rests_absent h1 ours alone direction uid flags mark old mid absent) before (fails_same h2 ours alone copies_made (Carry direction uid flags mark) (SetsAside (target direction)) fault mid new listed)
 
 pub asked_again : {tells : Listing → Device → Type 0} (h1 h2 h3 : Type 0) (ours : List ℕ → Bool) (alone : Bool) (direction : Direction) (uid flags : ℕ) (mark : List ℕ) (s0 s1 s2 s3 : Seen) (carried : Carried) (listing : Listing) (result : Result Carried OutsideFault) →
-    Asks h1 ours alone direction uid flags mark s0 s1 (Ok carried) → carried ≡ Absent → (h2 → h1) → Reads h2 (Arrives ours alone) tells s1 s2 (Ok listing) → (h3 → h2) → Asks h3 ours alone direction uid flags mark s2 s3 result → Asks h3 ours alone direction uid flags mark s0 s3 result
+    Asks h1 ours alone direction uid flags mark s0 s1 (Ok carried) → carried ≡ Absent → (h2 → h1) → Opens h2 (Arrives ours alone) tells s1 s2 (Ok listing) → (h3 → h2) → Asks h3 ours alone direction uid flags mark s2 s3 result → Asks h3 ours alone direction uid flags mark s0 s3 result
 asked_again {tells} h1 h2 h3 ours alone direction uid flags mark s0 s1 s2 s3 carried listing result asked is before listed then again =
     let absent = subst (λ (c : Carried). Asks h1 ours alone direction uid flags mark s0 s1 (Ok c)) is asked in
     asks_behind h2 h3 ours alone direction uid flags mark s0 s2 s3 result (rests_read h1 h2 ours alone tells listing s0 s1 s2 (rests_absent h1 ours alone direction uid flags mark s0 s1 absent) before listed) then again
 
 -- the copy is listed and not given twice: the call stops
 pub stops_again : {tells : Listing → Device → Type 0} (h1 h2 h3 h4 : Type 0) (ours : List ℕ → Bool) (alone : Bool) (direction : Direction) (uid flags : ℕ) (mark : List ℕ) (s0 s1 s2 s3 s4 : Seen) (carried again : Carried) (listing : Listing) (fault : OutsideFault) →
-    Asks h1 ours alone direction uid flags mark s0 s1 (Ok carried) → carried ≡ Absent → (h2 → h1) → Reads h2 (Arrives ours alone) tells s1 s2 (Ok listing) → (h3 → h2) → Asks h3 ours alone direction uid flags mark s2 s3 (Ok again) → again ≡ Absent
+    Asks h1 ours alone direction uid flags mark s0 s1 (Ok carried) → carried ≡ Absent → (h2 → h1) → Opens h2 (Arrives ours alone) tells s1 s2 (Ok listing) → (h3 → h2) → Asks h3 ours alone direction uid flags mark s2 s3 (Ok again) → again ≡ Absent
     → (h4 → h3) → fault ≡ Stopped → s4 ≡ stopped s3 → Asks h4 ours alone direction uid flags mark s0 s4 (Err fault)
 stops_again h1 h2 h3 h4 ours alone direction uid flags mark s0 s1 s2 s3 s4 carried again listing fault asked is before listed then asks is_again last is_stop now =
     let asks3 = asked_again h1 h2 h3 ours alone direction uid flags mark s0 s1 s2 s3 carried listing (Ok again) asked is before listed then asks in

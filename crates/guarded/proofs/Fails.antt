@@ -4,7 +4,7 @@ use Rattle.device.specs.Calls.{Effect}
 use Rattle.outside.specs.declared.fault.OutsideFault.{OutsideFault}
 use Rattle.outside.specs.declared.fault.OutsideFault.TheVariants.{Stopped, Refused, Box, BadState, BadJournal, NoMemory}
 use Rattle.outside.specs.Arrivals.{Arrives}
-use Rattle.outside.specs.Calls.{Call, FromBox, LeavesBy, Reads, Seen}
+use Rattle.outside.specs.Calls.{Call, FromBox, FromOpening, LeavesBy, Opens, Seen}
 use Rattle.outside.specs.Devices.{Device}
 
 left_same : {T : Type 0} (does : T → Effect Device) (part : Effect Device) (fault : OutsideFault) (d d' : Device) → d' ≡ d → LeavesBy does part fault d d'
@@ -15,8 +15,17 @@ left_same does part (BadState line) d d' same = same
 left_same does part (BadJournal line) d d' same = same
 left_same does part NoMemory d d' same = inl same
 
+-- what a call before the steps may report, a call of a box may
+as_box : (fault : OutsideFault) → FromOpening fault → FromBox fault
+as_box Stopped h = tt
+as_box Refused h = absurd h
+as_box (Box side number) h = tt
+as_box (BadState line) h = absurd h
+as_box (BadJournal line) h = absurd h
+as_box NoMemory h = tt
+
 pub fails_same : {T U : Type 0} {tells : U → Device → Type 0} (honest : Type 0) (ours : List ℕ → Bool) (alone : Bool) (copies : T → ℕ) (does : T → Effect Device) (part : Effect Device) (fault : OutsideFault) (old new : Seen)
-    → Reads honest (Arrives ours alone) tells old new (Err fault) → Call honest (Arrives ours alone) copies FromBox does (LeavesBy does part) old new (Err fault)
+    → Opens honest (Arrives ours alone) tells old new (Err fault) → Call honest (Arrives ours alone) copies FromBox does (LeavesBy does part) old new (Err fault)
 fails_same honest ours alone copies does part fault old new c = record {
   acts = record {
     is_broken = c.acts.is_broken;
@@ -27,7 +36,7 @@ fails_same honest ours alone copies does part fault old new c = record {
   };
   goes_on = c.goes_on;
   counts = record {
-    told = c.counts.told;
+    told = as_box fault c.counts.told;
     noted = c.counts.noted;
     stopped = c.counts.stopped;
     appends = c.counts.appends;

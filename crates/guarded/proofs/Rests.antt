@@ -1,7 +1,7 @@
 -- Calls that left all as it was, but for what others added.
 use Rattle.std.proofs.Common.{◌≡◌, ℕ, Bool, false, List, Ok, refl, sym, ◌∙◌, subst, arith}
 use Rattle.outside.specs.Arrivals.{Arrives}
-use Rattle.outside.specs.Calls.{Reads, Seen}
+use Rattle.outside.specs.Calls.{Opens, Seen}
 use Rattle.outside.specs.Devices.{Device}
 use Rattle.outside.specs.GoingOn.{GoesOn}
 use Rattle.outside.proofs.GoingOn.{goes_after, stays}
@@ -22,7 +22,7 @@ pub rests_none : (honest : Type 0) (ours : List ℕ → Bool) (alone : Bool) (s 
 rests_none honest ours alone s whole = record { was_whole = whole; is_whole = whole; stops = refl; told = refl; appends = refl; reopened = refl; added = λ h. quiet ours alone s.device; goes_on = λ h. stays s.device s.device refl }
 
 -- one more call that answers what is so
-pub rests_read : {T : Type 0} (h1 h2 : Type 0) (ours : List ℕ → Bool) (alone : Bool) (tells : T → Device → Type 0) (answer : T) (old mid new : Seen) → Rests h1 ours alone old mid → (h2 → h1) → Reads h2 (Arrives ours alone) tells mid new (Ok answer) → Rests h2 ours alone old new
+pub rests_read : {T : Type 0} (h1 h2 : Type 0) (ours : List ℕ → Bool) (alone : Bool) (tells : T → Device → Type 0) (answer : T) (old mid new : Seen) → Rests h1 ours alone old mid → (h2 → h1) → Opens h2 (Arrives ours alone) tells mid new (Ok answer) → Rests h2 ours alone old new
 rests_read h1 h2 ours alone tells answer old mid new r before c = record {
   was_whole = r.was_whole;
   is_whole = c.acts.is_whole;
@@ -38,6 +38,6 @@ rests_read h1 h2 ours alone tells answer old mid new r before c = record {
 }
 
 -- a call that answers what is so
-pub rests_listed : {T : Type 0} {tells : T → Device → Type 0} (honest : Type 0) (ours : List ℕ → Bool) (alone : Bool) (answer : T) (old new : Seen) → Reads honest (Arrives ours alone) tells old new (Ok answer) → Rests honest ours alone old new
+pub rests_listed : {T : Type 0} {tells : T → Device → Type 0} (honest : Type 0) (ours : List ℕ → Bool) (alone : Bool) (answer : T) (old new : Seen) → Opens honest (Arrives ours alone) tells old new (Ok answer) → Rests honest ours alone old new
 rests_listed {T} {tells} honest ours alone answer old new c =
     rests_read honest honest ours alone tells answer old old new (rests_none honest ours alone old c.acts.was_whole) (λ h. h) c

@@ -3,6 +3,10 @@ use Rattle.std.specs.Prelude.{ℕ}
 
 -- ---- of a far mailbox
 
+-- a refusal by which no step of a run is refused
+abbrev pub FAR_REFUSED : ℕ
+FAR_REFUSED = 2
+
 abbrev pub FAR_UNKNOWN_ANSWER : ℕ
 FAR_UNKNOWN_ANSWER = 3
 

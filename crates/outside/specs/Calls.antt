@@ -67,6 +67,15 @@ FromBox (BadState line) = ⊥
 FromBox (BadJournal line) = ⊥
 FromBox NoMemory = Unit {0}
 
+-- a call before the steps of a plan, which opens a box, lists it or admits what waits: what is refused then is a fault of the box
+abbrev pub FromOpening : OutsideFault → Type 0
+FromOpening Stopped = Unit {0}
+FromOpening Refused = ⊥
+FromOpening (Box side number) = Unit {0}
+FromOpening (BadState line) = ⊥
+FromOpening (BadJournal line) = ⊥
+FromOpening NoMemory = Unit {0}
+
 -- a call of the book that was read
 abbrev pub FromBook : OutsideFault → Type 0
 FromBook Stopped = Unit {0}
@@ -117,6 +126,10 @@ Changes honest others does part old new result = Call honest others (λ _. 0) Fr
 -- a call of a box that changes nothing and answers what is so
 abbrev pub Reads : {T : Type 0} → (honest : Type 0) → (others : Effect Device) → (tells : T → Device → Type 0) → Seen → Seen → Result T OutsideFault → Type 0
 Reads honest others tells old new result = Call honest others (λ _. 0) FromBox (Answers tells) (λ fault. Stays) old new result
+
+-- the same of a call before the steps of a plan
+abbrev pub Opens : {T : Type 0} → (honest : Type 0) → (others : Effect Device) → (tells : T → Device → Type 0) → Seen → Seen → Result T OutsideFault → Type 0
+Opens honest others tells old new result = Call honest others (λ _. 0) FromOpening (Answers tells) (λ fault. Stays) old new result
 
 -- a call of the book that changes the files
 abbrev pub Writes : (honest : Type 0) → (others : Effect Device) → (may_tell : OutsideFault → Type 0) → (does part : Effect Device) → Seen → Seen → Result (Unit {0}) OutsideFault → Type 0

@@ -9,7 +9,8 @@ pub enum OutsideFault {
     /// A call of a link, a folder or a shelf stopped, now or earlier.
     #[error("stopped")]
     Stopped,
-    /// The far mailbox said no (RFC 9051, section 7.1.2), and nothing has changed.
+    /// The far mailbox said no to a step (RFC 9051, section 7.1.2), and nothing has changed. A NO to a call before the steps is fault 2
+    /// of its box.
     #[error("refused")]
     Refused,
     /// The box of this side has another fault, of this number. Nothing has changed.

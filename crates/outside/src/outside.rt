@@ -44,7 +44,7 @@ pub trait Outside {
     ghost use Rattle.book.specs.LostSides.{AreRising};
     ghost use Rattle.outside.specs.Arrivals.{Arrives};
     ghost use Rattle.outside.specs.Devices.{box};
-    ghost use Rattle.outside.specs.Calls.{Call, Changes, FromBook, FromBox, FromShelf, LeavesBy, Reads, Seen, Writes, opened_again, stopped};
+    ghost use Rattle.outside.specs.Calls.{Call, Changes, FromBook, FromBox, FromOpening, FromShelf, LeavesBy, Opens, Reads, Seen, Writes, opened_again, stopped};
     ghost use Rattle.outside.specs.Opened.{IsBook, IsHeld, IsOpen, IsRead, Opened, AreCommitted, AreGivenUp, TakesCommit, TakesDiscard, TakesGivingUp, TakesLog, TakesPlan, journal_of, state_of, turned, with_box};
     ghost use Rattle.outside.specs.BookCalls.{FromLog, LeavesUnread, OfBook, ReadsBook};
     ghost use Rattle.mailbox.specs.Operations.{HasNumbers, ListsWithin, removed};
@@ -165,7 +165,7 @@ pub trait Outside {
         ensures was_honest { honest self.new → honest self.old }
         ensures keywords { keywords self.new ≡ keywords self.old }
         ensures opened { OnOk result (opened self.new ≡ with_box side (opened self.old)) }
-        ensures call { Reads (honest self.new) (Arrives ours alone) (λ validity d. validity ≡ (box d side).validity) (seen self.old)
+        ensures call { Opens (honest self.new) (Arrives ours alone) (λ validity d. validity ≡ (box d side).validity) (seen self.old)
             (seen self.new) result };
 
     /// Gives the waiting near files their UIDs: all that waited before the call. Those that come later may wait for the next plan.
@@ -174,8 +174,10 @@ pub trait Outside {
         ensures was_honest { honest self.new → honest self.old }
         ensures keywords { keywords self.new ≡ keywords self.old }
         ensures opened { opened self.new ≡ opened self.old }
-        ensures call { Changes {T = Unit {0}} (honest self.new) (Arrives ours alone) (λ _. Admits alone (seen self.old).device.near.waiting)
-            (AdmitsPart alone) (seen self.old) (seen self.new) result };
+        ensures call { Call {T = Unit {0}} (honest self.new) (Arrives ours alone) (λ _. 0) FromOpening
+            (λ _. Admits alone (seen self.old).device.near.waiting)
+            (LeavesBy {T = Unit {0}} (λ _. Admits alone (seen self.old).device.near.waiting) (AdmitsPart alone)) (seen self.old)
+            (seen self.new) result };
 
     /// What the far mailbox lists.
     fn list_far(&mut self) -> Result<Listing, OutsideFault>
@@ -185,7 +187,7 @@ pub trait Outside {
         ensures opened { opened self.new ≡ opened self.old }
         ensures numbers { IfOk result HasNumbers }
         ensures within { honest self.new → IfOk result (ListsWithin (keywords self.old)) }
-        ensures call { Reads (honest self.new) (Arrives ours alone) (ListsFar alone (seen self.old).device.far.next) (seen self.old)
+        ensures call { Opens (honest self.new) (Arrives ours alone) (ListsFar alone (seen self.old).device.far.next) (seen self.old)
             (seen self.new) result };
 
     /// What the near mailbox lists. Messages that are spared are said to be fit, and are not read.
@@ -196,7 +198,7 @@ pub trait Outside {
         ensures opened { opened self.new ≡ opened self.old }
         ensures numbers { IfOk result HasNumbers }
         ensures within { honest self.new → IfOk result (ListsWithin (keywords self.old)) }
-        ensures call { Reads (honest self.new) (Arrives ours alone) (ListsNear (spares spared.now)) (seen self.old) (seen self.new) result };
+        ensures call { Opens (honest self.new) (Arrives ours alone) (ListsNear (spares spared.now)) (seen self.old) (seen self.new) result };
 
     /// The least UID of at least `from` whose message has the mark.
     fn find_mark(&mut self, side: Side, mark: Tuid, from: u32) -> Result<Option<Uid>, OutsideFault>

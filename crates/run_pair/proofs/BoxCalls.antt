@@ -30,7 +30,7 @@ use Rattle.outside.proofs.CallsSpare.{AreSparing, IsSparing, admitting_part_spar
 use Rattle.outside.proofs.GoingOn.{files_stay}
 use Rattle.outside.proofs.Sparing.{ChangesOne, arrivals_spare, names_spare, nothing_named, turns_spare}
 use Rattle.run_pair.specs.declared.pair.Pair.{Pair}
-use Rattle.run_pair.specs.Faults.{IsTold, told, told_by}
+use Rattle.run_pair.specs.Faults.{IsTold, OrRefusal, told, told_by}
 use Rattle.run_pair.specs.Pairs.{Failed, device_of}
 use Rattle.run_pair.specs.Parts.{IsLess, both, put, with_named}
 use Rattle.run_pair.specs.Tallies.{Counts, Tallied, ended, ended_naming, named_by, no_copies, seen_with}
@@ -127,22 +127,22 @@ module _ (d : Device) where
   box_at Near b = refl
 
   abbrev pub opening : (side : Side) → (unfit : BoxFault → Mailbox → Type 0) → Move side d ℕ
-  opening side unfit = reading side d unfit ops.TellsValidity (λ validity e. validity ≡ (devices.box e side).validity) (λ validity b h. h ∙ sym (ap (λ (s : Store). s.validity) (box_at side b)))
+  opening side unfit = reading side d (OrRefusal unfit) ops.TellsValidity (λ validity e. validity ≡ (devices.box e side).validity) (λ validity b h. h ∙ sym (ap (λ (s : Store). s.validity) (box_at side b)))
 
   abbrev pub finding : (side : Side) → (mark : List ℕ) → (from : ℕ) → Move side d (Option ℕ)
   finding side mark from = reading side d Never (ops.Finds mark from) (λ found e. found ≡ marked_from mark from (devices.box e side)) (λ found b h. h ∙ sym (ap (λ (s : Store). marked_from mark from s) (box_at side b)))
 
   abbrev pub listing_far : (alone alone' : Bool) → (alone' ≡ true → alone ≡ true) → (known : ℕ) → (spared : ℕ → Bool) → Move Far d Listing
-  listing_far alone alone' lone known spared = reading Far d Never (ops.Lists Far alone known spared) (ListsFar alone' known) (λ listing b h. lists_weaker alone alone' known listing b.store lone h)
+  listing_far alone alone' lone known spared = reading Far d (OrRefusal Never) (ops.Lists Far alone known spared) (ListsFar alone' known) (λ listing b h. lists_weaker alone alone' known listing b.store lone h)
 
   abbrev pub listing_near : (spared : ℕ → Bool) → Move Near d Listing
-  listing_near spared = reading Near d Never (ops.Lists Near true 0 spared) (ListsNear spared) (λ listing b h. h)
+  listing_near spared = reading Near d (OrRefusal Never) (ops.Lists Near true 0 spared) (ListsNear spared) (λ listing b h. h)
 
   pub reading_weaker : (alone alone' : Bool) (read left : List Waiting) (b : Mailbox) → (alone' ≡ true → alone ≡ true) → ops.IsReading alone read left b → ops.IsReading alone' read left b
   reading_weaker alone alone' read left b lone r = record { parts = r.parts; all = λ e. r.all (lone e) }
 
   abbrev pub admitting : (alone alone' : Bool) → (alone' ≡ true → alone ≡ true) → (known : List Waiting) → Move Near d (Unit {0})
-  admitting alone alone' lone known = changing Near d (NoRoom Near (λ b. length b.waiting)) (λ _. ops.Admits alone known) (ops.AdmitsPart alone) (λ _. Admits alone' known) (AdmitsPart alone')
+  admitting alone alone' lone known = changing Near d (OrRefusal (NoRoom Near (λ b. length b.waiting))) (λ _. ops.Admits alone known) (ops.AdmitsPart alone) (λ _. Admits alone' known) (AdmitsPart alone')
       (λ _ b b' h. record { far = refl; files = refl; named = refl; near = record { read = h.read; left = h.left; reading = reading_weaker alone alone' h.read h.left b lone h.reading; least = h.least; now = h.now } })
       (λ b b' h. record { far = refl; files = refl; named = refl; near = record { read = h.read; left = h.left; reading = reading_weaker alone alone' h.read h.left b lone h.reading; count = h.count; now = h.now } })
       (λ _. admitting_spares alone' known) (admitting_part_spares alone')

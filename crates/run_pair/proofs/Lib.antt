@@ -7,3 +7,4 @@ pub mod BoxCalls
 pub mod BookCalls
 pub mod Carrying
 pub mod CarryCalls
+pub mod BeforeSteps

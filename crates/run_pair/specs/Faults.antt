@@ -1,9 +1,10 @@
 -- How a fault of a mailbox is told by the outside, and why it is told.
-use Rattle.std.specs.Prelude.{◌≡◌, Result, Ok, Err}
+use Rattle.std.specs.Prelude.{◌≡◌, ◌⊎◌, Result, Ok, Err}
 use Rattle.mailcore.specs.declared.side.Side.{Side}
 use Rattle.mailcore.specs.Mailboxes.{Mailbox}
 use Rattle.mailbox.specs.declared.fault.BoxFault.{BoxFault}
 use Rattle.mailbox.specs.declared.fault.BoxFault.TheVariants as box
+use Rattle.mailbox.specs.FaultNumbers.{FAR_REFUSED}
 use Rattle.outside.specs.declared.fault.OutsideFault.{OutsideFault}
 use Rattle.outside.specs.declared.fault.OutsideFault.TheVariants as outside
 
@@ -17,6 +18,18 @@ told side box.NoMemory = outside.NoMemory
 abbrev pub told_by : {T : Type 0} → Side → Result T BoxFault → Result T OutsideFault
 told_by side (Ok answer) = Ok answer
 told_by side (Err fault) = Err (told side fault)
+
+-- a call before the steps of a plan: what was refused is a fault of the mailbox
+abbrev pub unstepped : {T : Type 0} → Result T BoxFault → Result T BoxFault
+unstepped (Ok answer) = Ok answer
+unstepped (Err box.Stopped) = Err box.Stopped
+unstepped (Err box.Refused) = Err (box.Own FAR_REFUSED)
+unstepped (Err (box.Own number)) = Err (box.Own number)
+unstepped (Err box.NoMemory) = Err box.NoMemory
+
+-- which has the reason of the refusal
+abbrev pub OrRefusal : (because : BoxFault → Mailbox → Type 0) → BoxFault → Mailbox → Type 0
+OrRefusal because fault b = because fault b ⊎ ((fault ≡ box.Own FAR_REFUSED) × because box.Refused b)
 
 -- A call of the mailbox of this side tells this fault. A stop has this cause. A refusal, and a fault of its own, which names this side,
 -- are told of the mailbox as it is now, for its reason, where the device below has kept its word.

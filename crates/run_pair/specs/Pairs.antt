@@ -16,7 +16,7 @@ use Rattle.mailbox.specs.Operations.{NoRoom}
 use Rattle.outside.specs.declared.fault.OutsideFault.{OutsideFault}
 use Rattle.outside.specs.Arrivals.{Arrives}
 use Rattle.outside.specs.BookCalls.{OfBook}
-use Rattle.outside.specs.Calls.{Call, Changes, Reads, Seen, Writes}
+use Rattle.outside.specs.Calls.{Call, Changes, Opens, Reads, Seen, Writes}
 use Rattle.outside.specs.Devices.{Device}
 use Rattle.outside.specs.Opened.{Opened}
 use Rattle.run_pair.specs.BookParts.{files_of, kept_of, standing_of}
@@ -61,6 +61,10 @@ module _ {F N S : Type 0} {fars : mailbox.Ghosts F} {nears : mailbox.Ghosts N} {
   -- a call of a mailbox that tells what is so
   abbrev pub BoxRead : {T : Type 0} → (tells : T → Device → Type 0) → (old new : Pair F N S fars nears shelves) → Result T OutsideFault → Type 0
   BoxRead tells old new result = Reads (honest_of new) (Arrives (both fars.ours nears.ours) (fars.alone && nears.alone)) tells (seen_of old) (seen_of new) result
+
+  -- the same before the steps of a plan
+  abbrev pub BoxOpens : {T : Type 0} → (tells : T → Device → Type 0) → (old new : Pair F N S fars nears shelves) → Result T OutsideFault → Type 0
+  BoxOpens tells old new result = Opens (honest_of new) (Arrives (both fars.ours nears.ours) (fars.alone && nears.alone)) tells (seen_of old) (seen_of new) result
 
   -- ---- why a call tells a fault
 

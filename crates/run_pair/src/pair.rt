@@ -59,7 +59,7 @@ impl<F: Mailbox + Drop, N: Mailbox + Drop, S: Shelf + Drop> Outside for Pair<F, 
     ghost use Rattle.book.specs.GivingUp.{GivesUpHalf, GivesUpTo};
     ghost use Rattle.book.specs.LostSides.{AreRising};
     ghost use Rattle.outside.specs.Devices.{box};
-    ghost use Rattle.outside.specs.Calls.{FromBook, FromBox, FromShelf, LeavesBy, opened_again, stopped};
+    ghost use Rattle.outside.specs.Calls.{FromBook, FromBox, FromOpening, FromShelf, LeavesBy, opened_again, stopped};
     ghost use Rattle.outside.specs.Opened.{AreCommitted, AreGivenUp, IsBook, IsHeld, IsOpen, IsRead, turned, with_box};
     ghost use Rattle.outside.specs.Opened.{TakesCommit, TakesDiscard, TakesGivingUp, TakesLog, TakesPlan};
     ghost use Rattle.outside.specs.BookCalls.{FromLog, LeavesUnread, ReadsBook};
@@ -67,9 +67,10 @@ impl<F: Mailbox + Drop, N: Mailbox + Drop, S: Shelf + Drop> Outside for Pair<F, 
     ghost use Rattle.outside.specs.BoxCalls.{Admits, AdmitsPart, Carry, ListsFar, ListsNear, Names, SetsAside, Turns};
     ghost use Rattle.outside.specs.BoxCalls.{copies_made};
     ghost use Rattle.mailbox.specs.Calls.{Never};
+    ghost use Rattle.run_pair.specs.Faults.{OrRefusal};
     ghost use Rattle.run_pair.specs.Parts.{both};
     ghost use Rattle.run_pair.specs.Tallies.{Tallied, counted_again, ended, ended_naming, no_copies};
-    ghost use Rattle.run_pair.specs.Pairs.{BookCall, BoxChange, BoxRead, PairCall, device_of, honest_of, opened_of, seen_of};
+    ghost use Rattle.run_pair.specs.Pairs.{BookCall, BoxChange, BoxOpens, BoxRead, PairCall, device_of, honest_of, opened_of, seen_of};
     ghost use Rattle.run_pair.specs.Pairs.{ByBook, ByBox, ByCopy, BySyncedBook, IsSyncedFirst, IsWhole, CannotOpen};
 
     ghost honest = { honest_of };
@@ -231,8 +232,8 @@ impl<F: Mailbox + Drop, N: Mailbox + Drop, S: Shelf + Drop> Outside for Pair<F, 
         ensures was_honest { honest_of self.new → honest_of self.old }
         ensures keywords { F.keywords self.new.far ≡ F.keywords self.old.far }
         ensures opened { OnOk result (opened_of self.new ≡ with_box side (opened_of self.old)) }
-        ensures call { BoxRead (λ validity d. validity ≡ (box d side).validity) self.old self.new result }
-        ensures why { IfErr result (ByBox side (CannotOpen side self.old) self.old self.new) }
+        ensures call { BoxOpens (λ validity d. validity ≡ (box d side).validity) self.old self.new result }
+        ensures why { IfErr result (ByBox side (OrRefusal (CannotOpen side self.old)) self.old self.new) }
         ensures tallied { Tallied (ended no_copies) result self.old.tally self.new.tally }
     {
         if self.tally.is_broken() {
@@ -241,11 +242,11 @@ impl<F: Mailbox + Drop, N: Mailbox + Drop, S: Shelf + Drop> Outside for Pair<F, 
         match side {
             Side::Far => {
                 let answer = self.far.open();
-                self.tally.end_at(Side::Far, answer)
+                self.tally.end_opening(Side::Far, answer)
             }
             Side::Near => {
                 let answer = self.near.open();
-                self.tally.end_at(Side::Near, answer)
+                self.tally.end_opening(Side::Near, answer)
             }
         }
     }
@@ -255,16 +256,17 @@ impl<F: Mailbox + Drop, N: Mailbox + Drop, S: Shelf + Drop> Outside for Pair<F, 
         ensures was_honest { honest_of self.new → honest_of self.old }
         ensures keywords { F.keywords self.new.far ≡ F.keywords self.old.far }
         ensures opened { opened_of self.new ≡ opened_of self.old }
-        ensures call { BoxChange (Admits (F.alone && N.alone) (seen_of self.old).device.near.waiting) (AdmitsPart (F.alone && N.alone))
+        ensures call { PairCall {T = Unit {0}} (λ _. 0) FromOpening (λ _. Admits (F.alone && N.alone) (seen_of self.old).device.near.waiting)
+            (LeavesBy {T = Unit {0}} (λ _. Admits (F.alone && N.alone) (seen_of self.old).device.near.waiting) (AdmitsPart (F.alone && N.alone)))
             self.old self.new result }
-        ensures why { IfErr result (ByBox Side.Near (NoRoom Side.Near (λ b. length b.waiting)) self.old self.new) }
+        ensures why { IfErr result (ByBox Side.Near (OrRefusal (NoRoom Side.Near (λ b. length b.waiting))) self.old self.new) }
         ensures tallied { Tallied (ended no_copies) result self.old.tally self.new.tally }
     {
         if self.tally.is_broken() {
             return Err(OutsideFault::Stopped);
         }
         let answer = self.near.admit();
-        self.tally.end_at(Side::Near, answer)
+        self.tally.end_opening(Side::Near, answer)
     }
 
     fn list_far(&mut self) -> Result<Listing, OutsideFault>
@@ -274,15 +276,15 @@ impl<F: Mailbox + Drop, N: Mailbox + Drop, S: Shelf + Drop> Outside for Pair<F, 
         ensures opened { opened_of self.new ≡ opened_of self.old }
         ensures numbers { IfOk result HasNumbers }
         ensures within { honest_of self.new → IfOk result (ListsWithin (F.keywords self.old.far)) }
-        ensures call { BoxRead (ListsFar (F.alone && N.alone) (seen_of self.old).device.far.next) self.old self.new result }
-        ensures why { IfErr result (ByBox Side.Far Never self.old self.new) }
+        ensures call { BoxOpens (ListsFar (F.alone && N.alone) (seen_of self.old).device.far.next) self.old self.new result }
+        ensures why { IfErr result (ByBox Side.Far (OrRefusal Never) self.old self.new) }
         ensures tallied { Tallied (ended no_copies) result self.old.tally self.new.tally }
     {
         if self.tally.is_broken() {
             return Err(OutsideFault::Stopped);
         }
         let answer = self.far.list(&Spared::none(self.alloc));
-        self.tally.end_at(Side::Far, answer)
+        self.tally.end_opening(Side::Far, answer)
     }
 
     fn list_near(&mut self, spared: &Spared) -> Result<Listing, OutsideFault>
@@ -292,15 +294,15 @@ impl<F: Mailbox + Drop, N: Mailbox + Drop, S: Shelf + Drop> Outside for Pair<F, 
         ensures opened { opened_of self.new ≡ opened_of self.old }
         ensures numbers { IfOk result HasNumbers }
         ensures within { honest_of self.new → IfOk result (ListsWithin (F.keywords self.old.far)) }
-        ensures call { BoxRead (ListsNear (spares spared.now)) self.old self.new result }
-        ensures why { IfErr result (ByBox Side.Near Never self.old self.new) }
+        ensures call { BoxOpens (ListsNear (spares spared.now)) self.old self.new result }
+        ensures why { IfErr result (ByBox Side.Near (OrRefusal Never) self.old self.new) }
         ensures tallied { Tallied (ended no_copies) result self.old.tally self.new.tally }
     {
         if self.tally.is_broken() {
             return Err(OutsideFault::Stopped);
         }
         let answer = self.near.list(spared);
-        self.tally.end_at(Side::Near, answer)
+        self.tally.end_opening(Side::Near, answer)
     }
 
     fn find_mark(&mut self, side: Side, mark: Tuid, from: u32) -> Result<Option<Uid>, OutsideFault>

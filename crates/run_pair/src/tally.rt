@@ -3,7 +3,7 @@
 ghost use Rattle.std.specs.Prelude.{◌≡◌, false};
 ghost use Rattle.outside.specs.BoxCalls.{copies_made};
 ghost use Rattle.outside.specs.Devices.{Device};
-ghost use Rattle.run_pair.specs.Faults.{told, told_by};
+ghost use Rattle.run_pair.specs.Faults.{told, told_by, unstepped};
 ghost use Rattle.run_pair.specs.Tallies.{counted_again, ended, ended_naming, failed, no_copies, untouched};
 
 use crate::book_part::BookPart;
@@ -11,6 +11,7 @@ use crate::reopened::Reopened;
 use book::shelf::Shelf;
 use device::history::History;
 use mailbox::fault::BoxFault;
+use mailbox::fault_number::FAR_REFUSED;
 use mailbox::mailbox::Mailbox;
 use mailcore::side::Side;
 use mailcore::uid::Uid;
@@ -88,6 +89,21 @@ impl Tally {
                 self.fail(fault);
                 Err(fault)
             }
+        }
+    }
+
+    /// The same of a call before the steps of a plan: what was refused is fault 2 of the mailbox.
+    pub fn end_opening<T>(
+        &mut self,
+        side: Side,
+        answer: Result<T, BoxFault>,
+    ) -> Result<T, OutsideFault>
+        ensures same { result ≡ told_by side (unstepped answer) }
+        ensures now { self.new ≡ ended no_copies (told_by side (unstepped answer)) self.old }
+    {
+        match answer {
+            Err(BoxFault::Refused) => self.end_at(side, Err(BoxFault::Own(FAR_REFUSED))),
+            answer => self.end_at(side, answer),
         }
     }
 

@@ -29,7 +29,7 @@ use Rattle.outside.specs.Calls.{Seen}
 use Rattle.runner.specs.declared.fault.RunFault.{RunFault}
 use Rattle.runner.specs.declared.fault.RunFault.TheVariants as run
 use Rattle.runner.specs.Faults.{IsCaused}
-use Rattle.runner.specs.Parts.{Passed, Unstepped}
+use Rattle.runner.specs.Parts.{Passed, Never}
 use Rattle.runner.specs.GivingUp.{Counted, KeepsAll, KeepsBoxes, LosesBy, LosesListed, Nowhere, RemovesSome}
 use Rattle.runner.specs.HalfEntries.{expunged_on, far_items, gone_on, is_expunge, is_gone, lacks_mark, logged, loses, lost_among, lost_between, near_items, removed_on, removes_some, tried}
 use Rattle.runner.proofs.KeptBoxes.{boxes_none}
@@ -146,9 +146,9 @@ loses_none ours alone opened d none = record {
 }
 
 -- no call
-pub counted_here : {T : Type 0} (honest : Type 0) (s0 s1 : Seen) (r : Result T RunFault) → Passed honest Nowhere Nowhere 0 s0 s1 → IfErr r (λ f. f ≡ run.NoMemory) → Counted Unstepped honest s0 s1 r
+pub counted_here : {T : Type 0} (honest : Type 0) (s0 s1 : Seen) (r : Result T RunFault) → Passed honest Nowhere Nowhere 0 s0 s1 → IfErr r (λ f. f ≡ run.NoMemory) → Counted Never honest s0 s1 r
 counted_here honest s0 s1 (Ok x) p e = p
-counted_here honest s0 s1 (Err f) p e = left_here honest Nowhere Nowhere Nowhere 0 f s0 s1 p (subst (λ (x : RunFault). IsCaused Unstepped x s1 s1) (sym e) tt) (λ k. absurd k)
+counted_here honest s0 s1 (Err f) p e = left_here honest Nowhere Nowhere Nowhere 0 f s0 s1 p (subst (λ (x : RunFault). IsCaused Never x s1 s1) (sym e) tt) (λ k. absurd k)
 
 -- what is pending is what was read
 pub same_journal : (opened : Option Opened) (j k : Journal) → Some k ≡ journal_of opened → journal_of opened ≡ Some j → k ≡ j

@@ -7,7 +7,7 @@ use Rattle.sync_state.specs.declared.journal.Logged.{Logged}
 use Rattle.outside.specs.declared.fault.OutsideFault.{OutsideFault}
 use Rattle.outside.specs.declared.fault.OutsideFault.TheVariants as out
 use Rattle.outside.specs.BookCalls.{FromLog}
-use Rattle.outside.specs.Calls.{Call, FromBook, FromBox, IsLast, Seen, stops_told}
+use Rattle.outside.specs.Calls.{Call, FromBook, FromBox, FromOpening, FromShelf, IsLast, Seen, stops_told}
 use Rattle.outside.specs.Devices.{Device}
 use Rattle.outside.specs.GoingOn.{GoesOn}
 use Rattle.outside.proofs.GoingOn.{goes_after, stays}
@@ -15,7 +15,7 @@ use Rattle.outside.specs.Opened.{Opened}
 use Rattle.runner.specs.declared.fault.RunFault.{RunFault}
 use Rattle.runner.specs.declared.fault.RunFault.TheVariants as run
 use Rattle.runner.specs.Going.{number_at}
-use Rattle.runner.specs.Faults.{IsCaused, IsLost, IsRefusal, LeavesRun, Reasons, RefusedAt, call_fault, step_fault, stops_met}
+use Rattle.runner.specs.Faults.{IsCaused, IsLost, LeavesRun, Reasons, RefusedAt, call_fault, step_fault, stops_met}
 use Rattle.runner.specs.Parts.{InStep, Left, Never, NoLess, PartOr, Passed, TellsMore}
 
 -- ---- a bad line of the state or the journal
@@ -59,6 +59,17 @@ none_bad e t = record {
 pub line_of_box : {reasons : Reasons} (e : OutsideFault) → FromBox e → HasLine reasons e
 line_of_box e h = none_bad e (from_box e h)
 
+pub from_opening : (e : OutsideFault) → FromOpening e → TellsNoBook e
+from_opening out.Stopped h = tt
+from_opening out.Refused h = tt
+from_opening (out.Box side number) h = tt
+from_opening (out.BadState line) h = absurd h
+from_opening (out.BadJournal line) h = absurd h
+from_opening out.NoMemory h = tt
+
+pub line_of_opening : {reasons : Reasons} (e : OutsideFault) → FromOpening e → HasLine reasons e
+line_of_opening e h = none_bad e (from_opening e h)
+
 pub line_of_book : {reasons : Reasons} (e : OutsideFault) → FromBook e → HasLine reasons e
 line_of_book e h = none_bad e (from_book e h)
 
@@ -71,6 +82,17 @@ line_of_log opened logged e h = record {
 pub line_of_shelf : {reasons : Reasons} (e : OutsideFault) → reasons.unread e → HasLine reasons e
 line_of_shelf e u = record { state = λ line is. inr u; journal = λ line is. u }
 
+-- ---- which calls are never refused
+
+pub opening_unrefused : (e : OutsideFault) → FromOpening e → e ≡ out.Refused → ⊥
+opening_unrefused e h is = subst (λ (x : OutsideFault). FromOpening x) is h
+
+pub book_unrefused : (e : OutsideFault) → FromBook e → e ≡ out.Refused → ⊥
+book_unrefused e h is = subst (λ (x : OutsideFault). FromBook x) is h
+
+pub shelf_unrefused : (e : OutsideFault) → FromShelf e → e ≡ out.Refused → ⊥
+shelf_unrefused e h is = subst (λ (x : OutsideFault). FromShelf x) is h
+
 -- ---- what was told
 
 pub more_none : (s0 s1 : Seen) → s1.told ≡ s0.told → TellsMore s0 s1
@@ -82,16 +104,12 @@ more_after s0 s1 s2 p q = record { since = q.since ++ p.since; now = q.now ∙ a
 pub last_after : (e : OutsideFault) (s0 s1 s2 : Seen) → TellsMore s0 s1 → IsLast e s1 s2 → IsLast e s0 s2
 last_after e s0 s1 s2 p q = record { since = q.since ++ p.since; now = q.now ∙ ap (λ (l : List OutsideFault). e ∷ (q.since ++ l)) p.now ∙ ap (λ (l : List OutsideFault). e ∷ l) (sym (append_assoc q.since p.since s0.told)) }
 
-refusal_after : (side : Side) (number : ℕ) (s0 s1 s2 : Seen) → TellsMore s0 s1 → IsRefusal side number s1 s2 → IsRefusal side number s0 s2
-refusal_after side number s0 s1 s2 p k = record { far = k.far; no = k.no; last = last_after out.Refused s0 s1 s2 p k.last }
-
 -- what may be told after more was told
 pub caused_after : (reasons : Reasons) (f : RunFault) (s0 s1 s2 : Seen) → (f ≡ run.Stopped → (s1.is_broken ≡ true) ⊎ (s1.stops < s2.stops) → (s0.is_broken ≡ true) ⊎ (s0.stops < s2.stops)) → TellsMore s0 s1 → s0.appends ≤ s1.appends → IsCaused reasons f s1 s2 → IsCaused reasons f s0 s2
 caused_after reasons run.Stopped s0 s1 s2 stop p a h = stop refl h
 caused_after reasons (run.Refused step) s0 s1 s2 stop p a h = (h.0, last_after out.Refused s0 s1 s2 p h.1)
 caused_after reasons (run.StoreFault side code) s0 s1 s2 stop p a (inl h) = inl (last_after (out.Box side code) s0 s1 s2 p h)
-caused_after reasons (run.StoreFault side code) s0 s1 s2 stop p a (inr (inl h)) = inr (inl (record { far = h.far; protocol = h.protocol; copied = let k = h.copied in omega (arith, a, k) }))
-caused_after reasons (run.StoreFault side code) s0 s1 s2 stop p a (inr (inr h)) = inr (inr (h.0, refusal_after side code s0 s1 s2 p h.1))
+caused_after reasons (run.StoreFault side code) s0 s1 s2 stop p a (inr h) = inr (record { far = h.far; protocol = h.protocol; copied = let k = h.copied in omega (arith, a, k) })
 caused_after reasons (run.ValidityChanged side) s0 s1 s2 stop p a h = h
 caused_after reasons (run.BadState line) s0 s1 s2 stop p a (inl b) = inl b
 caused_after reasons (run.BadState line) s0 s1 s2 stop p a (inr (inl g)) = inr (inl g)
@@ -104,8 +122,7 @@ caused_after reasons run.KeywordsChanged s0 s1 s2 stop p a h = h
 pub leaves_after : (u : Device → Type 0) (f : RunFault) (s0 s1 s2 : Seen) → TellsMore s0 s1 → LeavesRun u f s1 s2 → LeavesRun u f s0 s2
 leaves_after u run.Stopped s0 s1 s2 p k = k
 leaves_after u (run.Refused step) s0 s1 s2 p k = (k.0, last_after out.Refused s0 s1 s2 p k.1)
-leaves_after u (run.StoreFault side code) s0 s1 s2 p (k, inl h) = (k, inl (last_after (out.Box side code) s0 s1 s2 p h))
-leaves_after u (run.StoreFault side code) s0 s1 s2 p (k, inr h) = (k, inr (refusal_after side code s0 s1 s2 p h))
+leaves_after u (run.StoreFault side code) s0 s1 s2 p (k, h) = (k, last_after (out.Box side code) s0 s1 s2 p h)
 leaves_after u (run.ValidityChanged side) s0 s1 s2 p k = k
 leaves_after u (run.BadState line) s0 s1 s2 p k = k
 leaves_after u (run.BadJournal line) s0 s1 s2 p k = k
@@ -130,12 +147,9 @@ caused_by reasons (out.BadState line) number s0 s1 stop h t r = inr (inr (h (λ 
 caused_by reasons (out.BadJournal line) number s0 s1 stop h t r = (h (λ e. cc), t.journal line refl)
 caused_by reasons out.NoMemory number s0 s1 stop h t r = tt
 
-refusal : (s0 s1 : Seen) → IsLast out.Refused s0 s1 → IsRefusal Far 2 s0 s1
-refusal s0 s1 h = record { far = refl; no = refl; last = h }
-
-called_by : (reasons : Reasons) (e : OutsideFault) (s0 s1 : Seen) → StopCount e s0 s1 → IsNoted e s0 s1 → HasLine reasons e → reasons.unstepped → IsCaused reasons (call_fault e) s0 s1
+called_by : (reasons : Reasons) (e : OutsideFault) (s0 s1 : Seen) → StopCount e s0 s1 → IsNoted e s0 s1 → HasLine reasons e → (e ≡ out.Refused → ⊥) → IsCaused reasons (call_fault e) s0 s1
 called_by reasons out.Stopped s0 s1 stop h t u = stop refl
-called_by reasons out.Refused s0 s1 stop h t u = inr (inr (u, refusal s0 s1 (h (λ e. cc))))
+called_by reasons out.Refused s0 s1 stop h t u = absurd (u refl)
 called_by reasons (out.Box side code) s0 s1 stop h t u = inl (h (λ e. cc))
 called_by reasons (out.BadState line) s0 s1 stop h t u = inr (inr (h (λ e. cc), t.state line refl))
 called_by reasons (out.BadJournal line) s0 s1 stop h t u = (h (λ e. cc), t.journal line refl)
@@ -177,18 +191,18 @@ no_stop reasons run.KeywordsChanged s whole h = refl
 pub after_step : (u : Device → Type 0) (e : OutsideFault) (number : ℕ) (s0 s1 : Seen) → IsNoted e s0 s1 → TellsNoBook e → u s1.device → LeavesRun u (step_fault e number) s0 s1
 after_step u out.Stopped number s0 s1 h t k = k
 after_step u out.Refused number s0 s1 h t k = (k, h (λ e. cc))
-after_step u (out.Box side code) number s0 s1 h t k = (k, inl (h (λ e. cc)))
+after_step u (out.Box side code) number s0 s1 h t k = (k, h (λ e. cc))
 after_step u (out.BadState line) number s0 s1 h t k = t
 after_step u (out.BadJournal line) number s0 s1 h t k = t
 after_step u out.NoMemory number s0 s1 h t k = k
 
-pub after_call : (u : Device → Type 0) (e : OutsideFault) (s0 s1 : Seen) → IsNoted e s0 s1 → TellsNoBook e → u s1.device → LeavesRun u (call_fault e) s0 s1
-after_call u out.Stopped s0 s1 h t k = k
-after_call u out.Refused s0 s1 h t k = (k, inr (refusal s0 s1 (h (λ e. cc))))
-after_call u (out.Box side code) s0 s1 h t k = (k, inl (h (λ e. cc)))
-after_call u (out.BadState line) s0 s1 h t k = t
-after_call u (out.BadJournal line) s0 s1 h t k = t
-after_call u out.NoMemory s0 s1 h t k = k
+pub after_call : (u : Device → Type 0) (e : OutsideFault) (s0 s1 : Seen) → IsNoted e s0 s1 → (e ≡ out.Refused → ⊥) → TellsNoBook e → u s1.device → LeavesRun u (call_fault e) s0 s1
+after_call u out.Stopped s0 s1 h n t k = k
+after_call u out.Refused s0 s1 h n t k = absurd (n refl)
+after_call u (out.Box side code) s0 s1 h n t k = (k, h (λ e. cc))
+after_call u (out.BadState line) s0 s1 h n t k = t
+after_call u (out.BadJournal line) s0 s1 h n t k = t
+after_call u out.NoMemory s0 s1 h n t k = k
 
 -- the same for a weaker condition
 pub leaves_map : (u v : Device → Type 0) (f : RunFault) (s0 s1 : Seen) → (u s1.device → v s1.device) → LeavesRun u f s0 s1 → LeavesRun v f s0 s1
@@ -277,16 +291,16 @@ module _ {T : Type 0} (honest : Type 0) (from : Device → Type 0) (others : Eff
       }
 
   -- that had one else
-  pub left_call : {reasons : Reasons} (underway : Device → Type 0) (e : OutsideFault) → reasons.unstepped → Call honest others copies tells does leaves s0 s1 (Err e) → (tells e → HasLine reasons e) → ((m : Device) → from s0.device → others s0.device m → leaves e m s1.device → tells e → TellsNoBook e × underway s1.device) → Left reasons honest from underway (call_fault e) s0 s1
-  left_call underway e unstepped c line f =
+  pub left_call : {reasons : Reasons} (underway : Device → Type 0) (e : OutsideFault) → (tells e → e ≡ out.Refused → ⊥) → Call honest others copies tells does leaves s0 s1 (Err e) → (tells e → HasLine reasons e) → ((m : Device) → from s0.device → others s0.device m → leaves e m s1.device → tells e → TellsNoBook e × underway s1.device) → Left reasons honest from underway (call_fault e) s0 s1
+  left_call underway e never c line f =
       let a = c.acts in
       let n = c.counts in
       record {
-        caused = called_by _ e s0 s1 a.counted (noted e c) (line n.told) unstepped;
+        caused = called_by _ e s0 s1 a.counted (noted e c) (line n.told) (never n.told);
         no_less = no_less e c;
         stops = λ whole. n.stopped whole ∙ ap (λ (k : ℕ). s0.stops + k) (sym (call_stops e));
         goes_on = c.goes_on;
-        left = λ h at. let k = a.left h in let r = f k.mid at k.before k.behind n.told in after_call underway e s0 s1 (noted e c) r.0 r.1;
+        left = λ h at. let k = a.left h in let r = f k.mid at k.before k.behind n.told in after_call underway e s0 s1 (noted e c) (never n.told) r.0 r.1;
       }
 
 -- on an outside that had failed before none goes, and it changes nothing
@@ -349,7 +363,7 @@ left_here {reasons} h a b underway m f s0 s1 p caused g = record {
 -- a copy that was made and not found
 pub left_lost : {reasons : Reasons} (h : Type 0) (a underway : Device → Type 0) (m : ℕ) (s0 s1 : Seen) → 0 < m → Passed h a (λ d. ⊥) m s0 s1 → (side : Side) (number : ℕ) → ((s0.appends < s1.appends) → IsLost side number s0 s1) → Left reasons h a underway (run.StoreFault side number) s0 s1
 left_lost h a underway m s0 s1 some p side number lost = record {
-  caused = inr (inl (lost (omega (arith, some, p.appends))));
+  caused = inr (lost (omega (arith, some, p.appends)));
   no_less = record { stops = omega (arith, p.stops); told = more_none s0 s1 p.told; appends = omega (arith, p.appends); reopened = p.reopened };
   stops = λ _. omega (arith, p.stops);
   goes_on = p.goes_on;
@@ -407,7 +421,6 @@ pub record AreReasons (c c' : Reasons) : Type 0 where
   pub greatest : c.greatest → c'.greatest
   pub unread : (e : OutsideFault) → c.unread e → c'.unread e
   pub refused : (step : ℕ) → c.refused step → c'.refused step
-  pub unstepped : c.unstepped → c'.unstepped
 
 pub caused_told : (c c' : Reasons) (f : RunFault) (s0 s1 : Seen) → AreReasons c c' → IsCaused c f s0 s1 → IsCaused c' f s0 s1
 caused_told c c' run.Stopped s0 s1 k h = h
@@ -418,9 +431,7 @@ caused_told c c' (run.BadState line) s0 s1 k (inr (inl (two, g))) = inr (inl (tw
 caused_told c c' (run.BadState line) s0 s1 k (inr (inr (l, inl z))) = inr (inr (l, inl z))
 caused_told c c' (run.BadState line) s0 s1 k (inr (inr (l, inr u))) = inr (inr (l, inr (k.unread (out.BadState line) u)))
 caused_told c c' (run.BadJournal line) s0 s1 k h = (h.0, k.unread (out.BadJournal line) h.1)
-caused_told c c' (run.StoreFault side code) s0 s1 k (inl h) = inl h
-caused_told c c' (run.StoreFault side code) s0 s1 k (inr (inl h)) = inr (inl h)
-caused_told c c' (run.StoreFault side code) s0 s1 k (inr (inr h)) = inr (inr (k.unstepped h.0, h.1))
+caused_told c c' (run.StoreFault side code) s0 s1 k h = h
 caused_told c c' run.MarksRepeat s0 s1 k h = k.repeats h
 caused_told c c' run.NoMemory s0 s1 k h = h
 caused_told c c' run.KeywordsChanged s0 s1 k h = k.keywords h

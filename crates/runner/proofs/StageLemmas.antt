@@ -21,7 +21,7 @@ use Rattle.runner.specs.Finding.{FindsBy, FindsSame, OfSame}
 use Rattle.runner.specs.Going.{plan_at}
 use Rattle.runner.specs.Maps.{HasMapIn}
 use Rattle.runner.specs.Naming.{NamesBy}
-use Rattle.runner.specs.Parts.{Left, Unstepped}
+use Rattle.runner.specs.Parts.{Left, Never}
 use Rattle.runner.specs.PassStages.{DrawnStage, Frame, LeavesSkipped, Stage, StageAnswer}
 use Rattle.runner.specs.Results.{HasResults, Report}
 use Rattle.runner.specs.Validities.{LeavesBoxes}
@@ -29,7 +29,7 @@ use Rattle.runner.proofs.Finding.{boxed_plan, finds_from}
 use Rattle.runner.proofs.Naming.{names_from}
 use Rattle.runner.proofs.Passes.{boxed_answers}
 use Rattle.runner.proofs.PartCalls.{AreReasons, part_told, part_weaker}
-use Rattle.runner.proofs.StepParts.{calls_told, refused_from, repeats_from}
+use Rattle.runner.proofs.StepParts.{steps_told, refused_from, repeats_from}
 
 -- ---- which answer it is
 
@@ -54,7 +54,7 @@ resumed_runs (Some o) options stream (Finished performed) plan m a = m
 
 -- for the same reasons
 pub are_same : (c : Reasons) → AreReasons c c
-are_same c = record { changed = λ side t. t; keywords = λ t. t; repeats = λ t. t; beyond = λ t. t; greatest = λ t. t; unread = λ e t. t; refused = λ step t. t; unstepped = λ u. u }
+are_same c = record { changed = λ side t. t; keywords = λ t. t; repeats = λ t. t; beyond = λ t. t; greatest = λ t. t; unread = λ e t. t; refused = λ step t. t }
 
 module _ {O : Type 0} (o : Ghosts O) where
   pub frame_then : (a b c : O) → Frame o a b → Frame o b c → Frame o a c
@@ -101,7 +101,6 @@ module _ {O : Type 0} (o : Ghosts O) where
               greatest = are.greatest;
               unread = are.unread;
               refused = refused_from (o.opened new) h (from s0.device) (start s0.device) s1.device (λ honest at. leads s0.device at);
-              unstepped = are.unstepped;
             }) stage.part);
           };
           runs = s.runs;
@@ -109,9 +108,9 @@ module _ {O : Type 0} (o : Ghosts O) where
         }
 
     -- a plan that is pending is resumed where one might have been made
-    pub drawn_resumed : (run : ℕ) (options : Options) (stream drawn : Stream) (reasons : Reasons) (from start reaches : Device → Type 0) (old new : O) (r : Result Pass RunFault) → reasons.unstepped → ((d : Device) → start d → from d) → IfOk r (RunsBy (o.opened old) options stream) → Moves stream drawn
-        → Stage o opening run Unstepped from reaches old new r → DrawnStage o opening run options stream drawn reasons start reaches old new r
-    drawn_resumed run options stream drawn reasons from start reaches old new r u leads runs moved stage =
+    pub drawn_resumed : (run : ℕ) (options : Options) (stream drawn : Stream) (reasons : Reasons) (from start reaches : Device → Type 0) (old new : O) (r : Result Pass RunFault) → ((d : Device) → start d → from d) → IfOk r (RunsBy (o.opened old) options stream) → Moves stream drawn
+        → Stage o opening run Never from reaches old new r → DrawnStage o opening run options stream drawn reasons start reaches old new r
+    drawn_resumed run options stream drawn reasons from start reaches old new r leads runs moved stage =
         let h = o.honest new in
         let s0 = o.seen old in
         let s1 = o.seen new in
@@ -120,7 +119,7 @@ module _ {O : Type 0} (o : Ghosts O) where
             frame = stage.frame;
             answer = answer_from run from start old new r (leads s0.device) stage.answer;
             part = part_weaker _ h from start (Underway opening) made_in (λ _. reaches) (λ _. reaches) s0 s1 r leads (λ x d k. k)
-                (part_told _ _ h from (Underway opening) made_in (λ _. reaches) s0 s1 r (calls_told _ _ (refused_from (o.opened new) h (from s0.device) (start s0.device) s1.device (λ honest at. leads s0.device at)) u) stage.part);
+                (part_told _ _ h from (Underway opening) made_in (λ _. reaches) s0 s1 r (steps_told _ _ (refused_from (o.opened new) h (from s0.device) (start s0.device) s1.device (λ honest at. leads s0.device at))) stage.part);
           };
           runs = runs;
           moved = moved;

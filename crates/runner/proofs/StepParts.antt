@@ -15,14 +15,14 @@ use Rattle.runner.specs.declared.fault.RunFault.{RunFault}
 use Rattle.runner.specs.Answers.{HasRepeats}
 use Rattle.runner.specs.Faults.{IsNextOf, Reasons, RefusedAt, TellsRefused, because, or_keywords, or_refused}
 use Rattle.runner.specs.Going.{HasUntorn, IsUntorn, number_at}
-use Rattle.runner.specs.Parts.{InStep, Left, Never, Part, PartOr, Passed, RunPart, StepPart, Unstepped}
+use Rattle.runner.specs.Parts.{InStep, Left, Never, Part, PartOr, Passed, RunPart, StepPart}
 use Rattle.runner.proofs.PartCalls.{AreReasons, left_after, left_told, part_after, part_told, part_weaker}
 
 -- ---- one step
 
 -- from a condition that leads to that of the part
 step_told : (number : ℕ) (opened : Option Opened) (h a b : Type 0) (d : Device) → (h → b → a) → AreReasons (InStep number opened h a d) (InStep number opened h b d)
-step_told number opened h a b d f = record { changed = λ side n. n; keywords = λ n. n; repeats = λ n. n; beyond = λ n. n; greatest = λ n. n; unread = λ e n. n; refused = λ step k. (k.0, λ honest at. k.1 honest (f honest at)); unstepped = λ n. n }
+step_told number opened h a b d f = record { changed = λ side n. n; keywords = λ n. n; repeats = λ n. n; beyond = λ n. n; greatest = λ n. n; unread = λ e n. n; refused = λ step k. (k.0, λ honest at. k.1 honest (f honest at)) }
 
 pub step_left_after : (number : ℕ) (opened : Option Opened) (h0 h1 : Type 0) (a b underway : Device → Type 0) (m : ℕ) (f : RunFault) (s0 s1 s2 : Seen) → (h1 → h0) → Passed h0 a b m s0 s1 → Left (InStep number opened h1 (b s1.device) s2.device) h1 b underway f s1 s2 → Left (InStep number opened h1 (a s0.device) s2.device) h1 a underway f s0 s2
 step_left_after number opened h0 h1 a b underway m f s0 s1 s2 honest p q =
@@ -49,7 +49,7 @@ next_of_plan (Some o) step u is = of_pending o.pending u is
     of_pending (Planned written) u is = record { journal = written.journal; pending = refl; next = is }
 
 pub next_told : (number : ℕ) (opened now : Option Opened) (h a d : _) → HasUntorn opened → number ≡ number_at opened → now ≡ opened → AreReasons (InStep number opened h a d) (or_refused (TellsRefused now h a d) Never)
-next_told number opened now h a d untorn is same = record { changed = λ side n. n; keywords = λ n. n; repeats = λ n. n; beyond = λ n. n; greatest = λ n. n; unread = λ e n. n; refused = λ step k. (subst (λ (o : Option Opened). IsNextOf o step) (sym same) (next_of_plan opened step untorn (k.0 ∙ is)), λ honest at. subst (λ (x : ℕ). RefusedAt x d) (sym (k.0 ∙ is)) (k.1 honest at)); unstepped = λ n. n }
+next_told number opened now h a d untorn is same = record { changed = λ side n. n; keywords = λ n. n; repeats = λ n. n; beyond = λ n. n; greatest = λ n. n; unread = λ e n. n; refused = λ step k. (subst (λ (o : Option Opened). IsNextOf o step) (sym same) (next_of_plan opened step untorn (k.0 ∙ is)), λ honest at. subst (λ (x : ℕ). RefusedAt x d) (sym (k.0 ∙ is)) (k.1 honest at)) }
 
 -- from a condition that leads to that of the part
 pub refused_from : (now : Option Opened) (h a b : Type 0) (d : Device) → (h → b → a) → (step : ℕ) → TellsRefused now h a d step → TellsRefused now h b d step
@@ -57,24 +57,20 @@ refused_from now h a b d f step t = (t.0, λ honest at. t.1 honest (f honest at)
 
 -- a part that performs no step, for its own reasons
 pub unrefused_told : (r : ℕ → Type 0) (c : Reasons) → ((step : ℕ) → c.refused step → ⊥) → AreReasons c (or_refused r c)
-unrefused_told r c n = record { changed = λ side k. k; keywords = λ n. n; repeats = λ k. k; beyond = λ k. k; greatest = λ n. n; unread = λ e k. k; refused = λ step t. absurd (n step t); unstepped = λ k. k }
+unrefused_told r c n = record { changed = λ side k. k; keywords = λ n. n; repeats = λ k. k; beyond = λ k. k; greatest = λ n. n; unread = λ e k. k; refused = λ step t. absurd (n step t) }
 
 -- one that performs steps alone
 pub steps_told : (r : ℕ → Type 0) (c : Reasons) → ((step : ℕ) → r step → c.refused step) → AreReasons (or_refused r Never) c
-steps_told r c f = record { changed = λ side n. absurd n; keywords = λ n. absurd n; repeats = λ n. absurd n; beyond = λ n. absurd n; greatest = λ n. absurd n; unread = λ e n. absurd n; refused = f; unstepped = λ n. absurd n }
+steps_told r c f = record { changed = λ side n. absurd n; keywords = λ n. absurd n; repeats = λ n. absurd n; beyond = λ n. absurd n; greatest = λ n. absurd n; unread = λ e n. absurd n; refused = f }
 
--- one that performs steps and other calls, and tells no fault of the run's own
-pub calls_told : (r : ℕ → Type 0) (c : Reasons) → ((step : ℕ) → r step → c.refused step) → c.unstepped → AreReasons (or_refused r Unstepped) c
-calls_told r c f u = record { changed = λ side n. absurd n; keywords = λ n. absurd n; repeats = λ n. absurd n; beyond = λ n. absurd n; greatest = λ n. absurd n; unread = λ e n. absurd n; refused = f; unstepped = λ _. u }
+never_told : (c : Reasons) → AreReasons Never c
+never_told c = record { changed = λ side n. absurd n; keywords = λ n. absurd n; repeats = λ n. absurd n; beyond = λ n. absurd n; greatest = λ n. absurd n; unread = λ e n. absurd n; refused = λ step n. absurd n }
 
-unstepped_told : (c : Reasons) → c.unstepped → AreReasons Unstepped c
-unstepped_told c u = record { changed = λ side n. absurd n; keywords = λ n. absurd n; repeats = λ n. absurd n; beyond = λ n. absurd n; greatest = λ n. absurd n; unread = λ e n. absurd n; refused = λ step n. absurd n; unstepped = λ _. u }
+pub left_never : {c : Reasons} (h : Type 0) (a underway : Device → Type 0) (f : RunFault) (s0 s1 : Seen) → Left Never h a underway f s0 s1 → Left c h a underway f s0 s1
+left_never {c} h a underway f s0 s1 l = left_told Never c h a underway f s0 s1 (never_told c) l
 
-pub left_unstepped : {c : Reasons} (h : Type 0) (a underway : Device → Type 0) (f : RunFault) (s0 s1 : Seen) → c.unstepped → Left Unstepped h a underway f s0 s1 → Left c h a underway f s0 s1
-left_unstepped {c} h a underway f s0 s1 u l = left_told Unstepped c h a underway f s0 s1 (unstepped_told c u) l
-
-pub part_unstepped : {T : Type 0} (c : Reasons) (h : Type 0) (a underway : Device → Type 0) (copies : T → ℕ) (reaches : T → Device → Type 0) (s0 s1 : Seen) (r : Result T RunFault) → c.unstepped → Part h a underway copies reaches s0 s1 r → PartOr c h a underway copies reaches s0 s1 r
-part_unstepped c h a underway copies reaches s0 s1 r u p = part_told Unstepped c h a underway copies reaches s0 s1 r (unstepped_told c u) p
+pub part_never : {T : Type 0} (c : Reasons) (h : Type 0) (a underway : Device → Type 0) (copies : T → ℕ) (reaches : T → Device → Type 0) (s0 s1 : Seen) (r : Result T RunFault) → Part h a underway copies reaches s0 s1 r → PartOr c h a underway copies reaches s0 s1 r
+part_never c h a underway copies reaches s0 s1 r p = part_told Never c h a underway copies reaches s0 s1 r (never_told c) p
 
 -- marks repeat also where another condition leads to this one
 pub repeats_from : {ours : List ℕ → Bool} {alone : Bool} (opening : Opening ours alone) (honest from start : Type 0) (options : Options) (stream : Stream) → (honest → start → from) → HasRepeats opening honest from options stream → HasRepeats opening honest start options stream
@@ -92,4 +88,4 @@ repeats_by {ours} {alone} x y honest from start options stream leads k = record 
 pub run_weaker : {T : Type 0} {ours : List ℕ → Bool} {alone : Bool} (now : Option Opened) (opening : Opening ours alone) (options : Options) (stream : Stream) (changed : Side → Type 0) (keywords : Type 0) (h : Type 0) (a a' underway : Device → Type 0) (copies : T → ℕ) (reaches reaches' : T → Device → Type 0) (s0 s1 : Seen) (r : Result T RunFault) → ((d : Device) → a' d → a d) → ((x : T) (d : Device) → reaches x d → reaches' x d)
     → RunPart (or_keywords keywords (because changed (HasRepeats opening h (a s0.device) options stream))) now h a underway copies reaches s0 s1 r → RunPart (or_keywords keywords (because changed (HasRepeats opening h (a' s0.device) options stream))) now h a' underway copies reaches' s0 s1 r
 run_weaker {ours} {alone} now opening options stream changed keywords h a a' underway copies reaches reaches' s0 s1 r f g p =
-    part_weaker _ h a a' underway copies reaches reaches' s0 s1 r f g (part_told _ _ h a underway copies reaches s0 s1 r (record { changed = λ side t. t; keywords = λ n. n; repeats = λ k. repeats_from opening h (a s0.device) (a' s0.device) options stream (λ honest at. f s0.device at) k; beyond = λ n. n; greatest = λ n. n; unread = λ e t. t; refused = refused_from now h (a s0.device) (a' s0.device) s1.device (λ honest at. f s0.device at); unstepped = λ u. u }) p)
+    part_weaker _ h a a' underway copies reaches reaches' s0 s1 r f g (part_told _ _ h a underway copies reaches s0 s1 r (record { changed = λ side t. t; keywords = λ n. n; repeats = λ k. repeats_from opening h (a s0.device) (a' s0.device) options stream (λ honest at. f s0.device at) k; beyond = λ n. n; greatest = λ n. n; unread = λ e t. t; refused = refused_from now h (a s0.device) (a' s0.device) s1.device (λ honest at. f s0.device at) }) p)

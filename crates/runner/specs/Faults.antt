@@ -18,7 +18,7 @@ use Rattle.outside.specs.Opened.{Opened, journal_of}
 use Rattle.runner.specs.declared.fault.RunFault.{RunFault}
 use Rattle.runner.specs.declared.fault.RunFault.TheVariants as run
 
--- how a fault of the outside is told while no step is performed: a refusal is a fault of the far box
+-- how a fault of the outside is reported while no step is performed: none is a refusal then
 abbrev pub call_fault : OutsideFault → RunFault
 call_fault out.Stopped = run.Stopped
 call_fault out.Refused = run.StoreFault Far 2
@@ -55,12 +55,6 @@ pub record IsLost (side : Side) (number : ℕ) (old new : Seen) : Type 0 where
   pub far : side ≡ Far
   pub protocol : number ≡ 3
   pub copied : old.appends < new.appends
-
--- a refusal that is told as fault 2 of the far box, since no step was performed
-pub record IsRefusal (side : Side) (number : ℕ) (old new : Seen) : Type 0 where
-  pub far : side ≡ Far
-  pub no : number ≡ 2
-  pub last : IsLast out.Refused old new
 
 -- the files hold a plan, of which the steps before this one are logged, and no other
 pub record RefusedAt (step : ℕ) (d : Device) : Type 0 where
@@ -126,15 +120,14 @@ pub record Reasons : Type 1 where
   pub greatest : Type 0
   pub unread : OutsideFault → Type 0
   pub refused : (step : ℕ) → Type 0
-  pub unstepped : Type 0
 
 -- while a step is performed: a refusal is one of it
 abbrev pub performing : (refused : (step : ℕ) → Type 0) → Reasons
-performing refused = record { changed = λ side. ⊥; keywords = ⊥; repeats = ⊥; beyond = ⊥; greatest = ⊥; unread = λ fault. ⊥; refused = refused; unstepped = ⊥ }
+performing refused = record { changed = λ side. ⊥; keywords = ⊥; repeats = ⊥; beyond = ⊥; greatest = ⊥; unread = λ fault. ⊥; refused = refused }
 
 -- while none is, once the shelf was read: no line of it is bad
 abbrev pub because : (changed : Side → Type 0) → (repeats : Type 0) → Reasons
-because changed repeats = record { changed = changed; keywords = ⊥; repeats = repeats; beyond = ⊥; greatest = ⊥; unread = λ fault. ⊥; refused = λ step. ⊥; unstepped = Unit {0} }
+because changed repeats = record { changed = changed; keywords = ⊥; repeats = repeats; beyond = ⊥; greatest = ⊥; unread = λ fault. ⊥; refused = λ step. ⊥ }
 
 -- where marks may repeat too
 abbrev pub or_repeats : (repeats : Type 0) → Reasons → Reasons
@@ -169,7 +162,7 @@ IsCaused reasons (run.Refused step) old new = reasons.refused step × IsLast out
 IsCaused reasons (run.ValidityChanged side) old new = reasons.changed side
 IsCaused reasons (run.BadState line) old new = ((line ≡ 0) × reasons.beyond) ⊎ (((line ≡ 2) × reasons.greatest) ⊎ (IsLast (out.BadState line) old new × ((line ≡ 0) ⊎ reasons.unread (out.BadState line))))
 IsCaused reasons (run.BadJournal line) old new = IsLast (out.BadJournal line) old new × reasons.unread (out.BadJournal line)
-IsCaused reasons (run.StoreFault side number) old new = IsLast (out.Box side number) old new ⊎ (IsLost side number old new ⊎ (reasons.unstepped × IsRefusal side number old new))
+IsCaused reasons (run.StoreFault side number) old new = IsLast (out.Box side number) old new ⊎ IsLost side number old new
 IsCaused reasons run.MarksRepeat old new = reasons.repeats
 IsCaused reasons run.NoMemory old new = Unit {0}
 IsCaused reasons run.KeywordsChanged old new = reasons.keywords
@@ -183,7 +176,7 @@ LeavesRun underway (run.Refused step) old new = underway new.device × IsLast ou
 LeavesRun underway (run.ValidityChanged side) old new = underway new.device
 LeavesRun underway (run.BadState line) old new = ⊥
 LeavesRun underway (run.BadJournal line) old new = ⊥
-LeavesRun underway (run.StoreFault side number) old new = underway new.device × (IsLast (out.Box side number) old new ⊎ IsRefusal side number old new)
+LeavesRun underway (run.StoreFault side number) old new = underway new.device × IsLast (out.Box side number) old new
 LeavesRun underway run.MarksRepeat old new = underway new.device
 LeavesRun underway run.NoMemory old new = underway new.device
 LeavesRun underway run.KeywordsChanged old new = underway new.device

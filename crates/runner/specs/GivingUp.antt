@@ -25,7 +25,7 @@ use Rattle.runner.specs.declared.fault.RunFault.{RunFault}
 use Rattle.runner.specs.Faults.{Reasons, TellsUnread, because, or_refused, or_unread}
 use Rattle.runner.specs.Finding.{FindsSame, copy_at}
 use Rattle.runner.specs.HalfEntries.{lost_at, lost_between, removes_some}
-use Rattle.runner.specs.Parts.{PartOr, Unstepped}
+use Rattle.runner.specs.Parts.{PartOr, Never}
 use Rattle.runner.specs.Validities.{TellsChanged}
 
 -- Both mailboxes are as they were, but for what others added: no call has named a message, and under a mark that nobody else writes the
@@ -172,7 +172,7 @@ Counted reasons honest old new result = PartOr reasons honest Nowhere Nowhere (�
 
 -- a refusal may be told of the step of this number
 abbrev pub InLook : (number : ℕ) → Reasons
-InLook number = or_refused (λ step. step ≡ number) Unstepped
+InLook number = or_refused (λ step. step ≡ number) Never
 
 -- a refusal may be told of the next step of the plan that the files held
 abbrev pub TellsNext : (honest : Type 0) → Device → (step : ℕ) → Type 0

@@ -51,13 +51,9 @@ PartOr reasons honest from underway copies reaches old new (Err fault) = Left re
 abbrev pub Never : Reasons
 Never = performing (λ step. ⊥)
 
--- none but a refusal
-abbrev pub Unstepped : Reasons
-Unstepped = because (λ side. ⊥) ⊥
-
--- a part that performs no step, and tells no fault of the run's own
+-- a part that performs no step, and reports no fault of the run's own
 abbrev pub Part : {T : Type 0} → (honest : Type 0) → (from underway : Device → Type 0) → (copies : T → ℕ) → (reaches : T → Device → Type 0) → Seen → Seen → Result T RunFault → Type 0
-Part honest from underway copies reaches old new result = PartOr Unstepped honest from underway copies reaches old new result
+Part honest from underway copies reaches old new result = PartOr Never honest from underway copies reaches old new result
 
 -- a refusal is told of the step of this number, and the files hold the plan of which it is the next step
 abbrev pub InStep : (number : ℕ) → Option Opened → (honest from : Type 0) → Device → Reasons

@@ -18,7 +18,7 @@ ghost use Rattle.runner.specs.Before.{HasPlan};
 ghost use Rattle.runner.specs.Faults.{TellsUnread, because, or_refused, or_unread};
 ghost use Rattle.runner.specs.GivingUp.{Counted, GivesUpRead, GivesUpSo, HoldsLeft, HoldsLeftOf, InLook, KeepsAll, KeepsBoxes, LeavesRead, NotesCopy, StillPending, giving_up_reasons};
 ghost use Rattle.runner.specs.Going.{AreOpen, CopiesUnder, FitsNext, IsGoing, next_at, number_at, plan_at};
-ghost use Rattle.runner.specs.Parts.{IsStuck, Unstepped};
+ghost use Rattle.runner.specs.Parts.{IsStuck, Never};
 ghost use Rattle.runner.specs.Validities.{BothSame, HasSame, IsKept, TellsChange, TellsOther};
 
 use crate::fault::{RunFault, call_fault, step_fault};
@@ -42,7 +42,7 @@ fn read_book<O: Outside>(outside: &mut O) -> Result<(), RunFault>
     ensures kept { O.honest outside.new → KeepsAll O.ours O.alone (O.seen outside.old).device (O.seen outside.new).device }
     ensures same { O.honest outside.new → IsKept O.alone (O.seen outside.old).device (O.seen outside.new).device }
     ensures stuck { IsStuck (O.seen outside.old) (O.seen outside.new) result }
-    ensures counted { Counted (or_unread (TellsUnread (O.honest outside.new) (O.seen outside.new).device) Unstepped) (O.honest outside.new)
+    ensures counted { Counted (or_unread (TellsUnread (O.honest outside.new) (O.seen outside.new).device) Never) (O.honest outside.new)
         (O.seen outside.old) (O.seen outside.new) result }
 {
     match outside.open_book() {
@@ -90,7 +90,7 @@ fn mend_plan<O: Outside>(outside: &mut O) -> Result<(), RunFault>
     ensures left { OnErr result (O.honest outside.new → IsHeld (O.opened outside.old) (O.seen outside.old).device
         → StillPending (O.opened outside.old) (O.seen outside.new).device) }
     ensures boxes { O.honest outside.new → KeepsBoxes O.ours O.alone (O.seen outside.old).device (O.seen outside.new).device }
-    ensures counted { Counted Unstepped (O.honest outside.new) (O.seen outside.old) (O.seen outside.new) result }
+    ensures counted { Counted Never (O.honest outside.new) (O.seen outside.old) (O.seen outside.new) result }
 {
     match outside.mend() {
         Ok(()) => Ok(()),
@@ -238,7 +238,7 @@ fn leave<O: Outside>(outside: &mut O, lost: &LostSides) -> Result<(), RunFault>
         → StillPending (O.opened outside.old) (O.seen outside.new).device ⊎ ((pending : Pending) × IsIdle pending
         × HoldsLeftOf lost.now (O.opened outside.old) pending (O.seen outside.new).device)) }
     ensures boxes { O.honest outside.new → KeepsBoxes O.ours O.alone (O.seen outside.old).device (O.seen outside.new).device }
-    ensures counted { Counted Unstepped (O.honest outside.new) (O.seen outside.old) (O.seen outside.new) result }
+    ensures counted { Counted Never (O.honest outside.new) (O.seen outside.old) (O.seen outside.new) result }
 {
     match outside.give_up(lost) {
         Ok(()) => Ok(()),
@@ -259,7 +259,7 @@ fn look_and_leave<O: Outside>(alloc: Global, outside: &mut O) -> Result<(), RunF
         → StillPending (O.opened outside.old) (O.seen outside.new).device ⊎ ((pending : Pending) × IsIdle pending
         × HoldsLeft O.ours O.alone (O.opened outside.old) pending (O.seen outside.old).device (O.seen outside.new).device)) }
     ensures boxes { O.honest outside.new → KeepsBoxes O.ours O.alone (O.seen outside.old).device (O.seen outside.new).device }
-    ensures counted { Counted Unstepped (O.honest outside.new) (O.seen outside.old) (O.seen outside.new) result }
+    ensures counted { Counted Never (O.honest outside.new) (O.seen outside.old) (O.seen outside.new) result }
 {
     let lost = lost_sides(alloc, outside)?;
     leave(outside, &lost)

@@ -11,7 +11,7 @@ ghost use Rattle.runner.specs.Before.{HasPlan};
 ghost use Rattle.runner.specs.GivingUp.{Counted, KeepsAll, LosesBy, LosesListed, RemovesSome};
 ghost use Rattle.runner.specs.Going.{AreOpen};
 ghost use Rattle.runner.specs.HalfEntries.{expunged_on, far_items, gone_on, is_expunge, is_gone, lacks_mark, logged, loses, lost_among, lost_between, near_items, removed_on, removes_some, tried};
-ghost use Rattle.runner.specs.Parts.{Unstepped};
+ghost use Rattle.runner.specs.Parts.{Never};
 
 use crate::fault::{RunFault, call_fault};
 use book::lost_sides::LostSides;
@@ -227,7 +227,7 @@ fn list_far<O: Outside>(outside: &mut O) -> Result<Listing, RunFault>
     ensures opened { O.opened outside.new ≡ O.opened outside.old }
     ensures shows { IfOk result (λ far. O.honest outside.new → far.items ≡ far_items (O.seen outside.new).device) }
     ensures kept { O.honest outside.new → KeepsAll O.ours O.alone (O.seen outside.old).device (O.seen outside.new).device }
-    ensures counted { Counted Unstepped (O.honest outside.new) (O.seen outside.old) (O.seen outside.new) result }
+    ensures counted { Counted Never (O.honest outside.new) (O.seen outside.old) (O.seen outside.new) result }
 {
     match outside.list_far() {
         Ok(far) => Ok(far),
@@ -244,7 +244,7 @@ fn list_near<O: Outside>(alloc: Global, outside: &mut O) -> Result<Listing, RunF
     ensures shows { IfOk result (λ near. O.honest outside.new → (uid : ℕ) → flags_at near.items uid
         ≡ flags_at (near_items (O.seen outside.new).device) uid) }
     ensures kept { O.honest outside.new → KeepsAll O.ours O.alone (O.seen outside.old).device (O.seen outside.new).device }
-    ensures counted { Counted Unstepped (O.honest outside.new) (O.seen outside.old) (O.seen outside.new) result }
+    ensures counted { Counted Never (O.honest outside.new) (O.seen outside.old) (O.seen outside.new) result }
 {
     let all = Spared::of(u32::MAX, Vec::new(alloc));
     match outside.list_near(&all) {
@@ -312,7 +312,7 @@ fn look_for_lost<O: Outside>(alloc: Global, outside: &mut O) -> Result<LostSides
         lost) }
     ensures rising { IfOk result AreRising }
     ensures kept { O.honest outside.new → KeepsAll O.ours O.alone (O.seen outside.old).device (O.seen outside.new).device }
-    ensures counted { Counted Unstepped (O.honest outside.new) (O.seen outside.old) (O.seen outside.new) result }
+    ensures counted { Counted Never (O.honest outside.new) (O.seen outside.old) (O.seen outside.new) result }
 {
     let far = list_far(outside)?;
     let near = list_near(alloc, outside)?;
@@ -331,7 +331,7 @@ pub(crate) fn lost_sides<O: Outside>(alloc: Global, outside: &mut O) -> Result<L
         lost) }
     ensures rising { IfOk result AreRising }
     ensures kept { O.honest outside.new → KeepsAll O.ours O.alone (O.seen outside.old).device (O.seen outside.new).device }
-    ensures counted { Counted Unstepped (O.honest outside.new) (O.seen outside.old) (O.seen outside.new) result }
+    ensures counted { Counted Never (O.honest outside.new) (O.seen outside.old) (O.seen outside.new) result }
 {
     if has_removed_some(outside) {
         look_for_lost(alloc, outside)

@@ -10,7 +10,7 @@ ghost use Rattle.outside.specs.Opened.{IsBook, IsHeld, IsOpen, IsRead, TakesPlan
 ghost use Rattle.run_states.specs.Conditions.{Underway};
 ghost use Rattle.run_states.specs.Openings.{Opening};
 ghost use Rattle.runner.specs.Faults.{TellsUnread, because, or_unread};
-ghost use Rattle.runner.specs.Parts.{IsStuck, Part, PartOr, Unstepped};
+ghost use Rattle.runner.specs.Parts.{IsStuck, Part, PartOr, Never};
 ghost use Rattle.runner.specs.Validities.{BothSame, HasSame, HaveValidities, IsCompared, IsKept, KeepsValidities, LeavesBoxes, TellsChange, TellsOther, recorded_in};
 ghost use Rattle.runner.specs.Going.{AreOpen, BeforeStep};
 ghost use Rattle.runner.specs.Finding.{FindsSame};
@@ -35,7 +35,7 @@ pub(crate) fn recall<O: Outside>(outside: &mut O) -> Result<(), RunFault>
     ensures kept { O.honest outside.new → IsKept O.alone (O.seen outside.old).device (O.seen outside.new).device }
     ensures stuck { IsStuck (O.seen outside.old) (O.seen outside.new) result }
     ensures same { OnOk result (O.honest outside.new → FindsSame O.ours (O.seen outside.old).device (O.seen outside.new).device) }
-    ensures part { PartOr (or_unread (TellsUnread (O.honest outside.new) (O.seen outside.new).device) Unstepped) (O.honest outside.new)
+    ensures part { PartOr (or_unread (TellsUnread (O.honest outside.new) (O.seen outside.new).device) Never) (O.honest outside.new)
         (Underway opening) (Underway opening)
         (λ _. 0) (λ _. ReadUnderway opening (O.opened outside.new)) (O.seen outside.old) (O.seen outside.new) result }
 {

@@ -6,7 +6,7 @@ ghost use Rattle.run_states.specs.Conditions.{Underway};
 ghost use Rattle.run_states.specs.Openings.{Opening};
 ghost use Rattle.runner.specs.Maps.{HasMapIn};
 ghost use Rattle.runner.specs.Faults.{or_repeats};
-ghost use Rattle.runner.specs.Parts.{IsStuck, Part, PartOr, RunPart, Unstepped};
+ghost use Rattle.runner.specs.Parts.{IsStuck, Part, PartOr, RunPart, Never};
 ghost use Rattle.runner.specs.Validities.{IsKept};
 ghost use Rattle.runner.specs.Going.{AreOpen, BeforeStep, IsGoing, next_at};
 ghost use Rattle.runner.specs.Before.{HasPlan, ReadUnderway, Resumed};
@@ -104,7 +104,7 @@ fn resume<O: Outside, P: Progress>(
     requires plan { HasPlan (O.opened outside.old) }
     requires boxes { AreOpen (O.opened outside.old) }
     requires map { opening.options.keywords ≡ O.keywords outside.old }
-    ensures stage { Stage O.Outside opening (run_of (O.opened outside.old) + 1) Unstepped (Resumed opening (O.opened outside.old))
+    ensures stage { Stage O.Outside opening (run_of (O.opened outside.old) + 1) Never (Resumed opening (O.opened outside.old))
         (RunEnd opening) outside.old outside.new result }
 {
     untear(outside)?;

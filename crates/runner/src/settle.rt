@@ -7,7 +7,7 @@ ghost use Rattle.runner.specs.AttemptStages.{Attempt};
 ghost use Rattle.runner.specs.Attempts.{AtOpening, FromOpening, HasNoNext, HasReached, IsReached, AttemptAt, found_by};
 ghost use Rattle.runner.specs.Faults.{TellsLastRun, TellsUnread, or_greatest, or_unread};
 ghost use Rattle.runner.specs.Finding.{FindsSame};
-ghost use Rattle.runner.specs.Parts.{IsStuck, PartOr, Unstepped};
+ghost use Rattle.runner.specs.Parts.{IsStuck, PartOr, Never};
 ghost use Rattle.runner.specs.Results.{HasResults};
 ghost use Rattle.runner.specs.Settled.{CountsAttempts, HasReason, IsSettled, IsUnsettled};
 ghost use Rattle.runner.specs.Validities.{IsKept};
@@ -32,7 +32,7 @@ fn next_run<O: Outside>(outside: &mut O) -> Result<u64, RunFault>
     ensures same { OnOk result (O.honest outside.new → FindsSame O.ours (O.seen outside.old).device (O.seen outside.new).device) }
     ensures stuck { IsStuck (O.seen outside.old) (O.seen outside.new) result }
     ensures part { PartOr (or_unread (TellsUnread (O.honest outside.new) (O.seen outside.new).device)
-        (or_greatest (TellsLastRun (O.opened outside.new) (O.honest outside.new) (O.seen outside.new).device) Unstepped))
+        (or_greatest (TellsLastRun (O.opened outside.new) (O.honest outside.new) (O.seen outside.new).device) Never))
         (O.honest outside.new) (AtOpening opening) (AtOpening opening)
         (λ _. 0) (λ number d. (number ≡ opening.world.state.run + 1) × AtOpening opening d) (O.seen outside.old)
         (O.seen outside.new) result }
@@ -64,7 +64,7 @@ fn fix_run<O: Outside>(outside: &mut O, run: &mut Option<u64>) -> Result<u64, Ru
     ensures same { OnOk result (O.honest outside.new → FindsSame O.ours (O.seen outside.old).device (O.seen outside.new).device) }
     ensures stuck { IsStuck (O.seen outside.old) (O.seen outside.new) result }
     ensures part { PartOr (or_unread (TellsUnread (O.honest outside.new) (O.seen outside.new).device)
-        (or_greatest (TellsLastRun (O.opened outside.new) (O.honest outside.new) (O.seen outside.new).device) Unstepped))
+        (or_greatest (TellsLastRun (O.opened outside.new) (O.honest outside.new) (O.seen outside.new).device) Never))
         (O.honest outside.new) (AttemptAt opening run.old) (AttemptAt opening run.new)
         (λ _. 0) (λ _. AttemptAt opening run.new) (O.seen outside.old) (O.seen outside.new) result }
 {

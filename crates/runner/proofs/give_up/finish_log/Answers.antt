@@ -3,7 +3,7 @@ use Rattle.std.proofs.lemmas.Result.{err_from_is_err_and}
 use Rattle.runner.proofs.KeptBoxes.{boxes_next}
 use Rattle.runner.proofs.GivingUp.{err_then, leaves_noted, ok_then, untorn_plan}
 use Rattle.runner.proofs.PartCalls.{part_after}
-use Rattle.runner.proofs.StepParts.{part_unstepped}
+use Rattle.runner.proofs.StepParts.{part_never}
 use Rattle.runner.proofs.give_up.finish_log.Goals as goal
 
 pub look_and_leave-requires : goal.look_and_leave-requires
@@ -38,4 +38,4 @@ returns-clause-boxes g c = λ honest.
 pub returns-clause-counted : goal.returns-clause-counted
 returns-clause-counted g c =
     let s1 = g.O.Outside.seen c.note_copy.new.outside in
-    part_after _ _ _ _ _ _ _ _ _ s1 _ _ c.look_and_leave.ensures.was_honest c.in_ok-note_copy.ensures.counted (part_unstepped _ _ _ _ _ _ _ _ _ tt c.look_and_leave.ensures.counted)
+    part_after _ _ _ _ _ _ _ _ _ s1 _ _ c.look_and_leave.ensures.was_honest c.in_ok-note_copy.ensures.counted (part_never _ _ _ _ _ _ _ _ _ c.look_and_leave.ensures.counted)

@@ -2,7 +2,7 @@ use Rattle.std.proofs.lemmas.Result.{err_from_is_err_and}
 use Rattle.runner.proofs.KeptBoxes.{held_same}
 use Rattle.runner.proofs.GivingUp.{err_holds, still_here}
 use Rattle.runner.proofs.PartCalls.{part_after}
-use Rattle.runner.proofs.StepParts.{part_unstepped}
+use Rattle.runner.proofs.StepParts.{part_never}
 use Rattle.runner.proofs.give_up.get_ready.Goals as goal
 
 pub returns-in_err-open_both-clause-left : goal.returns-in_err-open_both-clause-left
@@ -19,4 +19,4 @@ returns-in_err-open_both-clause-counted g c =
 pub returns-clause-counted : goal.returns-clause-counted
 returns-clause-counted g c =
     let s1 = g.O.Outside.seen c.open_both.new.outside in
-    part_after _ _ _ _ _ _ _ _ _ s1 _ _ c.mend_plan.ensures.was_honest c.in_ok-open_both.ensures.counted (part_unstepped _ _ _ _ _ _ _ _ _ tt c.mend_plan.ensures.counted)
+    part_after _ _ _ _ _ _ _ _ _ s1 _ _ c.mend_plan.ensures.was_honest c.in_ok-open_both.ensures.counted (part_never _ _ _ _ _ _ _ _ _ c.mend_plan.ensures.counted)

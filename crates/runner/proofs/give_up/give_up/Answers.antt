@@ -60,7 +60,7 @@ returns-else-is_some-clause-answer g c = λ honest s p h.
 pub returns-in_err-read_book-clause-counted : goal.returns-in_err-read_book-clause-counted
 returns-in_err-read_book-clause-counted g c =
     let e = err_from_is_err_and c.from_residual.result c.from_residual.ensures.1 in
-    rw (e.1, e.2) (left_told _ _ _ _ _ _ _ _ (record { changed = λ side n. absurd n; keywords = λ n. n; repeats = λ n. n; beyond = λ n. n; greatest = λ n. n; unread = λ e t. t; refused = λ step n. absurd n; unstepped = λ u. u }) c.in_err-read_book.ensures.counted)
+    rw (e.1, e.2) (left_told _ _ _ _ _ _ _ _ (record { changed = λ side n. absurd n; keywords = λ n. n; repeats = λ n. n; beyond = λ n. n; greatest = λ n. n; unread = λ e t. t; refused = λ step n. absurd n }) c.in_err-read_book.ensures.counted)
 
 pub returns-then-is_some-clause-counted : goal.returns-then-is_some-clause-counted
 returns-then-is_some-clause-counted g c =
@@ -78,7 +78,6 @@ returns-then-is_some-clause-counted g c =
       greatest = λ n. n;
       unread = λ e n. absurd n;
       refused = λ step is honest s w h. number_held opened s w s0.device s1.device step (c.in_ok-read_book.ensures.held (before honest)) (let kept = c.read_book.ensures.kept (before honest) in kept.1) h is;
-      unstepped = λ u. u;
     }) c.leave_plan.ensures.counted)
 
 pub returns-in_err-read_book-clause-stuck : goal.returns-in_err-read_book-clause-stuck

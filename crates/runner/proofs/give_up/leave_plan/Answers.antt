@@ -4,7 +4,7 @@ use Rattle.runner.proofs.KeptBoxes.{boxes_next}
 use Rattle.runner.proofs.GivingUp.{ready_going}
 use Rattle.runner.proofs.GivenUpRead.{read_done, read_left, read_pending, ready_number}
 use Rattle.runner.proofs.PartCalls.{left_after, left_told, passed_after}
-use Rattle.runner.proofs.StepParts.{calls_told, unrefused_told}
+use Rattle.runner.proofs.StepParts.{steps_told, unrefused_told}
 use Rattle.runner.proofs.give_up.leave_plan.Goals as goal
 
 pub finish_log-requires : goal.finish_log-requires
@@ -61,4 +61,4 @@ returns-in-Err-clause-counted g c =
     let s1 = g.O.Outside.seen c.get_ready.new.outside in
     let number = ready_number (g.O.Outside.opened c.args.outside.now) in
     left_after _ _ _ _ _ _ _ _ s1 _ c.finish_log.ensures.was_honest c.in_ok-get_ready.ensures.counted
-    (left_told _ _ _ _ _ _ _ _ (calls_told _ _ (λ step k. k ∙ number) tt) (rw c.in_ok-get_ready.ensures.opened at c.in-Err.ensures.counted))
+    (left_told _ _ _ _ _ _ _ _ (steps_told _ _ (λ step k. k ∙ number)) (rw c.in_ok-get_ready.ensures.opened at c.in-Err.ensures.counted))

@@ -2,7 +2,7 @@ use Rattle.book.specs.Books.{mended}
 use Rattle.runner.proofs.KeptBoxes.{boxes_booked, boxes_left, did, held_arrives}
 use Rattle.runner.proofs.GivingUp.{mended_on, still_by, turned_held}
 use Rattle.runner.proofs.GivingUp as giving
-use Rattle.runner.proofs.PartCalls.{left_call, line_of_book, passed_call}
+use Rattle.runner.proofs.PartCalls.{book_unrefused, left_call, line_of_book, passed_call}
 use Rattle.runner.proofs.Readings.{plan_read}
 use Rattle.runner.proofs.give_up.mend_plan.Goals as goal
 
@@ -26,4 +26,4 @@ pub returns-in-Ok-clause-counted : goal.returns-in-Ok-clause-counted
 returns-in-Ok-clause-counted g c = passed_call _ _ _ _ _ _ _ _ _ _ _ c.in-Ok.ensures.call (λ m at a own. at)
 
 pub returns-in-Err-clause-counted : goal.returns-in-Err-clause-counted
-returns-in-Err-clause-counted g c = rw c.call_fault.ensures (left_call _ _ _ _ _ _ _ _ _ _ _ tt c.in-Err.ensures.call (line_of_book _) (λ m at a own told. absurd at))
+returns-in-Err-clause-counted g c = rw c.call_fault.ensures (left_call _ _ _ _ _ _ _ _ _ _ _ (book_unrefused _) c.in-Err.ensures.call (line_of_book _) (λ m at a own told. absurd at))

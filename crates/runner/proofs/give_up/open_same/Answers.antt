@@ -1,7 +1,7 @@
 use Rattle.std.proofs.Common.{◌∙◌, refl, sym}
 use Rattle.runner.specs.GivingUp.{Nowhere}
 use Rattle.runner.proofs.KeptBoxes.{all_read}
-use Rattle.runner.proofs.PartCalls.{left_call, left_here, line_of_box, passed_call}
+use Rattle.runner.proofs.PartCalls.{left_call, left_here, line_of_opening, opening_unrefused, passed_call}
 use Rattle.runner.proofs.Readings.{plan_read}
 use Rattle.runner.proofs.Validities.{any_read, other_read, same_read}
 use Rattle.runner.proofs.give_up.open_same.Goals as goal
@@ -43,4 +43,4 @@ returns-else-before-validity-clause-counted g c =
     (λ k. absurd k)
 
 pub returns-in-Err-clause-counted : goal.returns-in-Err-clause-counted
-returns-in-Err-clause-counted g c = rw c.call_fault.ensures (left_call _ _ _ _ _ _ _ _ _ _ _ tt c.in-Err.ensures.call (line_of_box _) (λ m at a own told. absurd at))
+returns-in-Err-clause-counted g c = rw c.call_fault.ensures (left_call _ _ _ _ _ _ _ _ _ _ _ (opening_unrefused _) c.in-Err.ensures.call (line_of_opening _) (λ m at a own told. absurd at))

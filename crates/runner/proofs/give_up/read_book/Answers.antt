@@ -1,5 +1,5 @@
 use Rattle.std.proofs.Common.{ap}
-use Rattle.runner.proofs.PartCalls.{left_call, line_of_shelf, passed_call, stuck_call, whole_call}
+use Rattle.runner.proofs.PartCalls.{left_call, line_of_shelf, passed_call, shelf_unrefused, stuck_call, whole_call}
 use Rattle.runner.proofs.Readings.{unread_files}
 use Rattle.runner.proofs.Validities.{kept_read}
 use Rattle.outside.specs.Devices.{Device}
@@ -33,6 +33,6 @@ returns-in-Ok-clause-counted g c = passed_call _ _ _ _ _ _ _ _ _ _ _ c.in-Ok.ens
 pub returns-in-Err-clause-counted : goal.returns-in-Err-clause-counted
 returns-in-Err-clause-counted g c =
     let s1 = g.O.Outside.seen c.open_book.new.self in
-    rw c.call_fault.ensures (left_call _ _ _ _ _ _ _ _ _ _ _ tt c.in-Err.ensures.call
+    rw c.call_fault.ensures (left_call _ _ _ _ _ _ _ _ _ _ _ (shelf_unrefused _) c.in-Err.ensures.call
     (λ told. line_of_shelf _ (λ honest. let w = c.in-Err.ensures.call in let acts = w.acts in let l = acts.left honest in unread_files c.in-Err.fault l.mid s1.device l.behind.0 l.behind.1))
     (λ m at a own told. absurd at))

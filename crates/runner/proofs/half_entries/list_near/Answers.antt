@@ -4,7 +4,7 @@ use Rattle.mailcore.specs.declared.side.Side.TheVariants.{Near}
 use Rattle.rules.specs.Scene.{flags_at}
 use Rattle.runner.proofs.Fitness.{flags_sparing}
 use Rattle.runner.proofs.KeptBoxes.{all_read}
-use Rattle.runner.proofs.PartCalls.{left_call, line_of_box, passed_call}
+use Rattle.runner.proofs.PartCalls.{left_call, line_of_opening, opening_unrefused, passed_call}
 use Rattle.runner.proofs.half_entries.list_near.Goals as goal
 
 pub list_near-requires : goal.list_near-requires
@@ -24,4 +24,4 @@ pub returns-in-Ok-clause-counted : goal.returns-in-Ok-clause-counted
 returns-in-Ok-clause-counted g c = passed_call _ _ _ _ _ _ _ _ _ _ _ c.in-Ok.ensures.call (λ m at a own. at)
 
 pub returns-clause-counted : goal.returns-clause-counted
-returns-clause-counted g c = rw c.call_fault.ensures (left_call _ _ _ _ _ _ _ _ _ _ _ tt c.in-Err.ensures.call (line_of_box _) (λ m at a own told. absurd at))
+returns-clause-counted g c = rw c.call_fault.ensures (left_call _ _ _ _ _ _ _ _ _ _ _ (opening_unrefused _) c.in-Err.ensures.call (line_of_opening _) (λ m at a own told. absurd at))

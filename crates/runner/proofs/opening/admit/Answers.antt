@@ -1,6 +1,6 @@
 use Rattle.std.proofs.Common.{true, false}
 use Rattle.run_states.specs.Conditions.{Underway}
-use Rattle.runner.proofs.PartCalls.{from_box, left_call, line_of_box, passed_call}
+use Rattle.runner.proofs.PartCalls.{from_opening, left_call, line_of_opening, opening_unrefused, passed_call}
 use Rattle.runner.proofs.Begun.{admitted_all, admitted_part, clear_arrives, clear_underway}
 use Rattle.runner.proofs.Stages.{left_by}
 use Rattle.runner.proofs.Validities.{admitted_validities}
@@ -15,8 +15,8 @@ pub returns-in-Err-clause-part : goal.returns-in-Err-clause-part
 returns-in-Err-clause-part g c =
     let opened = g.O.Outside.opened c.args.outside.now in
     let s1 = g.O.Outside.seen c.admit.new.self in
-    rw c.call_fault.ensures (left_call _ _ _ _ _ _ _ _ _ _ _ tt c.in-Err.ensures.call (line_of_box _) (λ m at a own told. (
-      from_box c.in-Err.fault told,
+    rw c.call_fault.ensures (left_call _ _ _ _ _ _ _ _ _ _ _ (opening_unrefused _) c.in-Err.ensures.call (line_of_opening _) (λ m at a own told. (
+      from_opening c.in-Err.fault told,
       left_by (Underway g.opening) _ _ c.in-Err.fault m s1.device own
           (clear_underway g.opening opened false m (clear_arrives g.opening opened false _ m a at))
           (λ k. clear_underway g.opening opened false s1.device (admitted_part g.opening opened _ m s1.device a at k))

@@ -5,7 +5,7 @@ use Rattle.run_states.proofs.Arrived.{underway_arrives}
 use Rattle.outside.specs.Devices.{Device}
 use Rattle.outside.specs.Opened.{Opened}
 use Rattle.runner.specs.Before.{HasNoPlan, HasPlan, IsEmptied}
-use Rattle.runner.proofs.PartCalls.{from_book, left_call, line_of_book, passed_call, passed_none}
+use Rattle.runner.proofs.PartCalls.{book_unrefused, from_book, left_call, line_of_book, passed_call, passed_none}
 use Rattle.runner.proofs.Readings.{forgot, forgot_held, half_forgot, has_none, has_plan, never_both, none_of, none_taken, some_of, stores_kept}
 use Rattle.runner.proofs.Stages.{left_by}
 use Rattle.runner.proofs.Validities.{missing_here}
@@ -36,7 +36,7 @@ returns-in-Err-clause-part g c =
     let opened = g.O.Outside.opened c.args.outside.now in
     let i : is_some c.pending.result ≡ false = grind (arith, common_steps) in
     let none : HasNoPlan opened = has_none opened c.requires.1.0 (none_of _ c.pending.result _ c.pending.ensures i) in
-    rw c.call_fault.ensures (left_call _ _ _ _ _ _ _ _ _ _ _ tt c.in-Err.ensures.call (line_of_book _) (λ m at a own told. (
+    rw c.call_fault.ensures (left_call _ _ _ _ _ _ _ _ _ _ _ (book_unrefused _) c.in-Err.ensures.call (line_of_book _) (λ m at a own told. (
       from_book c.in-Err.fault told,
       left_by (Underway g.opening) _ _ c.in-Err.fault m s1.device own
           (underway_arrives g.opening _ m a at.underway)

@@ -2,7 +2,7 @@ use Rattle.std.proofs.Common.{true, List, sym, subst}
 use Rattle.mailcore.specs.declared.keywords.Keyword.{Keyword}
 use Rattle.mailbox.specs.Operations.{ListsWithin}
 use Rattle.mailcore.specs.declared.side.Side.TheVariants.{Far}
-use Rattle.runner.proofs.PartCalls.{from_box, left_call, line_of_box, passed_told}
+use Rattle.runner.proofs.PartCalls.{from_opening, left_call, line_of_opening, opening_unrefused, passed_told}
 use Rattle.runner.proofs.Begun.{clear_arrives, clear_underway, far_listed}
 use Rattle.runner.proofs.Validities.{read_validities}
 use Rattle.runner.proofs.opening.list_far.Goals as goal
@@ -18,7 +18,7 @@ returns-in-Ok-clause-part g c =
 pub returns-in-Err-clause-part : goal.returns-in-Err-clause-part
 returns-in-Err-clause-part g c =
     let opened = g.O.Outside.opened c.args.outside.now in
-    rw c.call_fault.ensures (left_call _ _ _ _ _ _ _ _ _ _ _ tt c.in-Err.ensures.call (line_of_box _) (λ m at a own told. (from_box c.in-Err.fault told, rw own (clear_underway g.opening opened true m (clear_arrives g.opening opened true _ m a at)))))
+    rw c.call_fault.ensures (left_call _ _ _ _ _ _ _ _ _ _ _ (opening_unrefused _) c.in-Err.ensures.call (line_of_opening _) (λ m at a own told. (from_opening c.in-Err.fault told, rw own (clear_underway g.opening opened true m (clear_arrives g.opening opened true _ m a at)))))
 
 pub returns-in-Ok-clause-validities : goal.returns-in-Ok-clause-validities
 returns-in-Ok-clause-validities g c = λ honest. let w = c.in-Ok.ensures.call in let acts = w.acts in let e = acts.effect honest in read_validities g.O.Outside.ours g.O.Outside.alone _ e.mid _ e.before e.behind.0

@@ -1,7 +1,7 @@
 use Rattle.std.proofs.Common.{refl, sym, ◌∙◌}
 use Rattle.run_states.proofs.Arrived.{underway_arrives}
 use Rattle.runner.specs.Before.{ReadUnderway}
-use Rattle.runner.proofs.PartCalls.{from_box, left_call, left_here, line_of_box, passed_call}
+use Rattle.runner.proofs.PartCalls.{from_opening, left_call, left_here, line_of_opening, opening_unrefused, passed_call}
 use Rattle.runner.proofs.Readings.{known_arrives, opened_known}
 use Rattle.runner.proofs.Validities.{any_read, compared_here, other_read, same_read}
 use Rattle.runner.proofs.Finding.{same_read as copies_read}
@@ -24,7 +24,7 @@ returns-else-before-validity-clause-part g c =
 
 pub returns-in-Err-clause-part : goal.returns-in-Err-clause-part
 returns-in-Err-clause-part g c =
-    rw c.call_fault.ensures (left_call _ _ _ _ _ _ _ _ _ _ _ tt c.in-Err.ensures.call (line_of_box _) (λ m at a own told. (from_box c.in-Err.fault told, rw own (underway_arrives g.opening _ m a at.underway))))
+    rw c.call_fault.ensures (left_call _ _ _ _ _ _ _ _ _ _ _ (opening_unrefused _) c.in-Err.ensures.call (line_of_opening _) (λ m at a own told. (from_opening c.in-Err.fault told, rw own (underway_arrives g.opening _ m a at.underway))))
 
 pub returns-then-before-validity-clause-kept : goal.returns-then-before-validity-clause-kept
 returns-then-before-validity-clause-kept g c = λ honest. let w = c.in-Ok.ensures.call in let acts = w.acts in let e = acts.effect honest in same_read g.O.Outside.ours g.O.Outside.alone (g.O.Outside.opened c.args.outside.now) c.args.side _ e.mid _ c.in-Some.before c.in-Ok.validity (sym c.recorded_validity-recorded.ensures ∙ c.in-Some.is) e.before e.behind.0 e.behind.1 c.if-before-validity.true

@@ -1,4 +1,4 @@
-use Rattle.runner.proofs.PartCalls.{left_call, line_of_shelf, passed_call, stuck_call, whole_call}
+use Rattle.runner.proofs.PartCalls.{left_call, line_of_shelf, passed_call, shelf_unrefused, stuck_call, whole_call}
 use Rattle.runner.proofs.Readings.{held_before, read_known, unread_files, unread_left}
 use Rattle.runner.proofs.Validities.{kept_read}
 use Rattle.run_states.proofs.Arrived.{underway_arrives}
@@ -13,7 +13,7 @@ returns-in-Ok-clause-part g c =
 pub returns-in-Err-clause-part : goal.returns-in-Err-clause-part
 returns-in-Err-clause-part g c =
     let s1 = g.O.Outside.seen c.open_book.new.self in
-    rw c.call_fault.ensures (left_call _ _ _ _ _ _ _ _ _ _ _ tt c.in-Err.ensures.call
+    rw c.call_fault.ensures (left_call _ _ _ _ _ _ _ _ _ _ _ (shelf_unrefused _) c.in-Err.ensures.call
     (λ told. line_of_shelf _ (λ honest. let w = c.in-Err.ensures.call in let acts = w.acts in let l = acts.left honest in unread_files c.in-Err.fault l.mid s1.device l.behind.0 l.behind.1))
     (λ m at a own told. unread_left g.opening c.in-Err.fault m s1.device (underway_arrives g.opening _ m a at) own.0 own.1 told))
 

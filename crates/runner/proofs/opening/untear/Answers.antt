@@ -2,7 +2,7 @@ use Rattle.std.proofs.Common.{true}
 use Rattle.book.specs.Books.{mended}
 use Rattle.outside.specs.Opened.{turned}
 use Rattle.run_states.specs.Conditions.{Underway}
-use Rattle.runner.proofs.PartCalls.{from_book, left_call, line_of_book, passed_call}
+use Rattle.runner.proofs.PartCalls.{book_unrefused, from_book, left_call, line_of_book, passed_call}
 use Rattle.runner.proofs.Readings.{half_untorn, known_arrives, plan_read, taken_known, untorn}
 use Rattle.runner.proofs.Stages.{left_by, ready_underway}
 use Rattle.runner.proofs.Finding.{same_mended}
@@ -20,7 +20,7 @@ pub returns-in-Err-clause-part : goal.returns-in-Err-clause-part
 returns-in-Err-clause-part g c =
     let opened = g.O.Outside.opened c.args.outside.now in
     let s1 = g.O.Outside.seen c.mend.new.self in
-    rw c.call_fault.ensures (left_call _ _ _ _ _ _ _ _ _ _ _ tt c.in-Err.ensures.call (line_of_book _) (λ m at a own told. (
+    rw c.call_fault.ensures (left_call _ _ _ _ _ _ _ _ _ _ _ (book_unrefused _) c.in-Err.ensures.call (line_of_book _) (λ m at a own told. (
       from_book c.in-Err.fault told,
       left_by (Underway g.opening) _ _ c.in-Err.fault m s1.device own
           (let k = known_arrives g.opening opened _ m a (taken_known g.opening opened _ at) in k.underway)

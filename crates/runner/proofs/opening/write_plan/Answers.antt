@@ -2,7 +2,7 @@ use Rattle.std.proofs.Common.{true, false}
 use Rattle.book.specs.BookLogs.{begun}
 use Rattle.outside.specs.Opened.{turned}
 use Rattle.run_states.specs.Conditions.{Underway}
-use Rattle.runner.proofs.PartCalls.{from_book, left_call, line_of_book, passed_call}
+use Rattle.runner.proofs.PartCalls.{book_unrefused, from_book, left_call, line_of_book, passed_call}
 use Rattle.runner.proofs.Begun.{clear_underway, half_written, made_arrives, plan_written}
 use Rattle.runner.proofs.Stages.{left_by, ready_underway}
 use Rattle.runner.proofs.opening.write_plan.Goals as goal
@@ -17,7 +17,7 @@ returns-in-Err-clause-part g c =
     let opened = g.O.Outside.opened c.args.outside.now in
     let plan = c.args.plan in
     let s1 = g.O.Outside.seen c.begin.new.self in
-    rw c.call_fault.ensures (left_call _ _ _ _ _ _ _ _ _ _ _ tt c.in-Err.ensures.call (line_of_book _) (λ m at a own told. (
+    rw c.call_fault.ensures (left_call _ _ _ _ _ _ _ _ _ _ _ (book_unrefused _) c.in-Err.ensures.call (line_of_book _) (λ m at a own told. (
       from_book c.in-Err.fault told,
       left_by (Underway g.opening) _ _ c.in-Err.fault m s1.device own
           (let p = made_arrives g.opening opened plan _ m a at in clear_underway g.opening opened true m p.clear)

@@ -5,7 +5,7 @@ use Rattle.run_states.specs.Plans.{NamedBy}
 use Rattle.runner.specs.Answers.{IsRun, PlanStart}
 use Rattle.runner.specs.Going.{log_at, logs_of, made, plan_at}
 use Rattle.runner.specs.Results.{EndsBy}
-use Rattle.runner.proofs.StepParts.{left_unstepped, refused_from, steps_told, unrefused_told}
+use Rattle.runner.proofs.StepParts.{left_never, refused_from, steps_told, unrefused_told}
 use Rattle.runner.proofs.PartCalls.{left_after, left_told, passed_after, passed_weaker}
 use Rattle.runner.proofs.Passes.{none_few, ran_answers, takes_commit, whole_steps}
 use Rattle.runner.proofs.Told.{named_last, told, told_whole}
@@ -53,7 +53,7 @@ returns-in_err-conclude g c =
     let last = c.in_err-conclude.ensures.frame in
     let so_far = passed_after _ _ _ _ _ _ _ _ s1 _ performed.was_honest c.in_ok-unfit.ensures.part performed.part in
     let frame = frame_then g.O.Outside _ _ _ (frame_then g.O.Outside _ _ _ c.in_ok-unfit.ensures.frame (frame_of g.O.Outside _ _ performed.was_honest performed.keywords)) last in
-    rw (e.1, e.2) (record { stage = drawn_left g.O.Outside g.opening _ _ _ _ _ _ _ _ _ _ frame c.in_ok-unfit.ensures.moved (left_unstepped _ _ _ _ _ _ tt (left_after _ _ _ _ _ _ _ _ s2 _ last.was_honest so_far c.in_err-conclude.ensures.part)) })
+    rw (e.1, e.2) (record { stage = drawn_left g.O.Outside g.opening _ _ _ _ _ _ _ _ _ _ frame c.in_ok-unfit.ensures.moved (left_never _ _ _ _ _ _ (left_after _ _ _ _ _ _ _ _ s2 _ last.was_honest so_far c.in_err-conclude.ensures.part)) })
 
 pub returns : goal.returns
 returns g c =

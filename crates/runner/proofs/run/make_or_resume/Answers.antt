@@ -1,7 +1,7 @@
 use Rattle.std.proofs.Common.{◌≡◌, ◌≤◌, ◌+◌, ℕ, inl, refl, arith, rules, subst, sym}
 use Rattle.runner.specs.Answers.{PassEnd, ReadPassStart, RunEnd, run_of}
 use Rattle.runner.specs.PassStages.{ReadStage, read_reasons, run_reasons}
-use Rattle.runner.proofs.StepParts.{part_unstepped}
+use Rattle.runner.proofs.StepParts.{part_never}
 use Rattle.runner.proofs.PartCalls.{left_here, part_weaker, passed_none}
 use Rattle.runner.proofs.Passes.{end_reaches, known_least, reads_beyond, run_of_state}
 use Rattle.runner.proofs.PlanFacts.{moved_none}
@@ -26,7 +26,7 @@ returns-then-run-last-clause-stage g c =
       stage = record {
         frame = skipped.frame;
         answer = answer_skipped g.O.Outside g.opening c.args.run _ c.args.outside.now c.skip.new.outside c.skip.result (book_read opened ready.book) le skipped.answer skipped.made;
-        part = part_weaker _ _ _ _ _ _ _ (λ x. PassEnd g.opening c.args.run) _ _ _ (λ d k. k.known) (λ x d k. record { underway = k.underway; done = λ e. k.done (omega (arith, le, e)) }) (part_unstepped _ _ _ _ _ _ _ _ _ tt skipped.part);
+        part = part_weaker _ _ _ _ _ _ _ (λ x. PassEnd g.opening c.args.run) _ _ _ (λ d k. k.known) (λ x d k. record { underway = k.underway; done = λ e. k.done (omega (arith, le, e)) }) (part_never _ _ _ _ _ _ _ _ _ skipped.part);
       };
       runs = runs_skipped g.O.Outside opened _ _ c.skip.result skipped.answer;
       moved = moved_none _;
@@ -56,7 +56,7 @@ returns-clause-stage g c =
     let worked = subst (λ (n : ℕ). ReadStage g.O.Outside g.opening n options stream drawn reasons (RunEnd g.opening) c.args.outside.now c.open_and_work.new.outside c.open_and_work.result) (sym is) c.open_and_work.ensures.stage in
     let entry = ReadPassStart g.opening opened run options stream in
     drawn_weaker g.O.Outside g.opening run options stream drawn reasons (run_reasons g.O.Outside run options.keywords c.args.outside.now c.open_and_work.new.outside) entry entry _ _ _ _ _
-    (record { changed = λ side t. t; keywords = λ t. t; repeats = λ t. t; beyond = λ n. absurd n; greatest = λ t. t; unread = λ e t. t; refused = λ step t. t; unstepped = λ u. u })
+    (record { changed = λ side t. t; keywords = λ t. t; repeats = λ t. t; beyond = λ n. absurd n; greatest = λ t. t; unread = λ e t. t; refused = λ step t. t })
     (λ d k. k) (λ d k. end_reaches g.opening run d k) worked
 
 pub returns-clause-made : goal.returns-clause-made

@@ -45,7 +45,7 @@ pub returns-in_err-open_boxes : goal.returns-in_err-open_boxes
 returns-in_err-open_boxes g c =
     let e = err_from_is_err_and c.from_residual.result c.from_residual.ensures.1 in
     let frame = frame_of g.O.Outside _ _ c.in_err-open_boxes.ensures.was_honest c.in_err-open_boxes.ensures.keywords in
-    rw (e.1, e.2) (record { stage = drawn_left g.O.Outside g.opening _ _ _ _ _ _ _ _ _ _ frame (moved_none _) (left_told _ _ _ _ _ _ _ _ (record { changed = λ side t. t; keywords = λ n. absurd n; repeats = λ n. absurd n; beyond = λ n. n; greatest = λ n. n; unread = λ e n. n; refused = λ step n. absurd n; unstepped = λ u. u }) (left_weaker _ _ _ _ _ _ _ (λ d k. k.known) c.in_err-open_boxes.ensures.part)) })
+    rw (e.1, e.2) (record { stage = drawn_left g.O.Outside g.opening _ _ _ _ _ _ _ _ _ _ frame (moved_none _) (left_told _ _ _ _ _ _ _ _ (record { changed = λ side t. t; keywords = λ n. absurd n; repeats = λ n. absurd n; beyond = λ n. n; greatest = λ n. n; unread = λ e n. n; refused = λ step n. absurd n }) (left_weaker _ _ _ _ _ _ _ (λ d k. k.known) c.in_err-open_boxes.ensures.part)) })
 
 pub returns-in_err-same_map : goal.returns-in_err-same_map
 returns-in_err-same_map g c =
@@ -101,7 +101,6 @@ returns g c =
                 greatest = λ n. n;
                 unread = λ e n. n;
                 refused = refused_from _ _ _ _ _ (λ h at. (leads h at).0);
-                unstepped = λ u. u;
               })
               (part_by here g.opening _ _ (λ o. ReadPassStart o new run options stream) (λ o. Underway o) (λ o. RunEnd o) _ s1 _ same c.work.result stage.part));
         };

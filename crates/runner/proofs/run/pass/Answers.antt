@@ -21,7 +21,7 @@ make_or_resume-requires g c κs within =
 pub returns-in_err-recall-clause-part : goal.returns-in_err-recall-clause-part
 returns-in_err-recall-clause-part g c =
     let e = err_from_is_err_and c.from_residual.result c.from_residual.ensures.1 in
-    rw (e.1, e.2) (left_told _ _ _ _ _ _ _ _ (record { changed = λ side n. absurd n; keywords = λ n. absurd n; repeats = λ n. absurd n; beyond = λ n. absurd n; greatest = λ n. absurd n; unread = λ e t. t; refused = λ step n. absurd n; unstepped = λ u. u }) (left_weaker _ _ _ _ _ _ _ (λ d k. k.underway) c.in_err-recall.ensures.part))
+    rw (e.1, e.2) (left_told _ _ _ _ _ _ _ _ (record { changed = λ side n. absurd n; keywords = λ n. absurd n; repeats = λ n. absurd n; beyond = λ n. absurd n; greatest = λ n. absurd n; unread = λ e t. t; refused = λ step n. absurd n }) (left_weaker _ _ _ _ _ _ _ (λ d k. k.underway) c.in_err-recall.ensures.part))
 
 pub returns-clause-answers : goal.returns-clause-answers
 returns-clause-answers g c =
@@ -78,7 +78,7 @@ returns-clause-part g c =
     let stream = g.R.Rng.stream c.args.rng.now in
     let with = passed_with ((run ≤ g.opening.world.state.run + 1) × Inputs g.opening options stream) _ _ _ _ _ _ c.in_ok-recall.ensures.part in
     let ready = passed_weaker _ _ (PassStart g.opening run options stream) _ (ReadPassStart g.opening opened run options stream) _ 0 _ s1 refl (λ d k. ((k.most, k.asked), k.underway)) (λ d k. record { most = k.0.0; asked = k.0.1; known = k.1 }) with in
-    part_after _ _ _ _ _ _ _ _ _ s1 _ _ frame.was_honest ready (part_told _ _ _ _ _ _ _ _ _ _ (record { changed = λ side t. (files_changed alone _ _ opened s0.device s1.device s2.device side frame.was_honest c.in_ok-recall.ensures.held c.in_ok-recall.ensures.kept t.0, t.1); keywords = λ t. files_map alone _ _ options.keywords opened _ s0.device s1.device s2.device frame.was_honest c.in_ok-recall.ensures.held c.in_ok-recall.ensures.kept t; repeats = λ k. repeats_from g.opening _ _ _ options stream (λ h at. ready.reaches (frame.was_honest h) at) k; beyond = λ n. (n.1, λ h. beyond_read opened s0.device run (c.in_ok-recall.ensures.held (frame.was_honest h)) n.0); greatest = λ n. n; unread = λ e n. absurd n; refused = refused_from _ _ _ _ _ (λ h at. ready.reaches (frame.was_honest h) at); unstepped = λ u. u }) stage.part)
+    part_after _ _ _ _ _ _ _ _ _ s1 _ _ frame.was_honest ready (part_told _ _ _ _ _ _ _ _ _ _ (record { changed = λ side t. (files_changed alone _ _ opened s0.device s1.device s2.device side frame.was_honest c.in_ok-recall.ensures.held c.in_ok-recall.ensures.kept t.0, t.1); keywords = λ t. files_map alone _ _ options.keywords opened _ s0.device s1.device s2.device frame.was_honest c.in_ok-recall.ensures.held c.in_ok-recall.ensures.kept t; repeats = λ k. repeats_from g.opening _ _ _ options stream (λ h at. ready.reaches (frame.was_honest h) at) k; beyond = λ n. (n.1, λ h. beyond_read opened s0.device run (c.in_ok-recall.ensures.held (frame.was_honest h)) n.0); greatest = λ n. n; unread = λ e n. absurd n; refused = refused_from _ _ _ _ _ (λ h at. ready.reaches (frame.was_honest h) at) }) stage.part)
 
 pub returns-in_err-recall-clause-moved : goal.returns-in_err-recall-clause-moved
 returns-in_err-recall-clause-moved g c = moved_none _

@@ -11,7 +11,7 @@ use Rattle.runner.specs.Faults.{because}
 use Rattle.runner.specs.Going.{AreOpen, IsGoing, log_at, plan_at}
 use Rattle.runner.specs.Results.{PassedOver}
 use Rattle.runner.specs.Validities.{IsCompared, TellsUnlessSame}
-use Rattle.runner.proofs.StepParts.{left_unstepped}
+use Rattle.runner.proofs.StepParts.{left_never}
 use Rattle.runner.proofs.PartCalls.{left_after, left_here, left_weaker, passed_after, passed_weaker, passed_with}
 use Rattle.runner.proofs.Begun.{clear_underway}
 use Rattle.runner.proofs.Passes.{after_plan, begun_going, begun_log, begun_plan, caused_memory, caused_plan, memory_plan, passed_by, plan_made, repeats_since, run_here, turned_run}
@@ -46,13 +46,13 @@ write_plan-requires g c κs within = (search rules, c.in_ok-plan.ensures.takes)
 pub returns-in_err-clear-clause-part : goal.returns-in_err-clear-clause-part
 returns-in_err-clear-clause-part g c =
     let e = err_from_is_err_and c.from_residual.result c.from_residual.ensures.1 in
-    rw (e.1, e.2) (left_unstepped _ _ _ _ _ _ tt (left_weaker _ _ _ _ _ _ _ (λ d k. k.none) c.in_err-clear.ensures.part))
+    rw (e.1, e.2) (left_never _ _ _ _ _ _ (left_weaker _ _ _ _ _ _ _ (λ d k. k.none) c.in_err-clear.ensures.part))
 
 pub returns-in_err-both-clause-part : goal.returns-in_err-both-clause-part
 returns-in_err-both-clause-part g c =
     let e = err_from_is_err_and c.from_residual-in_err-both.result c.from_residual-in_err-both.ensures.1 in
     let s1 = g.O.Outside.seen c.clear.new.outside in
-    rw (e.1, e.2) (left_unstepped _ _ _ _ _ _ tt (left_weaker _ _ _ _ _ _ _ (λ d k. k.none) (left_after _ _ _ _ _ _ _ _ s1 _ c.in_err-both.ensures.was_honest c.in_ok-clear.ensures.part c.in_err-both.ensures.part)))
+    rw (e.1, e.2) (left_never _ _ _ _ _ _ (left_weaker _ _ _ _ _ _ _ (λ d k. k.none) (left_after _ _ _ _ _ _ _ _ s1 _ c.in_err-both.ensures.was_honest c.in_ok-clear.ensures.part c.in_err-both.ensures.part)))
 
 pub returns-in_err-plan-clause-part : goal.returns-in_err-plan-clause-part
 returns-in_err-plan-clause-part g c =
@@ -88,7 +88,7 @@ returns-in_err-write_plan-clause-part g c =
     let so_far = passed_after _ _ _ _ _ _ _ _ s1 _ c.in_ok-both.ensures.was_honest c.in_ok-clear.ensures.part c.in_ok-both.ensures.part in
     let asked = passed_with (Inputs g.opening options stream) _ _ _ _ _ _ so_far in
     let ready = passed_weaker _ _ (PlanStart g.opening (g.O.Outside.opened c.args.outside.now) options stream) _ (IsMade g.opening now c.in_ok-plan.plan) _ 0 _ s2 refl (λ d k. (k.asked, k.none)) (λ d k. plan_made g.opening now options stream both.far both.near c.in_ok-plan.plan c.in_ok-plan.ensures.drawn c.in_ok-plan.ensures.plan d k.0 (rw c.list_both.ensures.opened k.1)) asked in
-    rw (e.1, e.2) (left_unstepped _ _ _ _ _ _ tt (left_after _ _ _ _ _ _ _ _ s2 _ c.in_err-write_plan.ensures.was_honest ready c.in_err-write_plan.ensures.part))
+    rw (e.1, e.2) (left_never _ _ _ _ _ _ (left_after _ _ _ _ _ _ _ _ s2 _ c.in_err-write_plan.ensures.was_honest ready c.in_err-write_plan.ensures.part))
 
 pub returns-clause-part : goal.returns-clause-part
 returns-clause-part g c =

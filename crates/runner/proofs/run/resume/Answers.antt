@@ -8,7 +8,7 @@ use Rattle.runner.specs.Results.{EndsBy}
 use Rattle.std.proofs.lemmas.Result.{err_from_is_err_and}
 use Rattle.book.specs.Books.{mended}
 use Rattle.outside.specs.Opened.{turned}
-use Rattle.runner.proofs.StepParts.{left_unstepped, refused_from, steps_told}
+use Rattle.runner.proofs.StepParts.{left_never, refused_from, steps_told}
 use Rattle.runner.proofs.PartCalls.{left_after, left_told, passed_after, passed_weaker}
 use Rattle.runner.proofs.Passes.{book_few, finished_answers, mended_book, mended_going, mended_rest, takes_commit}
 use Rattle.runner.proofs.Told.{named_last, told, told_rest}
@@ -37,7 +37,7 @@ pub returns-in_err-untear : goal.returns-in_err-untear
 returns-in_err-untear g c =
     let e = err_from_is_err_and c.from_residual.result c.from_residual.ensures.1 in
     let frame = frame_of g.O.Outside _ _ c.in_err-untear.ensures.was_honest c.in_err-untear.ensures.keywords in
-    rw (e.1, e.2) (record { stage = stage_left g.O.Outside g.opening _ _ _ _ _ _ _ frame (left_unstepped _ _ _ _ _ _ tt c.in_err-untear.ensures.part) })
+    rw (e.1, e.2) (record { stage = stage_left g.O.Outside g.opening _ _ _ _ _ _ _ frame (left_never _ _ _ _ _ _ c.in_err-untear.ensures.part) })
 
 pub returns-in_err-performed : goal.returns-in_err-performed
 returns-in_err-performed g c =
@@ -59,7 +59,7 @@ returns-in_err-conclude g c =
     let last = c.in_err-conclude.ensures.frame in
     let so_far = passed_after _ _ _ _ _ _ _ _ s1 _ carried.was_honest untorn.part carried.part in
     let frame = frame_then g.O.Outside _ _ _ (frame_then g.O.Outside _ _ _ (frame_of g.O.Outside _ _ untorn.was_honest untorn.keywords) (frame_of g.O.Outside _ _ carried.was_honest carried.keywords)) last in
-    rw (e.1, e.2) (record { stage = stage_left g.O.Outside g.opening _ _ _ _ _ _ _ frame (left_unstepped _ _ _ _ _ _ tt (left_after _ _ _ _ _ _ _ _ s2 _ last.was_honest so_far c.in_err-conclude.ensures.part)) })
+    rw (e.1, e.2) (record { stage = stage_left g.O.Outside g.opening _ _ _ _ _ _ _ frame (left_never _ _ _ _ _ _ (left_after _ _ _ _ _ _ _ _ s2 _ last.was_honest so_far c.in_err-conclude.ensures.part)) })
 
 pub returns : goal.returns
 returns g c =

@@ -25,7 +25,7 @@ returns-then-is_some g c =
     let plan = has_plan opened j.0 j.1 in
     let resumed = c.resume.ensures.stage in
     let runs = runs_resumed g.O.Outside g.opening options stream _ _ _ c.resume.result plan c.requires.1.1.1.1.1.1.0 resumed.answer in
-    record { stage = drawn_resumed g.O.Outside g.opening _ options stream _ _ (Resumed g.opening opened) (ReadPassStart g.opening opened (run_of opened + 1) options stream) _ _ _ _ tt (λ d k. known_planned g.opening opened d plan k.most k.known) runs (moved_none _) resumed }
+    record { stage = drawn_resumed g.O.Outside g.opening _ options stream _ _ (Resumed g.opening opened) (ReadPassStart g.opening opened (run_of opened + 1) options stream) _ _ _ _ (λ d k. known_planned g.opening opened d plan k.most k.known) runs (moved_none _) resumed }
 
 pub returns-else-is_some : goal.returns-else-is_some
 returns-else-is_some g c =

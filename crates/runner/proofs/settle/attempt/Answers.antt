@@ -32,7 +32,7 @@ returns-in_err-number g c =
         };
         moved = moved_none _;
         stuck = fixed.stuck;
-        part = left_told _ _ _ _ _ _ _ _ (record { changed = λ side n. absurd n; keywords = λ n. absurd n; repeats = λ n. absurd n; beyond = λ n. absurd n; greatest = λ n. n; unread = λ e t. t; refused = λ step n. absurd n; unstepped = λ u. u }) (left_mapped _ _ _ _ _ _ _ _ (λ d k. (k.asked, k.tried)) (λ d k. record { asked = k.0; tried = k.1 }) (left_with (Inputs g.opening c.args.options.now (g.R.Rng.stream c.args.rng.now)) _ _ _ _ _ _ fixed.part));
+        part = left_told _ _ _ _ _ _ _ _ (record { changed = λ side n. absurd n; keywords = λ n. absurd n; repeats = λ n. absurd n; beyond = λ n. absurd n; greatest = λ n. n; unread = λ e t. t; refused = λ step n. absurd n }) (left_mapped _ _ _ _ _ _ _ _ (λ d k. (k.asked, k.tried)) (λ d k. record { asked = k.0; tried = k.1 }) (left_with (Inputs g.opening c.args.options.now (g.R.Rng.stream c.args.rng.now)) _ _ _ _ _ _ fixed.part));
       };
     })
 
@@ -87,7 +87,6 @@ returns g c =
               greatest = λ n. absurd n;
               unread = λ e t. t;
               refused = refused_from _ _ _ _ _ leads;
-              unstepped = λ u. u;
             }) passed.part)));
       };
     }

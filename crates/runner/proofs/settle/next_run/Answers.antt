@@ -1,7 +1,7 @@
 use Rattle.std.proofs.Common.{◌≡◌, ◌+◌, inl, inr, refl, arith}
 use Rattle.runner.specs.Attempts.{AtOpening}
 use Rattle.runner.proofs.Attempts.{last_run, reads_last, next_read, next_unread, opening_left, reached_read, run_read}
-use Rattle.runner.proofs.PartCalls.{left_call, left_here, line_of_shelf, passed_call, stuck_call, whole_call}
+use Rattle.runner.proofs.PartCalls.{left_call, left_here, line_of_shelf, passed_call, shelf_unrefused, stuck_call, whole_call}
 use Rattle.runner.proofs.Readings.{unread_files}
 use Rattle.runner.proofs.Validities.{kept_read}
 use Rattle.runner.proofs.Finding.{same_read}
@@ -23,7 +23,7 @@ returns-else-last-clause-part g c =
 pub returns-in-Err-clause-part : goal.returns-in-Err-clause-part
 returns-in-Err-clause-part g c =
     let s1 = g.O.Outside.seen c.open_book.new.self in
-    rw c.call_fault.ensures (left_call _ _ _ _ _ _ _ _ _ _ _ tt c.in-Err.ensures.call
+    rw c.call_fault.ensures (left_call _ _ _ _ _ _ _ _ _ _ _ (shelf_unrefused _) c.in-Err.ensures.call
     (λ told. line_of_shelf _ (λ honest. let w = c.in-Err.ensures.call in let acts = w.acts in let l = acts.left honest in unread_files c.in-Err.fault l.mid s1.device l.behind.0 l.behind.1))
     (λ m at a own told. opening_left g.opening c.in-Err.fault _ m s1.device at a own.0 own.1 told))
 

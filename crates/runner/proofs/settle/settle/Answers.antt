@@ -182,7 +182,6 @@ returns-in-Err-clause-caused g c = λ other.
       greatest = λ n. n;
       unread = λ e t. t;
       refused = λ step t. t.0;
-      unstepped = λ u. u;
     })
 
 pub returns-in-Err-clause-counts : goal.returns-in-Err-clause-counts

@@ -1,10 +1,13 @@
 use Rattle.std.proofs.Common.{◌∙◌, sym, refl}
 use Rattle.mailcore.specs.declared.side.Side.TheVariants as side
 use Rattle.mailcore.specs.Spared.{spares}
+use Rattle.mailbox.specs.Calls.{Never}
 use Rattle.mailbox.specs.Operations.{HasNumbers, ListsWithin}
 use Rattle.run_pair.specs.BookParts.{kept_of}
+use Rattle.run_pair.specs.Faults.{unstepped}
 use Rattle.run_pair.specs.Pairs.{device_of}
 use Rattle.run_pair.proofs.BoxCalls.{if_ok, listing_near, near_ends}
+use Rattle.run_pair.proofs.BeforeSteps.{if_answered, opening_call, unstepped_call}
 use Rattle.run_pair.proofs.Ending.{stuck}
 use Rattle.run_pair.proofs.Opening.{near_open, near_stays}
 use Rattle.run_pair.proofs.pair.PairOutside.list_near.Goals as goal
@@ -22,16 +25,16 @@ pub returns : goal.returns
 returns g c =
     let p = c.args.self.now in
     let b = c.list-answer in
-    let e = c.end_at in
+    let e = c.end_opening in
     let whole = sym c.is_broken.ensures ∙ c.if-is_broken.false in
-    let ends = near_ends p (listing_near (device_of p) (spares c.args.spared.now)) b.new.self e.new.self b.result e.result whole e.ensures.same e.ensures.now (rw p.near_is at b.ensures.call) in
+    let ends = near_ends p (listing_near (device_of p) (spares c.args.spared.now)) b.new.self e.new.self (unstepped b.result) e.result whole e.ensures.same e.ensures.now (unstepped_call _ _ _ Never _ _ _ _ b.result (rw p.near_is at b.ensures.call)) in
     record {
       was_honest = λ h. (h.0, b.ensures.was_honest h.1, h.2);
       keywords = refl;
       opened = near_stays (g.F.Mailbox.is_open p.far) _ _ (kept_of p.book) c.requires.is_open b.ensures.open;
-      call = ends.call;
+      call = opening_call side.Near b.result e.result e.ensures.same ends.call;
       why = ends.why;
       tallied = ends.tallied;
-      numbers = if_ok side.Near HasNumbers b.result e.result e.ensures.same b.ensures.numbers;
-      within = λ h. rw p.one_map (if_ok side.Near (ListsWithin (g.N.Mailbox.keywords p.near)) b.result e.result e.ensures.same (b.ensures.within h.1));
+      numbers = if_ok side.Near HasNumbers (unstepped b.result) e.result e.ensures.same (if_answered HasNumbers b.result b.ensures.numbers);
+      within = λ h. rw p.one_map (if_ok side.Near (ListsWithin (g.N.Mailbox.keywords p.near)) (unstepped b.result) e.result e.ensures.same (if_answered (ListsWithin (g.N.Mailbox.keywords p.near)) b.result (b.ensures.within h.1)));
     }

@@ -1,8 +1,10 @@
 use Rattle.std.proofs.Common.{◌∙◌, sym, refl}
 use Rattle.mailcore.specs.declared.side.Side.TheVariants as side
+use Rattle.run_pair.specs.Faults.{unstepped}
 use Rattle.run_pair.specs.Pairs.{CannotOpen, device_of}
 use Rattle.run_pair.specs.BookParts.{kept_of}
 use Rattle.run_pair.proofs.BoxCalls.{far_ends, near_ends, on_ok, opening}
+use Rattle.run_pair.proofs.BeforeSteps.{on_answer, opening_call, unstepped_call}
 use Rattle.run_pair.proofs.Ending.{stuck}
 use Rattle.run_pair.proofs.Opening.{far_opened, near_opened}
 use Rattle.run_pair.proofs.pair.PairOutside.open_box.Goals as goal
@@ -20,14 +22,14 @@ pub returns-in-Far : goal.returns-in-Far
 returns-in-Far g c =
     let p = c.args.self.now in
     let b = c.open-answer in
-    let e = c.end_at in
+    let e = c.end_opening in
     let whole = sym c.is_broken.ensures ∙ c.if-is_broken.false in
-    let ends = far_ends p (opening (device_of p) side.Far (CannotOpen side.Far p)) b.new.self e.new.self b.result e.result whole e.ensures.same e.ensures.now (rw p.far_is at b.ensures.call) in
+    let ends = far_ends p (opening (device_of p) side.Far (CannotOpen side.Far p)) b.new.self e.new.self (unstepped b.result) e.result whole e.ensures.same e.ensures.now (unstepped_call _ _ _ (CannotOpen side.Far p) _ _ _ _ b.result (rw p.far_is at b.ensures.call)) in
     record {
       was_honest = λ h. (b.ensures.was_honest h.0, h.1, h.2);
       keywords = b.ensures.keywords;
-      opened = rw c.in-Far.is (on_ok side.Far _ _ b.result e.result e.ensures.same (far_opened _ _ (g.N.Mailbox.is_open p.near) (kept_of p.book)) b.ensures.open);
-      call = rw c.in-Far.is ends.call;
+      opened = rw c.in-Far.is (on_ok side.Far _ _ (unstepped b.result) e.result e.ensures.same (far_opened _ _ (g.N.Mailbox.is_open p.near) (kept_of p.book)) (on_answer _ b.result b.ensures.open));
+      call = rw c.in-Far.is (opening_call side.Far b.result e.result e.ensures.same ends.call);
       why = rw c.in-Far.is ends.why;
       tallied = ends.tallied;
     }
@@ -42,14 +44,14 @@ pub returns-in-Near : goal.returns-in-Near
 returns-in-Near g c =
     let p = c.args.self.now in
     let b = c.open-answer-in-Near in
-    let e = c.end_at-in-Near in
+    let e = c.end_opening-in-Near in
     let whole = sym c.is_broken.ensures ∙ c.if-is_broken.false in
-    let ends = near_ends p (opening (device_of p) side.Near (CannotOpen side.Near p)) b.new.self e.new.self b.result e.result whole e.ensures.same e.ensures.now (rw p.near_is at b.ensures.call) in
+    let ends = near_ends p (opening (device_of p) side.Near (CannotOpen side.Near p)) b.new.self e.new.self (unstepped b.result) e.result whole e.ensures.same e.ensures.now (unstepped_call _ _ _ (CannotOpen side.Near p) _ _ _ _ b.result (rw p.near_is at b.ensures.call)) in
     record {
       was_honest = λ h. (h.0, b.ensures.was_honest h.1, h.2);
       keywords = refl;
-      opened = rw c.in-Near.is (on_ok side.Near _ _ b.result e.result e.ensures.same (near_opened (g.F.Mailbox.is_open p.far) _ _ (kept_of p.book)) b.ensures.open);
-      call = rw c.in-Near.is ends.call;
+      opened = rw c.in-Near.is (on_ok side.Near _ _ (unstepped b.result) e.result e.ensures.same (near_opened (g.F.Mailbox.is_open p.far) _ _ (kept_of p.book)) (on_answer _ b.result b.ensures.open));
+      call = rw c.in-Near.is (opening_call side.Near b.result e.result e.ensures.same ends.call);
       why = rw c.in-Near.is ends.why;
       tallied = ends.tallied;
     }
