@@ -35,7 +35,7 @@ rests_absent honest ours alone direction uid flags mark old new c = record {
   goes_on = c.goes_on;
 }
 
--- a copy that is asked for behind calls that left all as it was
+-- a copy that is asked for after calls that left all as it was
 asks_behind : (h1 h2 : Type 0) (ours : List ℕ → Bool) (alone : Bool) (direction : Direction) (uid flags : ℕ) (mark : List ℕ) (old mid new : Seen) (result : Result Carried OutsideFault) → Rests h1 ours alone old mid → (h2 → h1) → Asks h2 ours alone direction uid flags mark mid new result → Asks h2 ours alone direction uid flags mark old new result
 asks_behind h1 h2 ours alone direction uid flags mark old mid new result r before c =
     call_behind h1 h2 ours alone copies_made FromBox (Carry direction uid flags mark) (LeavesBy (Carry direction uid flags mark) (SetsAside (target direction))) old mid new result r before c

@@ -35,13 +35,13 @@ quiet ours alone d = record {
 
 -- ---- two turns
 
--- files behind files
+-- files after files
 gathered_again : (xs ys zs fs ws : List Waiting) → IsPermutation (xs ++ ys) zs → IsPermutation (zs ++ fs) ws → IsPermutation (xs ++ (ys ++ fs)) ws
 gathered_again xs ys zs fs ws m k =
     subst (λ (l : List Waiting). IsPermutation l ws) (append_assoc xs ys fs)
     (IsPermutation-trans ((xs ++ ys) ++ fs) (zs ++ fs) ws (IsPermutation-append_left fs (xs ++ ys) zs m) k)
 
--- UIDs behind others
+-- UIDs after others
 rise_behind : (from : ℕ) (us : List ℕ) (mid : ℕ) (vs : List ℕ) (next : ℕ) → Rise from us mid → Rise mid vs next → Rise from (us ++ vs) next
 rise_behind from [] mid [] next le rise = omega arith
 rise_behind from [] mid (v ∷ vs) next le rise = (omega arith, rise.1)

@@ -1,4 +1,4 @@
--- A call behind calls that left all as it was.
+-- A call after calls that left all as it was.
 use Rattle.std.proofs.Common.{◌≡◌, ◌<◌, ◌+◌, inl, inr, ◌⊎◌, ℕ, Bool, true, List, ◌∷◌, Result, Ok, Err, ap, ◌∙◌, arith}
 use Rattle.std.proofs.lemmas.Bool.{both_ways}
 use Rattle.device.specs.Calls.{Effect}

@@ -1,4 +1,4 @@
--- Where the shelf was read, so that a guard can be told.
+-- Where the shelf was read, so that a guard can be shown it.
 use Rattle.std.proofs.Common.{Option, None, Some}
 use Rattle.outside.specs.Opened.{IsBook, IsRead, Opened}
 

@@ -12,7 +12,7 @@ use Rattle.guarded.proofs.Arrivals.{quiet}
 use Rattle.guarded.proofs.Rests.{Rests, rests_none}
 
 module _ {T : Type 0} (before honest : Type 0) (ours : List ℕ → Bool) (alone : Bool) (copies : T → ℕ) (may_tell : OutsideFault → Type 0) (does : T → Effect Device) (leaves : OutsideFault → Effect Device) where
-  -- behind calls that left all as it was
+  -- after calls that left all as it was
   pub stops_behind : (old mid new : Seen) (fault : OutsideFault) → Rests before ours alone old mid → (honest → before) → fault ≡ Stopped → new ≡ stopped mid → may_tell Stopped → ((d : Device) → leaves Stopped d d)
       → Call honest (Arrives ours alone) copies may_tell does leaves old new (Err fault)
   stops_behind old mid new fault r was is_stop now may same =

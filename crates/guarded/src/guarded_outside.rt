@@ -20,7 +20,7 @@ use rules::plan::Plan;
 use rules::state::SyncState;
 use sync_state::journal::Journal;
 
-/// An outside that passes each call on, and tells a guard of a book that was read. A call stops where the guard says no: to the UIDNEXT of
+/// An outside that passes each call on, and shows a guard a book that was read. A call stops where the guard says no: to the UIDNEXT of
 /// a far mailbox that was opened, to a plan before it is begun, or to a call that changes a mailbox. Where a far message that is to be
 /// copied is not found, the far mailbox is listed and the message asked for once more: over one that is listed and not given the call
 /// stops.
@@ -73,7 +73,7 @@ impl<O: Outside + FarNext, G: Guard> GuardedOutside<O, G> {
     }
 }
 
-/// Tells a guard that a step was logged, or that the UID of its copy was given before.
+/// Lets a guard know that a step was logged, or that the UID of its copy was given before.
 fn note_logged<G: Guard>(
     guard: &mut G,
     step: usize,

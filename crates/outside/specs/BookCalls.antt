@@ -1,4 +1,4 @@
--- What the calls of the book do to the files, and what they tell.
+-- What the calls of the book do to the files, and what they report.
 use Rattle.std.specs.Prelude.{◌≡◌, true, Option, None, Some}
 use Rattle.device.specs.Calls.{Effect}
 use Rattle.sync_state.specs.declared.fault.BookFault.TheVariants as book
@@ -46,7 +46,7 @@ abbrev pub IsTaken : Option Opened → Logged → Type 0
 IsTaken None logged = ⊥
 IsTaken (Some o) logged = is_refused o.state.entries o.pending logged ≡ true
 
--- logging a step as done: a UID that is taken is told as line 0 of the state
+-- logging a step as done: a UID that is taken is reported as line 0 of the state
 abbrev pub FromLog : Option Opened → Logged → OutsideFault → Type 0
 FromLog opened logged Stopped = Unit {0}
 FromLog opened logged Refused = ⊥

@@ -1,4 +1,4 @@
--- What the calls of the boxes do to both mailboxes, and what they tell.
+-- What the calls of the boxes do to both mailboxes, and what they report.
 use Rattle.std.specs.Prelude.{◌≡◌, ◌<◌, ◌≤◌, ℕ, Bool, true, false, List, [], ◌∷◌, ◌++◌, Option, None, Some}
 use Rattle.device.specs.Calls.{Effect}
 use Rattle.mailcore.specs.declared.side.Side.{Side}
@@ -55,7 +55,7 @@ AdmitsPart alone = OnNear (ops.AdmitsPart alone)
 
 -- ---- copies
 
--- this message stands behind the others, and `next` is given then
+-- this message stands after the others, and `next` is given then
 abbrev pub with_copy : Message → (next : ℕ) → Store → Store
 with_copy copy next s = record s { next = next; messages = s.messages ++ copy ∷ [] }
 

@@ -7,7 +7,7 @@ use Rattle.outside.specs.Devices.{Device}
 use Rattle.outside.specs.GoingOn.{GoesOn}
 
 -- an outside as a contract sees it: the device, whether a call has failed since it was opened, how many calls have stopped, which
--- faults calls have told, the last first, how many have made a copy, and how the device was each time the outside was opened again, the
+-- faults calls have reported, the last first, how many have made a copy, and how the device was each time the outside was opened again, the
 -- last first; no number is the greatest
 pub record Seen : Type 0 where
   pub device : Device
@@ -33,7 +33,7 @@ pub record CountsCopies (copies : ℕ) (old new : Seen) : Type 0 where
   pub appends : new.appends ≡ old.appends + copies
   pub reopened : new.reopened ≡ old.reopened
 
--- how many stops a fault tells
+-- how many stops a fault reports
 abbrev pub stops_told : OutsideFault → ℕ
 stops_told Stopped = 1
 stops_told Refused = 0
@@ -42,7 +42,7 @@ stops_told (BadState line) = 0
 stops_told (BadJournal line) = 0
 stops_told NoMemory = 0
 
--- A call that ended with a fault, which is one that it may tell. It is noted as it is told, and a stop is counted once, and nothing
+-- A call that ended with a fault, which is one that it may report. It is noted as it is reported, and a stop is counted once, and nothing
 -- else is; where the outside was broken nothing is.
 pub record CountsFault (may_tell : OutsideFault → Type 0) (fault : OutsideFault) (old new : Seen) : Type 0 where
   pub told : may_tell fault
@@ -56,7 +56,7 @@ abbrev pub Counts : {T : Type 0} → (copies : T → ℕ) → (may_tell : Outsid
 Counts copies may_tell old new (Ok answer) = CountsCopies (copies answer) old new
 Counts copies may_tell old new (Err fault) = CountsFault may_tell fault old new
 
--- ---- which faults a call may tell
+-- ---- which faults a call may report
 
 -- a call of a box
 abbrev pub FromBox : OutsideFault → Type 0
@@ -97,7 +97,7 @@ FromShelf NoMemory = Unit {0}
 -- ---- calls
 
 -- Others may act first. A call that answers has its effect; one that does not leaves what its fault says, and from then on the
--- outside is broken. Whatever a call does, the device goes on. It is said where server, folder and shelf have kept their word; what is
+-- outside is broken. Whatever a call does, the device goes on. It is said where server, folder and shelf have behaved as specified; what is
 -- counted holds without that.
 pub record Call {T : Type 0} (honest : Type 0) (others : Effect Device) (copies : T → ℕ) (may_tell : OutsideFault → Type 0)
     (does : T → Effect Device) (leaves : OutsideFault → Effect Device) (old new : Seen) (result : Result T OutsideFault) : Type 0 where
@@ -141,13 +141,13 @@ Writes honest others may_tell does part old new result = Call honest others (λ 
 abbrev pub opened_again : Seen → Seen
 opened_again old = record old { is_broken = false; reopened = old.device ∷ old.reopened }
 
--- the same outside behind a call that stopped before it had an effect
+-- the same outside after a call that stopped before it had an effect
 abbrev pub stopped : Seen → Seen
 stopped old = if old.is_broken then old else record old { is_broken = true; stops = old.stops + 1; told = Stopped ∷ old.told }
 
--- ---- what was told
+-- ---- what was reported
 
--- this fault is the last that was told, and it was told since
+-- this fault is the last that was reported, and it was reported since
 pub record IsLast (fault : OutsideFault) (old new : Seen) : Type 0 where
   pub since : List OutsideFault
   pub now : new.told ≡ fault ∷ (since ++ old.told)

@@ -12,7 +12,7 @@ use Rattle.book.specs.Shelves.{Files}
 use Rattle.outside.specs.Devices.{Device}
 use Rattle.outside.specs.Sparing.{Spares}
 
--- the same plan, and steps that are logged behind the ones that were
+-- the same plan, and steps that are logged after the ones that were
 pub record Continues (old new : Journal) : Type 0 where
   pub plan : new.plan ≡ old.plan
   pub since : List Logged

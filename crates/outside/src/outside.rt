@@ -22,7 +22,7 @@ pub enum Carried {
     Absent,
     /// It is there, but not fit to be copied.
     Unfit,
-    /// A copy was made. Its UID, if the box told it.
+    /// A copy was made. Its UID, if the box reported it.
     Made(Option<Uid>),
 }
 
@@ -50,7 +50,7 @@ pub trait Outside {
     ghost use Rattle.mailbox.specs.Operations.{HasNumbers, ListsWithin, removed};
     ghost use Rattle.outside.specs.BoxCalls.{Admits, AdmitsPart, Carry, ListsFar, ListsNear, Names, SetsAside, Turns, copies_made};
 
-    /// Server, folder and shelf have kept their word so far.
+    /// Server, folder and shelf have behaved as specified so far.
     ghost honest: { Self → Type 0 };
 
     /// The marks that nobody else writes.
@@ -160,7 +160,7 @@ pub trait Outside {
         ensures call { Writes (honest self.new) (Arrives ours alone) FromBook (OfBook (GivesUpTo lost.now) (opened self.old))
             (OfBook (GivesUpHalf lost.now) (opened self.old)) (seen self.old) (seen self.new) result };
 
-    /// Selects the far mailbox, or opens the near one, and tells its UIDVALIDITY.
+    /// Selects the far mailbox, or opens the near one, and reports its UIDVALIDITY.
     fn open_box(&mut self, side: Side) -> Result<u32, OutsideFault>
         ensures was_honest { honest self.new → honest self.old }
         ensures keywords { keywords self.new ≡ keywords self.old }

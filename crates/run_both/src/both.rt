@@ -4,5 +4,5 @@ use far_side::far_side::FarSide;
 use near_side::near_side::NearSide;
 use run_pair::pair::Pair;
 
-/// The outside of a run over a mailbox behind the link `L`, one in the folder `F`, and a book on the shelf `S`.
+/// The outside of a run over a mailbox that is reached by the link `L`, one in the folder `F`, and a book on the shelf `S`.
 pub type Both<L, F, S> = Pair<FarSide<L>, NearSide<F>, S>;

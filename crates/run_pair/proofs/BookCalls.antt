@@ -102,7 +102,7 @@ of_book : (f n : Bool) (k : Option Kept) (does : Pending → Effect Files) (far 
 of_book f n None does far near files files' named h = h
 of_book f n (Some k) does far near files files' named h = record { far = refl; near = refl; named = refl; files = h }
 
--- ---- a call of the book, behind what others did
+-- ---- a call of the book, after what others did
 
 module _ (honest own : Type 0) (others : Effect Device) (may_tell : OutsideFault → Type 0) (does part : Effect Files) (does' part' : Effect Device) (put : Files → Device) (files files' : Files)
     (all : does files files' → does' (put files) (put files')) (some : part files files' → part' (put files) (put files')) (sparing : AreSparing {T = Unit {0}} others (λ _. does') (LeavesBy {T = Unit {0}} (λ _. does') part')) where

@@ -68,7 +68,7 @@ module _ (side : Side) (d : Device) where
 
 -- ---- calls of a mailbox, in its own words and in those of the device that it stands in
 
--- it is counted as `ends` says, and `names` are the messages that are named behind it
+-- it is counted as `ends` says, and `names` are the messages that are named after it
 pub record Move (side : Side) (d : Device) (T : Type 0) : Type 1 where
   pub because : BoxFault → Mailbox → Type 0
   pub does : T → Effect Mailbox
@@ -195,7 +195,7 @@ module _ (d : Device) (uid : ℕ) (change : Store → Store) (one : ChangesOne u
     some = turns_left side;
   }
 
--- ---- what is told
+-- ---- what is reported
 
 from_box : (side : Side) (f : BoxFault) → FromBox (told side f)
 from_box side boxes.Stopped = tt

@@ -32,7 +32,7 @@ use Rattle.run_pair.specs.Tallies.{Counts, Tallied, ended, seen_with}
 use Rattle.run_pair.proofs.Arriving.{alone_left, alone_right, less_left, less_right}
 use Rattle.run_pair.proofs.Ending.{done_call, failed_call, if_err, tallied, tally}
 
--- ---- what is told
+-- ---- what is reported
 
 told_so : (own cause cause' : Type 0) (side : Side) (because : BoxFault → Mailbox → Type 0) (b : Mailbox) (e : OutsideFault) → (cause → cause') → IsTold own cause side because b e → IsTold own cause' side because b e
 told_so own cause cause' side because b fault.Stopped f h = f h
@@ -50,7 +50,7 @@ from_told own cause side because b (fault.BadState line) h = absurd h
 from_told own cause side because b (fault.BadJournal line) h = absurd h
 from_told own cause side because b fault.NoMemory h = tt
 
--- what the mailboxes tell of a copy, the source first
+-- what the mailboxes report of a copy, the source first
 module _ (a b ca cb ca' cb' : Type 0) (sa sb : Side) (ra rb : BoxFault → Mailbox → Type 0) (na nb : Mailbox) where
   abbrev Either : (ca cb : Type 0) → OutsideFault → Type 0
   Either ca cb e = IsTold a ca sa ra na e ⊎ IsTold b cb sb rb nb e
@@ -112,12 +112,12 @@ module _ {F N S : Type 0} {fars : mailbox.Ghosts F} {nears : mailbox.Ghosts N} {
   abbrev near_cause : Type 0
   near_cause = HasCause (nears.ended p.near near) (nears.seen p.near) (nears.seen near)
 
-  -- what a pull tells, for these causes of stops
+  -- what a pull reports, for these causes of stops
   abbrev pulls : (of_far of_near : Type 0) → OutsideFault → Type 0
   pulls of_far of_near e =
       IsTold (fars.honest far) of_far sides.Far Never (fars.seen far).stored e ⊎ IsTold (nears.honest near) of_near sides.Near (NoRoom sides.Near (λ _. 1)) (nears.seen near).stored e
 
-  -- what a push tells
+  -- what a push reports
   abbrev pushes : (of_near of_far : Type 0) → OutsideFault → Type 0
   pushes of_near of_far e =
       IsTold (nears.honest near) of_near sides.Near Never (nears.seen near).stored e ⊎ IsTold (fars.honest far) of_far sides.Far (NoRoom sides.Far (λ _. 1)) (fars.seen far).stored e

@@ -109,7 +109,7 @@ left_none does part fault.NoMemory d d' h = inl h
 pub stays_left : {T : Type 0} (does : T → Effect Device) (part : Effect Device) (direction : Direction) (e : OutsideFault) (m m' n : Mailbox) (d : Device) → m' ≡ m → LeavesBy does part e (with_two direction m n d) (with_two direction m' n d)
 stays_left does part direction e m m' n d h = left_none does part e _ _ (ap (λ (z : Mailbox). with_two direction z n d) h)
 
--- a call that reads has changed nothing, whatever it tells
+-- a call that reads has changed nothing, whatever it reports
 pub read_stays : {T : Type 0} (because : BoxFault → Mailbox → Type 0) (tells : T → Mailbox → Type 0) (f : BoxFault) (m m' : Mailbox) → calls.LeavesBy (ops.Answers tells) Nothing because f m m' → m' ≡ m
 read_stays because tells boxes.Stopped m m' (inl h) = h
 read_stays because tells boxes.Stopped m m' (inr (inl h)) = h.done.0

@@ -1,4 +1,4 @@
--- A call of the outside ends: what it tells is what is counted.
+-- A call of the outside ends: what it reports is what is counted.
 use Rattle.std.proofs.Common.{◌≡◌, ◌∙◌, inl, inr, ap, sym, refl, subst, ℕ, Bool, true, false, List, Result, Ok, Err, arith}
 use Rattle.std.specs.Prelude.{IfErr, OnOk}
 use Rattle.device.specs.Calls.{Effect, Follows}
@@ -37,7 +37,7 @@ stuck honest ours alone copies may_tell does leaves d c broken may same = record
   };
 }
 
--- ---- an answer is told as it is
+-- ---- an answer is reported as it is
 
 module _ {T : Type 0} (honest : Type 0) (others : Effect Device) (copies : T → ℕ) (may_tell : OutsideFault → Type 0) (does : T → Effect Device) (leaves : OutsideFault → Effect Device) (d d' : Device) (c : Counts)
     (whole : c.is_broken ≡ false) (sparing : AreSparing others does leaves) (files : honest → FilesGoOn d.files d'.files) where

@@ -1,4 +1,4 @@
--- How the faults of a book are told.
+-- How the faults of a book are reported.
 use Rattle.std.specs.Prelude.{Result, Ok, Err}
 use Rattle.sync_state.specs.declared.fault.BookFault.{BookFault}
 use Rattle.sync_state.specs.declared.fault.BookFault.TheVariants as book

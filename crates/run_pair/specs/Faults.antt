@@ -1,4 +1,4 @@
--- How a fault of a mailbox is told by the outside, and why it is told.
+-- How a fault of a mailbox is reported by the outside, and why it is reported.
 use Rattle.std.specs.Prelude.{◌≡◌, ◌⊎◌, Result, Ok, Err}
 use Rattle.mailcore.specs.declared.side.Side.{Side}
 use Rattle.mailcore.specs.Mailboxes.{Mailbox}
@@ -8,7 +8,7 @@ use Rattle.mailbox.specs.FaultNumbers.{FAR_REFUSED}
 use Rattle.outside.specs.declared.fault.OutsideFault.{OutsideFault}
 use Rattle.outside.specs.declared.fault.OutsideFault.TheVariants as outside
 
--- a fault of its own is told with its side
+-- a fault of its own is reported with its side
 abbrev pub told : Side → BoxFault → OutsideFault
 told side box.Stopped = outside.Stopped
 told side box.Refused = outside.Refused
@@ -31,8 +31,8 @@ unstepped (Err box.NoMemory) = Err box.NoMemory
 abbrev pub OrRefusal : (because : BoxFault → Mailbox → Type 0) → BoxFault → Mailbox → Type 0
 OrRefusal because fault b = because fault b ⊎ ((fault ≡ box.Own FAR_REFUSED) × because box.Refused b)
 
--- A call of the mailbox of this side tells this fault. A stop has this cause. A refusal, and a fault of its own, which names this side,
--- are told of the mailbox as it is now, for its reason, where the device below has kept its word.
+-- A call of the mailbox of this side reports this fault. A stop has this cause. A refusal, and a fault of its own, which names this side,
+-- are reported of the mailbox as it is now, for its reason, where the device below has behaved as specified.
 abbrev pub IsTold : (honest cause : Type 0) → Side → (because : BoxFault → Mailbox → Type 0) → (now : Mailbox) → OutsideFault → Type 0
 IsTold honest cause side because now outside.Stopped = cause
 IsTold honest cause side because now outside.Refused = honest → because box.Refused now

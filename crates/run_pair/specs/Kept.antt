@@ -91,7 +91,7 @@ abbrev pub TakesGivingUp : Option Kept → Type 0
 TakesGivingUp None = ⊥
 TakesGivingUp (Some k) = IsPlanned k.pending
 
--- ---- what calls do to the files, and what they tell
+-- ---- what calls do to the files, and what they report
 
 -- the effect of a book that was read, by the journal that it has
 abbrev pub OfKept : (Pending → Effect Files) → Option Kept → Effect Files
@@ -111,7 +111,7 @@ abbrev pub IsTaken : Option Kept → Logged → Type 0
 IsTaken None logged = ⊥
 IsTaken (Some k) logged = is_refused k.state.entries k.pending logged ≡ true
 
--- logging a step as done: a UID that is taken is told as line 0 of the state
+-- logging a step as done: a UID that is taken is reported as line 0 of the state
 abbrev pub FromLog : Option Kept → Logged → OutsideFault → Type 0
 FromLog kept logged Stopped = Unit {0}
 FromLog kept logged Refused = ⊥

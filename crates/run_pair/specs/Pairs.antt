@@ -26,7 +26,7 @@ use Rattle.run_pair.specs.Parts.{both, device_with, opened_with}
 use Rattle.run_pair.specs.Tallies.{seen_with}
 
 module _ {F N S : Type 0} {fars : mailbox.Ghosts F} {nears : mailbox.Ghosts N} {shelves : shelf.Ghosts S} where
-  -- both mailboxes and the shelf have kept their word so far
+  -- both mailboxes and the shelf have behaved as specified so far
   abbrev pub honest_of : Pair F N S fars nears shelves → Type 0
   honest_of p = fars.honest p.far × nears.honest p.near × (shelves.is_honest ≡ true)
 
@@ -58,7 +58,7 @@ module _ {F N S : Type 0} {fars : mailbox.Ghosts F} {nears : mailbox.Ghosts N} {
   abbrev pub BoxChange : (does part : Effect Device) → (old new : Pair F N S fars nears shelves) → Result (Unit {0}) OutsideFault → Type 0
   BoxChange does part old new result = Changes {T = Unit {0}} (honest_of new) (Arrives (both fars.ours nears.ours) (fars.alone && nears.alone)) (λ _. does) part (seen_of old) (seen_of new) result
 
-  -- a call of a mailbox that tells what is so
+  -- a call of a mailbox that reports what is so
   abbrev pub BoxRead : {T : Type 0} → (tells : T → Device → Type 0) → (old new : Pair F N S fars nears shelves) → Result T OutsideFault → Type 0
   BoxRead tells old new result = Reads (honest_of new) (Arrives (both fars.ours nears.ours) (fars.alone && nears.alone)) tells (seen_of old) (seen_of new) result
 
@@ -66,7 +66,7 @@ module _ {F N S : Type 0} {fars : mailbox.Ghosts F} {nears : mailbox.Ghosts N} {
   abbrev pub BoxOpens : {T : Type 0} → (tells : T → Device → Type 0) → (old new : Pair F N S fars nears shelves) → Result T OutsideFault → Type 0
   BoxOpens tells old new result = Opens (honest_of new) (Arrives (both fars.ours nears.ours) (fars.alone && nears.alone)) tells (seen_of old) (seen_of new) result
 
-  -- ---- why a call tells a fault
+  -- ---- why a call reports a fault
 
   -- a call has failed since the outside was opened, or this is so of the parts of the call
   abbrev pub Failed : (old : Pair F N S fars nears shelves) → (cause : Type 0) → Type 0
@@ -77,7 +77,7 @@ module _ {F N S : Type 0} {fars : mailbox.Ghosts F} {nears : mailbox.Ghosts N} {
   BoxCause Far old new = HasCause (fars.ended old.far new.far) (fars.seen old.far) (fars.seen new.far)
   BoxCause Near old new = HasCause (nears.ended old.near new.near) (nears.seen old.near) (nears.seen new.near)
 
-  -- the mailbox of this side has kept its word so far
+  -- the mailbox of this side has behaved as specified so far
   abbrev pub box_honest : Side → Pair F N S fars nears shelves → Type 0
   box_honest Far p = fars.honest p.far
   box_honest Near p = nears.honest p.near
@@ -96,7 +96,7 @@ module _ {F N S : Type 0} {fars : mailbox.Ghosts F} {nears : mailbox.Ghosts N} {
   CannotOpen Far old fault now = fars.unfit old.far fault
   CannotOpen Near old fault now = nears.unfit old.near fault
 
-  -- a call that copies: the source tells only stops and want of memory, the target refuses for want of a UID
+  -- a call that copies: the source reports only stops and lack of memory, the target refuses for want of a UID
   abbrev pub ByCopy : Direction → (old new : Pair F N S fars nears shelves) → OutsideFault → Type 0
   ByCopy direction old new fault = ByBox (source direction) Never old new fault ⊎ ByBox (target direction) (NoRoom (target direction) (λ _. 1)) old new fault
 
@@ -108,7 +108,7 @@ module _ {F N S : Type 0} {fars : mailbox.Ghosts F} {nears : mailbox.Ghosts N} {
   abbrev pub ByBook : (old new : Pair F N S fars nears shelves) → Type 0
   ByBook old new = Failed old (BookCause old new)
 
-  -- a call of the book behind a sync of the near mailbox
+  -- a call of the book after a sync of the near mailbox
   abbrev pub BySyncedBook : (old new : Pair F N S fars nears shelves) → Type 0
   BySyncedBook old new = Failed old (BoxCause Near old new ⊎ BookCause old new)
 

@@ -4,7 +4,7 @@ use Rattle.device.specs.Calls.{Effect, Leaves, Stays}
 use Rattle.outside.specs.declared.fault.OutsideFault.{OutsideFault}
 use Rattle.outside.specs.declared.fault.OutsideFault.TheVariants.{Stopped, Refused, Box, BadState, BadJournal, NoMemory}
 
--- A call that answers has its effect, and one that does not leaves what its fault says. It is said where the shelf keeps its word.
+-- A call that answers has its effect, and one that does not leaves what its fault says. It is said where the shelf behaves as specified.
 abbrev pub Part : {D T : Type 0} → (honest : Type 0) → (does : T → Effect D) → (leaves : OutsideFault → Effect D) → D → D → Result T OutsideFault → Type 0
 Part honest does leaves old new (Ok answer) = honest → does answer old new
 Part honest does leaves old new (Err fault) = honest → leaves fault old new

@@ -1,4 +1,4 @@
--- Why a call of the book stops, and what an answer says of stops. It is said of every shelf, whether it keeps its word or not.
+-- Why a call of the book stops, and what an answer says of stops. It is said of every shelf, whether it behaves as specified or not.
 use Rattle.std.specs.Prelude.{◌≡◌, ◌<◌, ◌⊎◌, ℕ, Bool, true, false, not, Result, Ok, Err}
 use Rattle.device.specs.Calls.{Seen}
 use Rattle.outside.specs.declared.fault.OutsideFault.{OutsideFault}

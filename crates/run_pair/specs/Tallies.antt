@@ -6,7 +6,7 @@ use Rattle.outside.specs.Calls.{Seen, stops_told}
 use Rattle.mailcore.specs.declared.side.Side.{Side}
 use Rattle.outside.specs.Devices.{Device, Named}
 
--- whether a call has failed since the outside was opened; the faults that were told, the last first; how many copies were made; which
+-- whether a call has failed since the outside was opened; the faults that were reported, the last first; how many copies were made; which
 -- messages were named, the last first; and how the device was each time it was opened again, the last first
 pub record Counts : Type 0 where
   pub is_broken : Bool
@@ -19,7 +19,7 @@ pub record Counts : Type 0 where
 abbrev pub untouched : Counts
 untouched = record { is_broken = false; told = []; copies = 0; named = []; reopened = [] }
 
--- a call has told this fault
+-- a call has reported this fault
 abbrev pub failed : OutsideFault → Counts → Counts
 failed fault c = record c { is_broken = true; told = fault ∷ c.told }
 
@@ -40,7 +40,7 @@ ended copies (Err fault) c = failed fault c
 abbrev pub no_copies : {T : Type 0} → T → ℕ
 no_copies answer = 0
 
--- The messages that are named behind a call with this answer, which was to change or to remove a message. It is named, unless the
+-- The messages that are named after a call with this answer, which was to change or to remove a message. It is named, unless the
 -- fault says that nothing was changed.
 abbrev pub named_by : {T : Type 0} → Named → Result T OutsideFault → List Named → List Named
 named_by message (Ok answer) before = message ∷ before

@@ -1,4 +1,4 @@
-//! How the faults of a book are told.
+//! How the faults of a book are reported.
 
 ghost use Rattle.std.specs.Prelude.{◌≡◌};
 ghost use Rattle.run_pair.specs.BookFaults.{told, told_by};
@@ -6,7 +6,7 @@ ghost use Rattle.run_pair.specs.BookFaults.{told, told_by};
 use outside::fault::OutsideFault;
 use sync_state::fault::BookFault;
 
-/// How a fault of the book is told.
+/// How a fault of the book is reported.
 pub(crate) fn told(fault: BookFault) -> OutsideFault
     ensures { result ≡ told fault }
 {
@@ -18,7 +18,7 @@ pub(crate) fn told(fault: BookFault) -> OutsideFault
     }
 }
 
-/// How an answer of the book is told.
+/// How an answer of the book is reported.
 pub(crate) fn told_by(answer: Result<(), BookFault>) -> Result<(), OutsideFault>
     ensures { result ≡ told_by answer }
 {

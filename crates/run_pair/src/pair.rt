@@ -28,8 +28,8 @@ use sync_state::journal::Journal;
 
 /// The outside of a run over a far mailbox, a near one and a book. While no call has failed, each of them is whole.
 ///
-/// Besides what the trait asks, each call says why it tells a fault (`why`), and that it is counted as it is told (`tallied`).
-/// A plan is written, and a run is ended, behind a sync of the near mailbox (`synced`).
+/// Besides what the trait asks, each call says why it reports a fault (`why`), and that it is counted as it is reported (`tallied`).
+/// A plan is written, and a run is ended, after a sync of the near mailbox (`synced`).
 #[derive(Drop)]
 pub struct Pair<F: Mailbox, N: Mailbox, S: Shelf> {
     pub(crate) alloc: Global,

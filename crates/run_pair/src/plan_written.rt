@@ -1,4 +1,4 @@
-//! The plan of a run is written behind a sync of the near mailbox.
+//! The plan of a run is written after a sync of the near mailbox.
 
 ghost use Rattle.std.specs.Prelude.{◌≡◌, ◌⊎◌, ◌<◌, true, false, OnOk, IfErr, IsErrOf};
 ghost use Rattle.mailcore.specs.declared.side.Side.TheVariants as sides;
@@ -20,7 +20,7 @@ use mailcore::side::Side;
 use outside::fault::OutsideFault;
 use rules::plan::Plan;
 
-/// Writes the plan, behind a sync of the near mailbox: it names UIDs that files there were given just before.
+/// Writes the plan, after a sync of the near mailbox: it names UIDs that files there were given just before.
 pub(crate) fn begin_synced<N: Mailbox, S: Shelf + Drop>(
     near: &mut N,
     book: &mut BookPart<S>,

@@ -1,4 +1,4 @@
-//! A run is ended behind a sync of the near mailbox.
+//! A run is ended after a sync of the near mailbox.
 
 ghost use Rattle.std.specs.Prelude.{◌≡◌, ◌⊎◌, ◌<◌, true, false, OnOk, IfErr, IsErrOf};
 ghost use Rattle.mailcore.specs.declared.side.Side.TheVariants as sides;
@@ -17,7 +17,7 @@ use mailbox::mailbox::Mailbox;
 use mailcore::side::Side;
 use outside::fault::OutsideFault;
 
-/// Ends the run, behind a sync of the near mailbox: no entry of the new state may outlive its message.
+/// Ends the run, after a sync of the near mailbox: no entry of the new state may outlive its message.
 pub(crate) fn commit_synced<N: Mailbox, S: Shelf + Drop>(
     near: &mut N,
     book: &mut BookPart<S>,

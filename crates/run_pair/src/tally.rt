@@ -1,4 +1,4 @@
-//! Whether calls of an outside are answered, what was told and named, and how the device was each time it was opened again.
+//! Whether calls of an outside are answered, what was reported and named, and how the device was each time it was opened again.
 
 ghost use Rattle.std.specs.Prelude.{◌≡◌, false};
 ghost use Rattle.outside.specs.BoxCalls.{copies_made};
@@ -19,8 +19,8 @@ use outside::fault::OutsideFault;
 use outside::outside::Carried;
 use std::marker::Model;
 
-/// Whether calls of an outside are answered, and, for contracts alone, which faults were told, how many copies were made, which messages
-/// calls have named, and how the device was each time the outside was opened again.
+/// Whether calls of an outside are answered, and, for contracts alone, which faults were reported, how many copies were made, which
+/// messages calls have named, and how the device was each time the outside was opened again.
 #[derive(Drop)]
 pub struct Tally {
     is_broken: bool,
@@ -144,7 +144,7 @@ impl Tally {
         answer
     }
 
-    /// No call is answered any more, as behind a stop.
+    /// No call is answered any more, as after a stop.
     pub fn stop(&mut self)
         ensures { self.new ≡ failed OutsideFault.Stopped self.old }
     {
@@ -166,7 +166,7 @@ impl Tally {
         self.reopened = self.reopened.and();
     }
 
-    /// A call tells this fault, and from now on none is answered.
+    /// A call reports this fault, and from now on none is answered.
     fn fail(&mut self, fault: OutsideFault)
         ensures { self.new ≡ failed fault self.old }
     {
@@ -175,7 +175,7 @@ impl Tally {
     }
 }
 
-/// How a fault of the mailbox of a side is told.
+/// How a fault of the mailbox of a side is reported.
 pub(crate) fn told(side: Side, fault: BoxFault) -> OutsideFault
     ensures { result ≡ told side fault }
 {

@@ -54,7 +54,7 @@ pub marks_are : (ours : List ℕ → Bool) (w : World) (options : Options) (plan
 marks_are ours w options plan p = in_turn (scene_of w options) (scene_of w options) refl p.marks plan.steps (p.are_marks).count (p.is_plan).steps
 
 module _ (ours : List ℕ → Bool) (alone : Bool) {earlier : List Named} (w : World) (options : Options) (version : Version) (plan : Plan) (log : List Logged) (none : next_of plan.steps log ≡ None) where
-  -- behind the last step nothing is half done
+  -- after the last step nothing is half done
   pub whole_at : (torn : Bool) (d : Device) → Stands ours alone earlier w options version plan log torn d → Midway ours alone earlier w options version plan log torn log false d
   whole_at torn d (inl k) =
       let at = k.1 in

@@ -17,7 +17,7 @@ use Rattle.outside.proofs.Order.{store_more}
 use Rattle.run_states.specs.Openings.{Opening, Grows, IsIdle, Since, Unplanned, world_at}
 use Rattle.run_states.proofs.Foreign.{two}
 
--- files come behind those that have come, some of which have their UIDs
+-- files come after those that have come, some of which have their UIDs
 gathered_more : (ws arrived named waiting files now : List Waiting) → IsPermutation (ws ++ arrived) (named ++ waiting) → IsPermutation (waiting ++ files) now → IsPermutation (ws ++ (arrived ++ files)) (named ++ now)
 gathered_more ws arrived named waiting files now m k =
     subst (λ (l : List Waiting). IsPermutation l (named ++ now)) (append_assoc ws arrived files)

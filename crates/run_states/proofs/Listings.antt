@@ -33,7 +33,7 @@ use Rattle.run_states.proofs.Foreign.{two, own_arrived}
 use Rattle.run_states.proofs.Moves.{same_boxes}
 use Rattle.run_states.proofs.Naming.{named_none}
 
--- the world of a far listing on one device, under the next UID that it told, and of a near one later
+-- the world of a far listing on one device, under the next UID that it reported, and of a near one later
 abbrev pub listed_world : (s : SyncState) (next : ℕ) (d m : Device) → World
 listed_world s next d m = record { far = record d.far { next = next }; near = m.near.store; waiting = m.near.waiting; state = s }
 

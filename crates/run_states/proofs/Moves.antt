@@ -26,7 +26,7 @@ use Rattle.run_states.specs.Moments.{HasBegun, Midway, Stands, boxes_at, with_lo
 use Rattle.run_states.specs.Plans.{NamedBy, names_of}
 use Rattle.run_states.proofs.Foreign.{two, own_arrived}
 
--- a device with others of its messages, behind a call that named these
+-- a device with others of its messages, after a call that named these
 pub record IsMoved (names : List Named) (d d' : Device) (b : Boxes) : Type 0 where
   pub validity : (side : Side) → (box d' side).validity ≡ (box d side).validity
   pub next : (side : Side) → (box d' side).next ≡ (box d side).next

@@ -1,4 +1,4 @@
--- The step behind as many results.
+-- The step after as many results.
 use Rattle.std.proofs.Common.{◌≡◌, ◌<◌, ◌≤◌, ◌+◌, suc, List, [], ◌∷◌, ◌++◌, length, get_or, drop, Some, None, Option, ℕ, refl, sym, subst, arith}
 use Rattle.std.specs.Prelude.{Contains, is_some}
 use Rattle.std.proofs.Math.Seq.{drop-nil}
@@ -77,7 +77,7 @@ fit_last [] log s r f is = cc
 fit_last (t ∷ ss) [] s r f is = let same : t ≡ s = cc in subst (λ (x : Step). is_some (result_of r) ≡ makes_copy x) same f.0
 fit_last (t ∷ ss) (x ∷ rs) s r f is = fit_last ss rs s r f.1 is
 
--- behind the last step there is no result
+-- after the last step there is no result
 pub fit_past : (steps : List Step) (log : List Logged) (r : Logged) → next_of steps log ≡ None → Fit steps (results_of (log ++ r ∷ [])) → ⊥
 fit_past [] [] r is f = f
 fit_past [] (x ∷ rs) r is f = f

@@ -83,7 +83,7 @@ module _ (ours : List ℕ → Bool) (alone : Bool) (earlier : List Named) (w : W
         nobody = at.nobody;
       }
 
-  -- where both mailboxes, as they are seen, become those behind the step
+  -- where both mailboxes, as they are seen, become those after the step
   pub now_done : (names : List Named) → All (λ n. Contains (flat_map names_of plan.steps) n) names → (torn is_half : Bool) (d d' : Device) (b : Boxes) (at : Midway ours alone earlier w options version plan log torn log is_half d) → IsMoved names d d' b → own (is_own w at.planned.marks) b ≡ step_after before s None → (alone ≡ true → own (is_own w at.planned.marks) b ≡ b) → Midway ours alone earlier w options version plan log torn (log ++ Done ∷ []) false d'
   now_done names of_step torn is_half d d' b at m e nobody = record {
     planned = at.planned;

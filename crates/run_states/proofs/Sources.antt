@@ -76,7 +76,7 @@ new_copies s marks =
     (new_steps_all (λ st. makes_copy st ≡ true) Pull (news s Pull) _ (λ i c m. refl))
     (new_steps_all (λ st. makes_copy st ≡ true) Push (news s Push) _ (λ i c m. refl))
 
--- behind a step that makes no copy there is none that makes one
+-- after a step that makes no copy there is none that makes one
 copies_first : (xs ys : List Step) (log : List Logged) (s : Step) → All (λ st. makes_copy st ≡ false) ys → next_of (xs ++ ys) log ≡ Some s → makes_copy s ≡ true → length log < length xs
 copies_first [] ys log s none is copies = absurd (both_ways false refl (sym (All-contains (λ st. makes_copy st ≡ false) ys s none (next_contained ys log s is)) ∙ copies))
 copies_first (x ∷ xs) ys [] s none is copies = omega arith
@@ -109,7 +109,7 @@ drop_short zero (r ∷ results) le = absurd (omega arith)
 drop_short (suc n) [] le = refl
 drop_short (suc n) (r ∷ results) le = drop_short n results (omega arith)
 
--- so the messages of both sides are there, and copies behind them
+-- so the messages of both sides are there, and copies after them
 pub sources_stay : (w : World) (options : Options) (marks : List (List ℕ)) (log : List Logged) (s : Step) (side : Side) → next_of (all_steps (scene_of w options) marks) log ≡ Some s → makes_copy s ≡ true → (cs : List Message) × (box (after (all_steps (scene_of w options) marks) (results_of log) (boxes_of w)) side ≡ box (boxes_of w) side ++ cs)
 sources_stay w options marks log s side is copies =
     let sc : Scene = scene_of w options in

@@ -37,7 +37,7 @@ pub record Midway (ours : List ℕ → Bool) (alone : Bool) (earlier : List Name
   pub named : NamedBy earlier plan.steps d.named
   pub nobody : alone ≡ true → (own (is_own w planned.marks) (boxes_at d) ≡ boxes_at d) × (d.near.waiting ≡ [])
 
--- behind the steps that are logged none of the calls of the next one is done, or the first of two, or all of them
+-- after the steps that are logged none of the calls of the next one is done, or the first of two, or all of them
 abbrev pub Stands : (List ℕ → Bool) → Bool → List Named → World → Options → Version → Plan → (log : List Logged) → (is_torn : Bool) → Device → Type 0
 Stands ours alone earlier w options version plan log is_torn d =
     ((is_half : Bool) × Midway ours alone earlier w options version plan log is_torn log is_half d)

@@ -44,7 +44,7 @@ pub record Grows (alone : Bool) (w now : World) : Type 0 where
   pub near : now.near.messages ≡ w.near.messages ++ numbered_under uids named
   pub nobody : alone ≡ true → (now.far ≡ w.far) × (named ++ now.waiting ≡ w.waiting)
 
--- there is no plan of the run behind this state: no journal, or one without a plan or of a run that was made
+-- there is no plan of the run after this state: no journal, or one without a plan or of a run that was made
 abbrev pub IsIdle : Pending → Type 0
 IsIdle Missing = Unit {0}
 IsIdle Useless = Unit {0}

@@ -31,7 +31,7 @@ pub record IsPlanned (ours : List ℕ → Bool) (w : World) (options : Options) 
   pub is_plan : IsPlanOf w options marks plan
   pub next : (side : Side) → first_uid plan side ≡ (store w side).next
 
--- the step behind as many as there are results
+-- the step after as many as there are results
 abbrev pub next_of : List Step → List Logged → Option Step
 next_of [] results = None
 next_of (s ∷ steps) [] = Some s
