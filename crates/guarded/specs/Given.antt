@@ -4,12 +4,12 @@ use Rattle.std.specs.List.{zip}
 use Rattle.mailcore.specs.declared.side.Direction.TheVariants.{Pull, Push}
 use Rattle.mailcore.specs.declared.side.Side.TheVariants.{Far}
 use Rattle.rules.specs.declared.plan.Step.{Step}
-use Rattle.rules.specs.declared.plan.Step.TheVariants.{New, Gone, Flags, Expunge}
+use Rattle.rules.specs.declared.plan.Step.TheVariants.{New}
 use Rattle.rules.specs.declared.state.SyncState.{SyncState}
 use Rattle.rules.specs.Entries.{uid_of}
 use Rattle.sync_state.specs.declared.journal.Journal.{Journal}
 use Rattle.sync_state.specs.declared.journal.Logged.{Logged}
-use Rattle.sync_state.specs.declared.journal.Logged.TheVariants.{Copied, Done, Void}
+use Rattle.sync_state.specs.declared.journal.Logged.TheVariants.{Copied}
 use Rattle.guarded.specs.declared.given.Given.{Given}
 
 -- the greatest of a number and others

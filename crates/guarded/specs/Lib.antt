@@ -2,3 +2,4 @@ pub mod Dues
 pub mod Given
 pub mod Listed
 pub mod Removals
+pub mod Watches

@@ -1,7 +1,8 @@
 //! What is looked at once more before anything is done: no message that is there may count as removed, none that was kept may be removed,
 //! and the far mailbox may not give UIDs a second time.
 
-ghost use Rattle.std.specs.Prelude.{◌≡◌, false};
+ghost use Rattle.std.specs.Prelude.{◌≡◌, ◌&&◌, true, false, IfOk, IsErr, IsOk};
+ghost use Rattle.guarded.specs.Watches.{finds_nothing};
 
 use crate::due::due_of;
 use crate::given::Given;
@@ -26,6 +27,33 @@ use sync_state::journal::Journal;
 /// How many seconds a look holds, where one step after another removes messages.
 const LOOK_HOLDS: u64 = 1;
 
+/// What is watched of a plan that is pending.
+#[derive(Drop)]
+struct Watch {
+    /// What it removes.
+    removals: Removals,
+    /// How many of its steps are logged.
+    logged: usize,
+    /// Whether a look was made since it is pending, and the last one found nothing.
+    is_clear: bool,
+    /// Whether the far mailbox was listed since messages were removed there.
+    has_listed: bool,
+}
+
+impl Watch {
+    /// No look was made yet.
+    fn over(removals: Removals, logged: usize) -> Self
+        ensures { result ≡ record { removals = removals; logged = logged; is_clear = false; has_listed = false } }
+    {
+        Watch {
+            removals,
+            logged,
+            is_clear: false,
+            has_listed: false,
+        }
+    }
+}
+
 /// Who looks into the near mailbox before a plan is begun or resumed, and while it removes messages: where a message is there that counts
 /// as removed, or is not marked as deleted any more, the run stops. So it does where the far mailbox still lists a message that was
 /// expunged. A far mailbox that was put back to an earlier time is refused when it is opened: the near mailbox is not opened then.
@@ -35,16 +63,10 @@ pub struct NearLook<R: Files + AllocGlobal + Clone + Drop> {
     folder: String,
     /// What the far mailbox is known to have given.
     given: Given,
-    /// What the plan that is pending removes.
-    removals: Removals,
-    /// How many of its steps are logged.
-    logged: usize,
-    /// Whether a look was made since the plan is pending.
-    has_looked: bool,
+    /// What is watched of the plan that is pending.
+    watch: Watch,
     /// When the last look was made before a message was marked or removed.
     looked_at: Option<SystemTime>,
-    /// Whether the far mailbox was listed since messages were removed there.
-    has_listed: bool,
     /// What was found first since all was opened.
     objection: Cell<Option<Objection>>,
     /// Whether nothing was.
@@ -54,16 +76,13 @@ pub struct NearLook<R: Files + AllocGlobal + Clone + Drop> {
 impl<R: Files + AllocGlobal + Clone + Drop> NearLook<R> {
     /// A look into this folder.
     pub fn new(rt: R, folder: String) -> Self {
-        let removals = Removals::none(rt.alloc());
+        let watch = Watch::over(Removals::none(rt.alloc()), 0);
         NearLook {
             rt,
             folder,
             given: Given::nothing(),
-            removals,
-            logged: 0,
-            has_looked: false,
+            watch,
             looked_at: None,
-            has_listed: false,
             objection: Cell::new(None),
             goes_on: true,
         }
@@ -76,40 +95,63 @@ impl<R: Files + AllocGlobal + Clone + Drop> NearLook<R> {
 
     /// Notes why the run is not to go on, if nothing was noted before.
     fn note(&mut self, objection: Objection)
-        ensures { self.new.goes_on ≡ false }
+        ensures goes_on { self.new.goes_on ≡ false }
+        ensures given { self.new.given ≡ self.old.given }
+        ensures watch { self.new.watch ≡ self.old.watch }
     {
         let noted = self.objection.take();
         self.objection.set(Some(noted.unwrap_or(objection)));
         self.goes_on = false;
     }
 
-    /// Takes this plan for the one that is pending, of which no look was made.
-    fn watch(&mut self, removals: Result<Removals, AllocError>, logged: usize) {
-        self.logged = logged;
-        self.has_looked = false;
+    /// Takes a plan that removes this for the one that is pending, of which no look was made.
+    fn watch(&mut self, removals: Result<Removals, AllocError>, logged: usize)
+        ensures watch { IfOk removals (λ r. self.new.watch ≡ record { removals = r; logged = logged; is_clear = false; has_listed = false }) }
+        ensures goes_on { IsOk removals → self.new.goes_on ≡ self.old.goes_on }
+        ensures refused { IsErr removals → self.new.goes_on ≡ false }
+        ensures given { self.new.given ≡ self.old.given }
+    {
         self.looked_at = None;
-        self.has_listed = false;
         match removals {
-            Ok(removals) => self.removals = removals,
+            Ok(removals) => self.watch = Watch::over(removals, logged),
             Err(AllocError) => self.note(Objection::Unlooked(Trouble::Other)),
         }
     }
 
     /// Looks for a message that is not as the steps that are left take it to be, and notes it.
-    fn look(&mut self) {
-        match self.stale() {
+    fn look(&mut self)
+        ensures goes_on { self.new.goes_on ≡ (self.old.goes_on && self.new.watch.is_clear) }
+        ensures watch { self.new.watch ≡ record self.old.watch { is_clear = self.new.watch.is_clear } }
+        ensures given { self.new.given ≡ self.old.given }
+    {
+        let found = self.stale();
+        self.heed(found);
+    }
+
+    /// Notes what a look has found, or that it failed.
+    fn heed(&mut self, found: io::Result<Option<Objection>>)
+        ensures goes_on { self.new.goes_on ≡ (self.old.goes_on && finds_nothing found) }
+        ensures watch { self.new.watch ≡ record self.old.watch { is_clear = finds_nothing found } }
+        ensures given { self.new.given ≡ self.old.given }
+    {
+        self.watch.is_clear = matches!(found, Ok(None));
+        match found {
             Ok(None) => {}
             Ok(Some(objection)) => self.note(objection),
             Err(error) => self.note(Objection::Unlooked(Trouble::of(error.kind()))),
         }
-        self.has_looked = true;
     }
 
     /// The first near message that is not as the steps that are left take it to be. Where they remove nothing, the folder is not read.
     fn stale(&self) -> io::Result<Option<Objection>> {
         let alloc = self.rt.alloc();
-        let gone = due_of(alloc, self.removals.gone.as_slice(), self.logged)?;
-        let marked = due_of(alloc, self.removals.marked.as_slice(), self.logged)?;
+        let Watch {
+            removals,
+            logged,
+            ..
+        } = &self.watch;
+        let gone = due_of(alloc, removals.gone.as_slice(), *logged)?;
+        let marked = due_of(alloc, removals.marked.as_slice(), *logged)?;
         if gone.is_empty() && marked.is_empty() {
             return Ok(None);
         }
@@ -132,12 +174,10 @@ fn objection_to(stale: Stale) -> Objection {
 
 impl<R: Files + Clock + AllocGlobal + Clone + Drop> NearLook<R> {
     /// Whether a look is due before a call: before the first of a plan, and while messages are removed once a second.
-    fn is_due(&self, removes: bool) -> bool {
-        if removes {
-            !self.is_fresh()
-        } else {
-            !self.has_looked
-        }
+    fn is_due(&self, removes: bool) -> bool
+        ensures { self.now.watch.is_clear ≡ false → result ≡ true }
+    {
+        !self.watch.is_clear || removes && !self.is_fresh()
     }
 
     /// Whether the last look before a removal was made just now.
@@ -153,9 +193,19 @@ impl<R: Files + Clock + AllocGlobal + Clone + Drop> NearLook<R> {
 }
 
 impl<R: Files + Clock + AllocGlobal + Clone + Drop> Guard for NearLook<R> {
+    ghost use Rattle.std.specs.Prelude.{is_none};
+    ghost use Rattle.std.specs.Option.{option_copied};
+    ghost use Rattle.guarded.specs.Given.{given_by, is_again};
+    ghost use Rattle.guarded.specs.Listed.{still_listed};
+    ghost use Rattle.guarded.specs.Removals.{AreRemovals};
+    ghost use Rattle.guarded.specs.Watches.{IsWatched, asks_far};
+
     ghost goes_on = { λ look. look.goes_on };
 
-    fn reads(&mut self, state: &SyncState, pending: Option<&Journal>) {
+    fn reads(&mut self, state: &SyncState, pending: Option<&Journal>)
+        ensures given { self.new.given ≡ given_by state.now (option_copied pending.entry) }
+        ensures watch { self.new.goes_on ≡ true → IsWatched (option_copied pending.entry) self.new.watch }
+    {
         self.given = Given::by(state, pending);
         let alloc = self.rt.alloc();
         match pending {
@@ -167,26 +217,43 @@ impl<R: Files + Clock + AllocGlobal + Clone + Drop> Guard for NearLook<R> {
         }
     }
 
-    fn may_open(&mut self, validity: u32, next: u32) -> bool {
+    fn may_open(&mut self, validity: u32, next: u32) -> bool
+        ensures answer { result ≡ self.new.goes_on }
+        ensures again { result ≡ (self.old.goes_on && is_none (is_again self.old.given validity next)) }
+    {
         if let Some(known) = self.given.again(validity, next) {
             self.note(Objection::Anew { next, known });
         }
         self.goes_on
     }
 
-    fn may_begin(&mut self, plan: &Plan) -> bool {
+    // It is begun only after a look that found nothing.
+    fn may_begin(&mut self, plan: &Plan) -> bool
+        ensures answer { result ≡ self.new.goes_on }
+        ensures clear { result ≡ true → self.new.watch.is_clear ≡ true }
+        ensures removals { result ≡ true → AreRemovals plan.now.steps plan.now.notes self.new.watch.removals }
+        ensures logged { result ≡ true → self.new.watch.logged ≡ 0 }
+    {
         let removals = Removals::of(self.rt.alloc(), plan);
         self.watch(removals, 0);
         self.look();
         self.goes_on
     }
 
-    fn logs(&mut self, step: usize) {
-        self.logged = step;
+    fn logs(&mut self, step: usize)
+        ensures watch { self.new.watch ≡ record self.old.watch { logged = step } }
+        ensures goes_on { self.new.goes_on ≡ self.old.goes_on }
+    {
+        self.watch.logged = step;
     }
 
-    fn may_change(&mut self, change: Change, uid: Uid) -> bool {
-        let removes = self.removals.removes_far(change, uid);
+    // It is made only after a look that found nothing.
+    fn may_change(&mut self, change: Change, uid: Uid) -> bool
+        ensures answer { result ≡ self.new.goes_on }
+        ensures clear { result ≡ true → self.new.watch.is_clear ≡ true }
+        ensures went_on { result ≡ true → self.old.goes_on ≡ true }
+    {
+        let removes = self.watch.removals.removes_far(change, uid);
         if self.is_due(removes) {
             self.look();
             if removes {
@@ -196,29 +263,43 @@ impl<R: Files + Clock + AllocGlobal + Clone + Drop> Guard for NearLook<R> {
         self.goes_on
     }
 
-    fn asks_far(&self, change: Change) -> bool {
+    fn asks_far(&self, change: Change) -> bool
+        ensures { result ≡ asks_far self.now.watch change }
+    {
         matches!(change, Change::Expunge(Side::Near))
-            && !self.has_listed
-            && !self.removals.expunged.as_slice().is_empty()
+            && !self.watch.has_listed
+            && !self.watch.removals.expunged.as_slice().is_empty()
     }
 
-    fn may_remove(&mut self, far: &Listing) -> bool {
-        if let Some(uid) = still_listed(self.removals.expunged.as_slice(), self.logged, far) {
+    fn may_remove(&mut self, far: &Listing) -> bool
+        ensures answer { result ≡ self.new.goes_on }
+        ensures listed { let watch = self.old.watch in
+            result ≡ (self.old.goes_on && is_none (still_listed watch.removals.expunged watch.logged far.now)) }
+    {
+        let expunged = self.watch.removals.expunged.as_slice();
+        if let Some(uid) = still_listed(expunged, self.watch.logged, far) {
             self.note(Objection::Undeleted(uid.get()));
         }
-        self.has_listed = true;
+        self.watch.has_listed = true;
         self.goes_on
     }
 
-    fn withheld(&mut self, uid: Uid) {
+    fn withheld(&mut self, uid: Uid)
+        ensures { self.new.goes_on ≡ false }
+    {
         self.note(Objection::Withheld(uid.get()));
     }
 
-    fn given_again(&mut self, uid: Uid) {
+    fn given_again(&mut self, uid: Uid)
+        ensures { self.new.goes_on ≡ false }
+    {
         self.note(Objection::GivenAgain(uid.get()));
     }
 
-    fn forget(&mut self) {
+    fn forget(&mut self)
+        ensures goes_on { self.new.goes_on ≡ true }
+        ensures watch { self.new.watch ≡ self.old.watch }
+    {
         // A UID that was given again ends the run, so it is reported whatever is opened then.
         let noted = self.objection.take();
         if let Some(Objection::GivenAgain(uid)) = noted {
