@@ -1,5 +1,5 @@
 -- What is told where a place does not open.
-use Rattle.std.specs.Prelude.{◌≡◌, ⊤, ℕ, List, string_bytes}
+use Rattle.std.specs.Prelude.{◌≡◌, ⊤, ℕ, Bool, false, List, string_bytes, Result, Ok, Err}
 use Rattle.near_places.specs.declared.lock.LockFault.{LockFault}
 use Rattle.near_places.specs.declared.lock.LockFault.TheVariants.{Held, Refused}
 use Rattle.near_places.specs.declared.refusal.Refusal.{Refusal}
@@ -17,3 +17,8 @@ TellsLock path (Refused refusal) = Tells path refusal
 
 abbrev pub told_of_memory : LockFault
 told_of_memory = Refused NoMemory
+
+-- what is told of a folder: an answer of the system counts as nothing where its name is beyond the limits, and nowhere else
+abbrev pub unless_beyond : (is_within : Bool) → Result (Unit {0}) Refusal → Result (Unit {0}) Refusal
+unless_beyond false (Err (CannotOpen path)) = Ok tt
+unless_beyond is_within answer = answer

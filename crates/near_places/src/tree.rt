@@ -3,6 +3,7 @@
 ghost use Rattle.std.specs.Prelude.{◌≡◌, ◌&&◌, not};
 ghost use Rattle.mailcore.specs.MailboxNames.{is_mailbox_name};
 ghost use Rattle.near_places.specs.Names.{has_own_part};
+ghost use Rattle.near_places.specs.Refusals.{unless_beyond};
 
 use crate::names::has_own_part;
 use crate::refusal::Refusal;
@@ -75,7 +76,9 @@ pub(crate) fn boxes_under<'a, R: Files + AllocGlobal + Clone + Drop>(
 }
 
 /// An answer of the system, but nothing of a folder that is left out because of its name keeps the others from being listed.
-fn unless_beyond(is_within: bool, answer: Result<(), Refusal>) -> Result<(), Refusal> {
+fn unless_beyond(is_within: bool, answer: Result<(), Refusal>) -> Result<(), Refusal>
+    ensures { result ≡ unless_beyond is_within answer }
+{
     match answer {
         Err(Refusal::CannotOpen(_)) if !is_within => Ok(()),
         answer => answer,
