@@ -19,7 +19,7 @@ from tests.scenes import server_edges, session_edges
 from tests.support.edge_scene import EARLIER, FOUR, PAGE, QUICK, THREE, Edge, can_mount, disk, far, near, nobody_can_run, stopped
 from tests.support.places import MBSYNC, must_run, parser_of
 from tests.support.scene import ONE, TWO, Scene, near_text
-from tests.support.scripted_server import Box
+from tests.support.scripted_server import LISTING, Box
 from tests.support.tally import Tally
 
 LEFT_OUT = "  its name is not UTF-8, or is too long to get a UID: rename it, and run again"
@@ -29,6 +29,7 @@ STANDING = "is there, but its message (UID 2) was about to count as removed: run
 NO_PERMISSION = "no permission. Let yourself read and write it, and run again"
 FULL = "the disk is full. Make room, and run again"
 READ_ONLY = "the file system is read-only"
+GONE = "it is gone. Run again"
 
 
 def make_socket(path):
@@ -278,6 +279,39 @@ def earlier_server(tally):
         tally.same("put right, it is taken", scene.run("c"), [0, "c:INBOX", "ran"])
 
 
+def look_that_fails(tally, *words):
+    """A message was removed near. `cur` is away whenever the run looks for it once more, before it begins the plan."""
+    with Edge(ONE, TWO) as scene:
+        scene.run("c")
+        scene.near().remove(2)
+        part, away = scene.path("inbox/cur"), scene.path("away")
+
+        def put_back():
+            if os.path.exists(away):
+                os.rename(away, part)
+
+        def take_away(talk, command):
+            # The near names are read between these two commands.
+            if command.verb == b"SELECT":
+                put_back()
+            elif command.asks(LISTING):
+                os.rename(part, away)
+
+        scene.server.script = take_away
+        tally.same("a folder that cannot be looked into stops the run", scene.run(*words), stopped(f"{scene.path('inbox')}: {GONE}"))
+        scene.server.script = None
+        put_back()
+        tally.same("nothing is marked or removed", scene.sides(), [near(ONE), far(ONE, TWO)])
+        tally.same("and nothing is planned", scene.texts(), [".mbsyncstate", ".mbsyncstate.lock", ".uidvalidity"])
+        tally.same("put back, the run goes on", scene.run("c"), [0, "c:INBOX", "gone push 2 2", "ran"])
+
+
+def no_look(tally):
+    """The near folder cannot be looked into before a plan is begun."""
+    for words in (("c",), ("--expunge", "c")):
+        look_that_fails(tally, *words)
+
+
 def no_permission(tally):
     """Parts of the near mailbox that the user may not use."""
     if not nobody_can_run():
@@ -410,7 +444,7 @@ def closed_streams(tally):
 
 
 SCENES = [odd_names, odd_name_with_uid, things_without_uid, things_with_unknown_uid, things_with_known_uid, flags_for_a_thing, in_the_way,
-          things_for_our_files, removed_far, removed_near, earlier_server, no_permission, full_disk, read_only_disk, closed_streams,
+          things_for_our_files, removed_far, removed_near, earlier_server, no_look, no_permission, full_disk, read_only_disk, closed_streams,
           *server_edges.SCENES, *session_edges.SCENES]
 
 
