@@ -3,6 +3,7 @@ pub mod StepParts
 pub mod Stages
 pub mod Wholes
 pub mod Within
+pub mod SomeFlags
 pub mod NextSteps
 pub mod LoopLemmas
 pub mod FreeCopies

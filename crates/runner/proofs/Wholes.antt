@@ -1,5 +1,5 @@
 -- Calls that are a whole step.
-use Rattle.std.proofs.Common.{◌≡◌, ℕ, Bool, true, false, not, ◌||◌, ◌==◌, List, [], ◌∷◌, None, refl, ap, subst, ◌∙◌, ◌^◌}
+use Rattle.std.proofs.Common.{◌≡◌, ℕ, Bool, true, false, not, ◌==◌, List, [], ◌∷◌, None, refl, ap, subst, ◌∙◌, ◌^◌}
 use Rattle.std.specs.Prelude.{All, filter, ◌&&◌}
 use Rattle.std.proofs.lemmas.Bool.{both_ways, eqb-true}
 use Rattle.std.proofs.lemmas.List.Elements.{All-head, All-tail}
@@ -19,7 +19,7 @@ use Rattle.run_states.specs.Moments.{boxes_at}
 use Rattle.run_states.specs.Plans.{names_of}
 use Rattle.run_states.proofs.Flagged.{flagged_same}
 use Rattle.run_states.proofs.Moves.{IsMoved, moved}
-use Rattle.runner.specs.Going.{sets_first}
+use Rattle.runner.specs.Going.{sets_some}
 
 without_one : (uid : ℕ) (ms : List Message) → All (λ m. m.uid ≡ uid → has m.flags DELETED ≡ true) ms → filter (λ m. not (m.uid == uid && has m.flags DELETED)) ms ≡ without uid ms
 without_one uid [] h = refl
@@ -50,16 +50,9 @@ marked direction far near flags d d' e t =
 
 -- ---- which of the two calls of a flags step are made
 
-pub sets_none : (set cleared : ℕ) → sets_first set cleared ≡ false → set ≡ 0
-sets_none set cleared e = by_tests (set == 0) (cleared == 0) refl e
+pub sets_none : (set : ℕ) → sets_some set ≡ false → set ≡ 0
+sets_none set e = by_test (set == 0) refl e
   where
-    by_tests : (a b : Bool) → (set == 0) ≡ a → (not a || b) ≡ false → set ≡ 0
-    by_tests true b is e = eqb-true set 0 is
-    by_tests false b is e = absurd (both_ways true e refl)
-
-pub sets_where_none : (set cleared : ℕ) → (cleared == 0) ≡ true → sets_first set cleared ≡ true
-sets_where_none set cleared e = rw e (either (not (set == 0)))
-  where
-    either : (b : Bool) → (b || true) ≡ true
-    either true = refl
-    either false = refl
+    by_test : (a : Bool) → (set == 0) ≡ a → not a ≡ false → set ≡ 0
+    by_test true is e = eqb-true set 0 is
+    by_test false is e = absurd (both_ways true e refl)

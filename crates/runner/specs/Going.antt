@@ -1,5 +1,5 @@
 -- The plan that is pending is carried out: its next step, and where that stands.
-use Rattle.std.specs.Prelude.{◌≡◌, ◌+◌, ◌||◌, ◌==◌, not, ℕ, Bool, true, false, List, [], ◌∷◌, ◌++◌, length, map, Option, None, Some, unwrap_or}
+use Rattle.std.specs.Prelude.{◌≡◌, ◌+◌, ◌==◌, not, ℕ, Bool, true, false, List, [], ◌∷◌, ◌++◌, length, map, Option, None, Some, unwrap_or}
 use Rattle.mailcore.specs.declared.side.Side.{Side}
 use Rattle.mailcore.specs.declared.side.Direction.{Direction}
 use Rattle.rules.specs.declared.options.Options.{Options}
@@ -113,9 +113,9 @@ pub record CopiesUnder (opened : Option Opened) (direction : Direction) (mark : 
   pub flags : ℕ
   pub is : next_at opened ≡ Some (step.New direction uid flags mark)
 
--- flags are set by a call of their own, but where some are only cleared
-abbrev pub sets_first : (set cleared : ℕ) → Bool
-sets_first set cleared = not (set == 0) || cleared == 0
+-- flags are set by a call of their own, where there are any
+abbrev pub sets_some : (set : ℕ) → Bool
+sets_some set = not (set == 0)
 
 -- the next step may be logged so
 abbrev pub FitsNext : Option Step → Logged → Type 0

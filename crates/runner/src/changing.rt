@@ -7,7 +7,7 @@ ghost use Rattle.law_steps.specs.Steps.{changed_uid};
 ghost use Rattle.run_states.specs.Conditions.{Underway};
 ghost use Rattle.run_states.specs.Openings.{Opening};
 ghost use Rattle.runner.specs.Parts.{StepPart};
-ghost use Rattle.runner.specs.Going.{IsGoing, DuringStep, AfterStep, BeforeStep, logged_of, made_by, next_at, sets_first};
+ghost use Rattle.runner.specs.Going.{IsGoing, DuringStep, AfterStep, BeforeStep, logged_of, made_by, next_at, sets_some};
 
 use crate::fault::{RunFault, step_fault};
 use crate::performed::StepResult;
@@ -41,13 +41,6 @@ fn changed_uid(direction: Direction, far: Uid, near: Uid) -> Uid
     }
 }
 
-/// Whether flags are set by a call of their own: not where the step only clears some.
-fn sets_first(flags: &FlagStep) -> bool
-    ensures { result ≡ sets_first flags.now.set flags.now.cleared }
-{
-    !flags.set.is_empty() || flags.cleared.is_empty()
-}
-
 /// Sets the flags, if the step sets any.
 fn set_flags<O: Outside>(outside: &mut O, number: usize, flags: &FlagStep) -> Result<(), RunFault>
     ghost opening: { Opening O.ours O.alone }
@@ -59,13 +52,13 @@ fn set_flags<O: Outside>(outside: &mut O, number: usize, flags: &FlagStep) -> Re
     ensures was_honest { O.honest outside.new → O.honest outside.old }
     ensures keywords { O.keywords outside.new ≡ O.keywords outside.old }
     ensures opened { O.opened outside.new ≡ O.opened outside.old }
-    ensures idle { sets_first flags.now.set flags.now.cleared ≡ false → O.seen outside.new ≡ O.seen outside.old }
+    ensures idle { flags.now.set ≡ 0 → O.seen outside.new ≡ O.seen outside.old }
     ensures part { StepPart number (O.opened outside.old) (O.honest outside.new)
         (BeforeStep opening (O.opened outside.old) true) (Underway opening) (λ _. 0)
-        (λ _. DuringStep opening (O.opened outside.old) (sets_first flags.now.set flags.now.cleared)) (O.seen outside.old)
+        (λ _. DuringStep opening (O.opened outside.old) (sets_some flags.now.set)) (O.seen outside.old)
         (O.seen outside.new) result }
 {
-    if !sets_first(flags) {
+    if flags.set.is_empty() {
         return Ok(());
     }
     let side = flags.direction.target();
@@ -89,7 +82,7 @@ fn clear_flags<O: Outside>(outside: &mut O, number: usize, flags: &FlagStep) -> 
     ensures opened { O.opened outside.new ≡ O.opened outside.old }
     ensures idle { flags.now.cleared ≡ 0 → O.seen outside.new ≡ O.seen outside.old }
     ensures part { StepPart number (O.opened outside.old) (O.honest outside.new)
-        (DuringStep opening (O.opened outside.old) (sets_first flags.now.set flags.now.cleared))
+        (DuringStep opening (O.opened outside.old) (sets_some flags.now.set))
         (Underway opening) (λ _. 0) (λ _. AfterStep opening (O.opened outside.old) Done) (O.seen outside.old)
         (O.seen outside.new) result }
 {
@@ -104,7 +97,7 @@ fn clear_flags<O: Outside>(outside: &mut O, number: usize, flags: &FlagStep) -> 
     }
 }
 
-/// Performs a step that carries flags over: one call for those that are set, and one for those that are cleared.
+/// Performs a step that carries flags over: one call for those that are set, if there are any, and one for those that are cleared.
 pub(crate) fn carry_flags<O: Outside>(
     outside: &mut O,
     number: usize,
@@ -119,6 +112,7 @@ pub(crate) fn carry_flags<O: Outside>(
     ensures was_honest { O.honest outside.new → O.honest outside.old }
     ensures keywords { O.keywords outside.new ≡ O.keywords outside.old }
     ensures opened { O.opened outside.new ≡ O.opened outside.old }
+    ensures idle { flags.now.set ≡ 0 → flags.now.cleared ≡ 0 → O.seen outside.new ≡ O.seen outside.old }
     ensures fits { IfOk result (λ r. logged_of r ≡ Done) }
     ensures part { StepPart number (O.opened outside.old) (O.honest outside.new)
         (BeforeStep opening (O.opened outside.old) true) (Underway opening) made_by

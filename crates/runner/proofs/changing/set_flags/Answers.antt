@@ -1,11 +1,10 @@
-use Rattle.std.proofs.Common.{◌≡◌, ◌∙◌, Bool, true, false, refl, sym, subst, arith}
+use Rattle.std.proofs.Common.{◌≡◌, ◌==◌, ◌∙◌, ℕ, not, Bool, true, refl, ap, sym, subst}
 use Rattle.std.proofs.lemmas.Bool.{both_ways}
-use Rattle.std.proofs.lemmas.Grind.{common_steps}
 use Rattle.mailcore.specs.Sides.{target}
 use Rattle.rules.specs.declared.plan.Step.TheVariants as step
 use Rattle.law_steps.specs.Steps.{changed_uid}
 use Rattle.run_states.specs.Conditions.{Underway}
-use Rattle.runner.specs.Going.{DuringStep, sets_first}
+use Rattle.runner.specs.Going.{DuringStep, sets_some}
 use Rattle.runner.proofs.PartCalls.{from_box, left_step, line_of_box, passed_call, passed_none}
 use Rattle.runner.proofs.Stages.{begun_underway, left_by, ready_arrives, ready_held, ready_named, ready_underway, set_called, set_none}
 use Rattle.runner.proofs.Within.{set_whole}
@@ -20,7 +19,7 @@ returns-in-Ok-clause-part g c =
     let f = c.args.flags.now in
     let s1 = g.O.Outside.seen c.add_flags.new.self in
     passed_call _ _ _ _ _ _ _ _ _ _ _ c.in-Ok.ensures.call
-    (λ m at a own. let w = set_whole g.opening opened _ c.requires.1.1.1.1 f.direction f.far f.near f.set f.cleared c.requires.1.1.0 _ at in set_called g.opening opened f.direction f.far f.near f.set f.cleared c.requires.1.1.0 (sets_first f.set f.cleared) _ m s1.device a at (rw (c.target-side.ensures, c.changed_uid-uid.ensures, w) at own))
+    (λ m at a own. let w = set_whole g.opening opened _ c.requires.1.1.1.1 f.direction f.far f.near f.set f.cleared c.requires.1.1.0 _ at in set_called g.opening opened f.direction f.far f.near f.set f.cleared c.requires.1.1.0 (sets_some f.set) _ m s1.device a at (rw (c.target-side.ensures, c.changed_uid-uid.ensures, w) at own))
 
 pub returns-in-Err-clause-part : goal.returns-in-Err-clause-part
 returns-in-Err-clause-part g c =
@@ -37,20 +36,16 @@ returns-in-Err-clause-part g c =
           (λ x does. begun_underway g.opening opened true s1.device (set_called g.opening opened f.direction f.far f.near f.set f.cleared c.requires.1.1.0 true _ m s1.device a at (rw (c.target-side.ensures, c.changed_uid-uid.ensures, w) at does))),
     )))
 
-pub returns-then-not-sets_first-clause-part : goal.returns-then-not-sets_first-clause-part
-returns-then-not-sets_first-clause-part g c =
+pub returns-then-is_empty-clause-part : goal.returns-then-is_empty-clause-part
+returns-then-is_empty-clause-part g c =
     let opened = g.O.Outside.opened c.args.outside.now in
     let f = c.args.flags.now in
     let s0 = g.O.Outside.seen c.args.outside.now in
-    let down : c.sets_first.result ≡ false = grind (arith, common_steps) in
-    passed_none _ _ _ _ c.requires.1.1.1.0 (λ at. subst (λ (b : Bool). DuringStep g.opening opened b s0.device) (sym down ∙ c.sets_first.ensures) (set_none g.opening opened f.direction f.far f.near f.set f.cleared c.requires.1.1.0 _ at))
+    let none : (f.set == 0) ≡ true = sym c.is_empty.ensures ∙ c.if-is_empty.true in
+    passed_none _ _ _ _ c.requires.1.1.1.0 (λ at. subst (λ (b : Bool). DuringStep g.opening opened b s0.device) (sym (ap not none)) (set_none g.opening opened f.direction f.far f.near f.set f.cleared c.requires.1.1.0 _ at))
 
 pub returns-in-Ok-clause-idle : goal.returns-in-Ok-clause-idle
-returns-in-Ok-clause-idle g c = λ e.
-    let up : c.sets_first.result ≡ true = grind (arith, common_steps) in
-    absurd (both_ways _ e (sym c.sets_first.ensures ∙ up))
+returns-in-Ok-clause-idle g c = λ e. absurd (both_ways (c.args.flags.now.set == 0) (sym c.is_empty.ensures ∙ c.if-is_empty.false) (ap (λ (x : ℕ). x == 0) e))
 
 pub returns-in-Err-clause-idle : goal.returns-in-Err-clause-idle
-returns-in-Err-clause-idle g c = λ e.
-    let up : c.sets_first.result ≡ true = grind (arith, common_steps) in
-    absurd (both_ways _ e (sym c.sets_first.ensures ∙ up))
+returns-in-Err-clause-idle g c = λ e. absurd (both_ways (c.args.flags.now.set == 0) (sym c.is_empty.ensures ∙ c.if-is_empty.false) (ap (λ (x : ℕ). x == 0) e))
