@@ -266,10 +266,6 @@ pub finds_from : (ours : List ℕ → Bool) (a b : Option Opened) (d0 d1 : Devic
 finds_from ours a b d0 d1 (Err e) h0 h1 from start kept honest leads same k = tt
 finds_from ours a b d0 d1 (Ok pass) h0 h1 from start kept honest leads same k = λ h at d to. same_plan b a d pass kept (k h (leads h at) d (same_then ours d d0 d1 to (same (honest h))))
 
-pub finds_none : (ours : List ℕ → Bool) (opened : Option Opened) (honest start : Type 0) (d : Device) (r : Result Pass RunFault) → IfOk r (λ pass. pass ≡ Already) → IfOk r (λ pass. honest → start → OfSame ours d (λ x. FindsBy opened x pass))
-finds_none ours opened honest start d (Ok pass) e = λ h at x same. rw e tt
-finds_none ours opened honest start d (Err e) k = tt
-
 -- by the files that were read
 pub finds_held : (ours : List ℕ → Bool) (opened : Option Opened) (d0 d1 : Device) (r : Result Pass RunFault) (h0 h1 from start : Type 0) → (h1 → h0) → (h1 → start → from) → (h0 → FindsSame ours d0 d1) → (h0 → IsHeld opened d0)
     → IfOk r (λ pass. h1 → from → OfSame ours d1 (λ d. FindsBy opened d pass)) → IfOk r (λ pass. h1 → start → FindsAt ours d0 pass)

@@ -1,6 +1,5 @@
 -- Which messages an attempt has named, by what was read and then by the files, and that the others stand.
 use Rattle.std.proofs.Common.{◌≡◌, ◌∙◌, ℕ, Bool, List, Option, Some, None, Result, Ok, Err, IfOk, ◌++◌, refl, sym, ap, subst}
-use Rattle.std.specs.Prelude.{OnOk}
 use Rattle.rules.specs.declared.plan.Plan.{Plan}
 use Rattle.rules.specs.declared.state.SyncState.{SyncState}
 use Rattle.book.specs.declared.book.Pending.{Pending}
@@ -19,7 +18,7 @@ use Rattle.runner.specs.declared.pass.Pass.TheVariants.{Already, Finished, Ran}
 use Rattle.runner.specs.Answers.{as_read}
 use Rattle.runner.specs.Going.{plan_at, steps_of}
 use Rattle.runner.specs.Naming.{NamesAt, NamesBy, OthersStand}
-use Rattle.runner.specs.Validities.{IsKept, LeavesBoxes}
+use Rattle.runner.specs.Validities.{IsKept}
 
 module _ {ours : List ℕ → Bool} {alone : Bool} (opening : Opening ours alone) where
   -- calls before it named nothing, and the plan that is pending is the same
@@ -27,11 +26,6 @@ module _ {ours : List ℕ → Bool} {alone : Bool} (opening : Opening ours alone
   names_from a b Already d0 d1 d2 plan same k = k ∙ same
   names_from a b (Ran performed unfit) d0 d1 d2 plan same k = k
   names_from a b (Finished performed) d0 d1 d2 plan same k = subst (λ (p : Plan). NamedBy opening.named p.steps d2.named) plan k
-
-  -- a run that was made before
-  pub names_none : (opened : Option Opened) (h start : Type 0) (d d' : Device) (r : Result Pass RunFault) → IfOk r (λ pass. pass ≡ Already) → OnOk r (LeavesBoxes h alone d d') → IfOk r (λ pass. h → start → NamesBy opening opened pass d d')
-  names_none opened h start d d' (Ok pass) e leaves = λ honest at. rw e (leaves honest).0
-  names_none opened h start d d' (Err e) k leaves = tt
 
   -- by the files that were read
   pub names_held : (opened : Option Opened) (d0 d1 d2 : Device) (r : Result Pass RunFault) (h0 h1 from start : Type 0) → (h1 → h0) → (h1 → start → from) → (h0 → IsKept alone d0 d1) → (h0 → IsHeld opened d0)

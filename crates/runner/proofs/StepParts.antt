@@ -1,7 +1,6 @@
 -- Parts that perform steps: which step a refusal is told of.
 use Rattle.std.proofs.Common.{◌≡◌, ◌∙◌, ℕ, Bool, List, Option, Some, None, Result, refl, sym, subst}
 use Rattle.rand_core.specs.Stream.{Stream}
-use Rattle.mailcore.specs.declared.side.Side.{Side}
 use Rattle.rules.specs.declared.options.Options.{Options}
 use Rattle.book.specs.declared.book.Pending.{Pending}
 use Rattle.book.specs.declared.book.Pending.TheVariants.{Missing, Useless, Planned}
@@ -13,9 +12,9 @@ use Rattle.rules.specs.World.{scene_of}
 use Rattle.run_states.specs.Openings.{Opening, Since}
 use Rattle.runner.specs.declared.fault.RunFault.{RunFault}
 use Rattle.runner.specs.Answers.{HasRepeats}
-use Rattle.runner.specs.Faults.{IsNextOf, Reasons, RefusedAt, TellsRefused, because, or_keywords, or_refused}
+use Rattle.runner.specs.Faults.{IsNextOf, Reasons, RefusedAt, TellsRefused, or_refused}
 use Rattle.runner.specs.Going.{HasUntorn, IsUntorn, number_at}
-use Rattle.runner.specs.Parts.{InStep, Left, Never, Part, PartOr, Passed, RunPart, StepPart}
+use Rattle.runner.specs.Parts.{InStep, Left, Never, Part, PartOr, Passed, StepPart}
 use Rattle.runner.proofs.PartCalls.{AreReasons, left_after, left_told, part_after, part_told, part_weaker}
 
 -- ---- one step
@@ -83,9 +82,3 @@ repeats_by {ours} {alone} x y honest from start options stream leads k = record 
   repeats = k.repeats;
   wanted = λ h at. let l = leads h at in subst (λ (o : Opening ours alone). Since o (λ w. k.count ≡ count_new (scene_of w options))) l.1 (k.wanted h l.0);
 }
-
--- one that makes a plan and performs its steps, between other conditions
-pub run_weaker : {T : Type 0} {ours : List ℕ → Bool} {alone : Bool} (now : Option Opened) (opening : Opening ours alone) (options : Options) (stream : Stream) (changed : Side → Type 0) (keywords : Type 0) (h : Type 0) (a a' underway : Device → Type 0) (copies : T → ℕ) (reaches reaches' : T → Device → Type 0) (s0 s1 : Seen) (r : Result T RunFault) → ((d : Device) → a' d → a d) → ((x : T) (d : Device) → reaches x d → reaches' x d)
-    → RunPart (or_keywords keywords (because changed (HasRepeats opening h (a s0.device) options stream))) now h a underway copies reaches s0 s1 r → RunPart (or_keywords keywords (because changed (HasRepeats opening h (a' s0.device) options stream))) now h a' underway copies reaches' s0 s1 r
-run_weaker {ours} {alone} now opening options stream changed keywords h a a' underway copies reaches reaches' s0 s1 r f g p =
-    part_weaker _ h a a' underway copies reaches reaches' s0 s1 r f g (part_told _ _ h a underway copies reaches s0 s1 r (record { changed = λ side t. t; keywords = λ n. n; repeats = λ k. repeats_from opening h (a s0.device) (a' s0.device) options stream (λ honest at. f s0.device at) k; beyond = λ n. n; greatest = λ n. n; unread = λ e t. t; refused = refused_from now h (a s0.device) (a' s0.device) s1.device (λ honest at. f s0.device at) }) p)

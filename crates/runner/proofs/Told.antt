@@ -33,12 +33,11 @@ use Rattle.run_states.proofs.Growth.{since_map}
 use Rattle.run_states.proofs.Spared.{named_by_plan}
 use Rattle.runner.specs.declared.fault.RunFault.{RunFault}
 use Rattle.runner.specs.declared.pass.Pass.{Pass}
-use Rattle.runner.specs.declared.pass.Pass.TheVariants.{Already}
 use Rattle.runner.specs.declared.performed.Performed.{Performed}
 use Rattle.runner.specs.declared.performed.StepResult.{StepResult}
 use Rattle.runner.specs.declared.performed.StepResult.TheVariants as did
 use Rattle.runner.specs.Going.{BeforeStep, HasLogged, IsGoing, log_at, logged_of, logs_of, next_at, no_journal, plan_at, steps_of, version_at}
-use Rattle.runner.specs.Results.{AreResults, AreStepsOf, EndsBy, IsOtherResult, IsResult, Report, RestReport, WholeReport, PassedOver}
+use Rattle.runner.specs.Results.{AreResults, AreStepsOf, EndsBy, IsOtherResult, IsResult, RestReport, WholeReport, PassedOver}
 use Rattle.runner.proofs.Logging.{of_book}
 use Rattle.runner.proofs.Stages.{ready_arrives, stands_of}
 
@@ -174,16 +173,6 @@ module _ {ours : List ℕ → Bool} {alone : Bool} (opening : Opening ours alone
 
 -- ---- from one condition to another
 
--- the same, where this leads there and back
-pub told_over : (r : Result Pass RunFault) (h from start : Type 0) (P Q : Pass → Type 0) → (h → start → from × ((pass : Pass) → P pass → Q pass)) → IfOk r (λ pass. h → from → P pass) → IfOk r (λ pass. h → start → Q pass)
-told_over (Ok pass) h from start P Q leads k = λ honest at. let l = leads honest at in l.1 pass (k honest l.0)
-told_over (Err e) h from start P Q leads k = tt
-
 pub told_from : (r : Result Pass RunFault) (honest from start : Type 0) (told : Pass → Type 0) → (honest → start → from) → IfOk r (λ pass. honest → from → told pass) → IfOk r (λ pass. honest → start → told pass)
 told_from (Ok pass) honest from start told leads k = λ h at. k h (leads h at)
 told_from (Err e) honest from start told leads k = tt
-
--- nothing is told of a run that was made before
-pub told_none : {ours : List ℕ → Bool} {alone : Bool} (opening : Opening ours alone) (honest start : Type 0) (d : Device) (r : Result Pass RunFault) → IfOk r (λ pass. pass ≡ Already) → IfOk r (λ pass. honest → start → Report opening pass d)
-told_none opening honest start d (Ok pass) e = λ h at. rw e tt
-told_none opening honest start d (Err e) k = tt
