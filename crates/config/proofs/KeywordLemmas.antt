@@ -17,6 +17,7 @@ use Rattle.config_words.specs.Settings.{is_argument, name_said}
 use Rattle.config_words.specs.Words.{arguments_of, is_plain}
 use Rattle.config.specs.Drafts.{IsMisplaced, unless_misplaced}
 use Rattle.config.specs.Sections.{keyword_in}
+use Rattle.config.specs.Views.{AtChannel, ChannelView, contradicts, is_empty}
 use Rattle.config.specs.Standing.{Standing, keyword_again, with_keyword_at, keyword_from}
 
 -- ---- lines that give none
@@ -119,3 +120,11 @@ misplaced_stays at keyword.Keyword OutsideSection text s misplaced = outside_sta
 misplaced_stays at keyword.Keyword KeywordTwice text s misplaced = cc
 misplaced_stays at keyword.Keyword fault text s misplaced = absurd misplaced
 misplaced_stays at k fault text s misplaced = none_stays_so at _ s (other_gives k text (λ is. cc))
+
+-- where a line names no pattern, it contradicts a channel exactly if it names a mailbox and the channel has patterns
+pub boxed_among : (c : ChannelView) (setting : Setting) → ((patterns : _) → setting ≡ settings.Patterns patterns → ⊥)
+    → contradicts (AtChannel c) (said_of setting) ≡ (names_a_box setting && not (is_empty c.patterns))
+boxed_among c (settings.Far place) other = refl
+boxed_among c (settings.Near place) other = refl
+boxed_among c (settings.Patterns patterns) other = absurd (other patterns refl)
+boxed_among c _ other = refl

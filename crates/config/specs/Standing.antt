@@ -1,6 +1,6 @@
 -- What is known behind some lines of a configuration: where the next line stands, the names of the sections so far, and the keywords
 -- that were given.
-use Rattle.std.specs.Prelude.{ℕ, ◌+◌, ◌==◌, fold, not, ◌&&◌, List, [], ◌∷◌, ◌++◌, Option, Some, None, option_and_then, if◌then◌else◌}
+use Rattle.std.specs.Prelude.{ℕ, ◌+◌, fold, not, ◌&&◌, List, [], ◌∷◌, ◌++◌, Option, Some, None, option_and_then, if◌then◌else◌}
 use Rattle.mailcore.specs.declared.keywords.Keyword as mail
 use Rattle.mailcore.specs.declared.keywords.KeywordFault.{KeywordFault}
 use Rattle.mailcore.specs.declared.keywords.KeywordFault.TheVariants.{Repeated}

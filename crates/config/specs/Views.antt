@@ -1,5 +1,5 @@
 -- What a draft holds, as values: what each line changes of it, and what lines make of it.
-use Rattle.std.specs.Prelude.{ℕ, Bool, true, false, ◌≡◌, ◌⊎◌, List, [], ◌∷◌, ◌++◌, map, flat_map, string_bytes, Option, Some, None, option_map, option_and_then, unwrap_or, codes}
+use Rattle.std.specs.Prelude.{ℕ, Bool, true, false, not, ◌&&◌, ◌||◌, ◌≡◌, ◌⊎◌, List, [], ◌∷◌, ◌++◌, map, flat_map, string_bytes, Option, Some, None, is_some, option_map, option_and_then, unwrap_or, codes}
 use Rattle.std.specs.Option.{option_or}
 use Rattle.mailcore.specs.declared.keywords.Keyword as mail
 use Rattle.rules.specs.declared.options.Cells.{Cells}
@@ -17,7 +17,7 @@ use Rattle.config.specs.declared.section.Section.{Section}
 use Rattle.config.specs.declared.section.Section.TheVariants.{Start, Between, ImapStore, MaildirStore, Channel, Group}
 use Rattle.config_words.specs.declared.keyword.Place.{Place}
 use Rattle.config_words.specs.declared.keyword.Place.TheVariants as place
-use Rattle.config_words.specs.Meanings.{Said, SectionIs, GroupIs, FarIs, NearIs, ChannelsAre}
+use Rattle.config_words.specs.Meanings.{Said, SectionIs, GroupIs, FarIs, NearIs, PatternsAre, ChannelsAre}
 use Rattle.config.specs.Named.{group_named, member_name}
 use Rattle.config.specs.Configurations.{Meaning, Parts, channel_names, channel_value, group_value, imap_names, imap_value, maildir_names, maildir_value, meaning_of, placed}
 use Rattle.config.specs.Sections.{ChannelMeaning, GroupMeaning, ImapMeaning, MaildirMeaning, also_given, boxes_of, cells_in, channels_in, create_in, everything, expunge_in, far_in, host_in, imap_store_of, inbox_in, keywords_of, near_in, neither, own_or, pass_in, path_in, patterns_in, place_among, port_in, store_at, the, user_in}
@@ -170,6 +170,22 @@ sketch_with s (AtMaildirStore m) = AtMaildirStore (maildir_with s m)
 sketch_with s (AtChannel c) = AtChannel (channel_with s c)
 sketch_with s (AtGroup channels) = AtGroup channels
 sketch_with s AtBetween = AtBetween
+
+abbrev pub is_empty : {A : Type 0} → List A → Bool
+is_empty [] = true
+is_empty (x ∷ xs) = false
+
+-- a channel has both a mailbox and a pattern once a line says this
+abbrev pub contradicts : Sketch → Said → Bool
+contradicts (AtChannel c) (PatternsAre patterns) = is_some c.far_box || is_some c.near_box
+contradicts (AtChannel c) (FarIs store mailbox) = is_some mailbox && not (is_empty c.patterns)
+contradicts (AtChannel c) (NearIs store mailbox) = is_some mailbox && not (is_empty c.patterns)
+contradicts s line = false
+
+-- a line says something that does not contradict the section
+abbrev pub IsUnmixed : Sketch → Option Said → Type 0
+IsUnmixed s None = ⊥
+IsUnmixed s (Some line) = contradicts s line ≡ false
 
 abbrev pub with_far : Option ℕ → Option (List ℕ) → Sketch → Sketch
 with_far store box (AtChannel c) = AtChannel (record c { far = store; far_box = box })

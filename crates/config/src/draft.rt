@@ -7,7 +7,7 @@ ghost use Rattle.config.specs.Lines.{IsUpTo};
 ghost use Rattle.config.specs.Outlines.{Tells};
 ghost use Rattle.config.specs.Readings.{HasLines, IsLine, NamesLines, SectionLines};
 ghost use Rattle.config.specs.Sections.{IsTitled, keyword_in, line_said};
-ghost use Rattle.config.specs.Views.{Shows, begun_view, ended_view, first_view, titled_view, imap_place, maildir_place, put_view, set_in_section, sketch, view, view_said, view_with};
+ghost use Rattle.config.specs.Views.{IsUnmixed, Shows, begun_view, ended_view, first_view, titled_view, imap_place, maildir_place, put_view, set_in_section, sketch, view, view_said, view_with};
 ghost use Rattle.config_words.specs.Keywords.{fits_at, section_of};
 ghost use Rattle.config_words.specs.Meanings.{ChannelsAre, FarIs, NearIs, said, said_of};
 ghost use Rattle.config_words.specs.Words.{Split, arguments_of, is_plain};
@@ -141,6 +141,7 @@ impl Draft {
         ensures view { OnOk result (view self.new ≡ view_said (said keyword (arguments_of arguments.now).list) (view self.old)) }
         ensures titled { OnOk result (IsTitled (section_of keyword) (said keyword (arguments_of arguments.now).list)) }
         ensures clear { OnOk result (IsClear (said keyword (arguments_of arguments.now).list)) }
+        ensures unmixed { OnOk result (IsUnmixed (sketch self.old.section) (said keyword (arguments_of arguments.now).list)) }
         ensures plain { OnOk result (is_plain arguments.now ≡ true) }
         ensures closed { OnOk result ((arguments_of arguments.now).quoted ≡ false) }
         ensures lines { (last : ℕ) → IsLine last line → NamesLines last self.old → NamesLines last self.new }

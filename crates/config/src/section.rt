@@ -1,12 +1,12 @@
 //! Sections of a configuration while they are read.
 
-ghost use Rattle.std.specs.Prelude.{◌≡◌, ◌++◌, ℕ, [], IsTrue, IfOk, MatchOption, None, OnOk, codes, option_map, string_bytes, unwrap_or};
+ghost use Rattle.std.specs.Prelude.{◌≡◌, ◌++◌, ◌||◌, not, ℕ, [], IsTrue, is_some, IfOk, MatchOption, None, OnOk, codes, option_map, string_bytes, unwrap_or};
 ghost use Rattle.config.specs.Configurations.{channel_value, imap_value, maildir_value};
 ghost use Rattle.config.specs.Drafts.{IsTaken, own_of, place_of};
 ghost use Rattle.config.specs.Readings.{SectionLines};
 ghost use Rattle.config.specs.Sections.{boxes_of, imap_store_of, keyword_in, own_or};
 ghost use Rattle.config.specs.Views.{channel_ended, channel_said, channel_view, channel_with, imap_view, imap_with, maildir_ended, maildir_said, maildir_view};
-ghost use Rattle.config.specs.Views.{maildir_with, manner_said, manner_view, manner_with, sketch, sketch_at, IsStoreOf, IsMaildirOf, IsChannelOf};
+ghost use Rattle.config.specs.Views.{contradicts, is_empty, maildir_with, manner_said, manner_view, manner_with, sketch, sketch_at, IsStoreOf, IsMaildirOf, IsChannelOf};
 ghost use Rattle.config.specs.Standing.{joined, joined_again};
 ghost use Rattle.config_words.specs.Meanings.{said_of};
 ghost use Rattle.config_words.specs.Settings.{name_said};
@@ -74,6 +74,7 @@ impl Section {
     pub fn contradicts(&self, setting: &Setting) -> bool
         ensures name { IsTrue result → name_said setting.now ≡ None }
         ensures keyword { IsTrue result → keyword_in (said_of setting.now) ≡ None }
+        ensures both { result ≡ contradicts (sketch self.now) (said_of setting.now) }
     {
         match self {
             Section::Channel(draft) => match setting {
@@ -265,11 +266,15 @@ impl ChannelDraft {
         }
     }
 
-    fn names_a_box(&self) -> bool {
+    fn names_a_box(&self) -> bool
+        ensures { result ≡ (is_some self.now.far_box || is_some self.now.near_box) }
+    {
         self.far_box.is_some() || self.near_box.is_some()
     }
 
-    fn has_patterns(&self) -> bool {
+    fn has_patterns(&self) -> bool
+        ensures { result ≡ not (is_empty self.now.patterns) }
+    {
         !self.patterns.as_slice().is_empty()
     }
 
