@@ -75,7 +75,7 @@ module _ {ours : List ℕ → Bool} {alone : Bool} (opening : Opening ours alone
       by_case (inl n) = ap (λ (s : SyncState). s.run) (unplanned_state opening o d held n).0
       by_case (inr p) = ap (λ (s : SyncState). s.run) (planned_state opening o p.world d p.grows held p.holds).0
 
-  -- the run is the one behind the state that was read
+  -- the run is the one after the state that was read
   pub run_read : (opened : Option Opened) (last : SyncState) (d m d' : Device) → state_of opened ≡ Some last → AtOpening opening d → Arrives ours alone d m → d' ≡ m → IsHeld opened m → (last.run + 1 ≡ opening.world.state.run + 1) × AtOpening opening d'
   run_read opened last d m d' e k a is held =
       let now = opening_arrives d m a k in
@@ -109,7 +109,7 @@ tried_fixed {ours} {alone} opening fixed number d e t = subst (λ (x : Option �
 pub fixed_tried : {ours : List ℕ → Bool} {alone : Bool} (opening : Opening ours alone) (fixed : Option ℕ) (number : ℕ) (d : Device) → fixed ≡ Some number → AttemptAt opening (Some number) d → AttemptAt opening fixed d
 fixed_tried {ours} {alone} opening fixed number d e t = subst (λ (x : Option ℕ). AttemptAt opening x d) (sym e) t
 
--- ---- what one attempt tells, by the files before it was fixed which run is made
+-- ---- what one attempt reports, by the files before it was fixed which run is made
 
 pub attempt_changed : (alone : Bool) (h1 h2 : Type 0) (a b c : Device) (side : Side) → (h2 → h1) → (h1 → IsKept alone a b) → TellsChanged h2 alone b c side → TellsChanged h2 alone a c side
 attempt_changed alone h1 h2 a b c side honest kept told = λ h s p held.
@@ -292,11 +292,11 @@ stuck_first n start now s1 s2 r z first e stuck = λ b.
 pub stuck_more : {T : Type 0} (n : ℕ) (start now s1 s2 : Seen) (r : Result T RunFault) → (n ≡ 0 → now ≡ start) → s1 ≡ found_by n now → IsStuck s1 s2 r → n + 1 ≤ 1 → start.is_broken ≡ true → s2 ≡ start
 stuck_more n start now s1 s2 r first e stuck l b = let k = stuck_first n start now s1 s2 r (omega (arith, l)) first e stuck b in k.1
 
--- nothing that was told is lost where the outside is opened again
+-- nothing that was reported is lost where the outside is opened again
 pub more_found : (n : ℕ) (start now s1 : Seen) → TellsMore start now → s1 ≡ found_by n now → TellsMore start s1
 more_found n start now s1 p e = more_after start now s1 p (more_none now s1 (ap (λ (s : Seen). s.told) e))
 
--- a fault that is told in one attempt is told in all
+-- a fault that is reported in one attempt is reported in all
 pub caused_since : {c : Reasons} (c' : Reasons) (h : Type 0) (a u : Device → Type 0) (f : RunFault) (s0 s1 s2 : Seen) → TellsMore s0 s1 → s0.appends ≤ s1.appends → (f ≡ run.Stopped → ⊥) → Left c h a u f s1 s2 → AreReasons c c' → IsCaused c' f s0 s2
 caused_since {c} c' h a u f s0 s1 s2 more appends other l k = caused_told c c' f s0 s2 k (caused_after c f s0 s1 s2 (λ is. absurd (other is)) more appends l.caused)
 
@@ -329,11 +329,11 @@ never_beyond run d r b =
     let next = r.next in
     omega (arith, e, over, next)
 
--- a step that is told as refused has its reason
+-- a step that is reported as refused has its reason
 pub refused_for : {c : Reasons} (h : Type 0) (a u : Device → Type 0) (f : RunFault) (s0 s1 : Seen) (step : ℕ) → f ≡ run.Refused step → Left c h a u f s0 s1 → c.refused step
 refused_for {c} h a u f s0 s1 step is l = let told : IsCaused c (run.Refused step) s0 s1 = subst (λ (x : RunFault). IsCaused c x s0 s1) is l.caused in told.0
 
--- ---- the greatest number, behind some attempts
+-- ---- the greatest number, after some attempts
 
 pub greatest_since : {T : Type 0} (alone : Bool) (h : Type 0) (a b c d : Device) (r : Result T RunFault) (fixed now : Option ℕ) → (fixed ≡ None) × IsKept alone a b → c ≡ b → (s : SyncState) (p : Pending) → Holds a.files s p → s.run + 1 ≡ 2 ^ 64 → (fixed ≡ None → HasNoNext h alone c d r)
     → (fixed ≡ None → h → (s : SyncState) (p : Pending) → Holds c.files s p → s.run + 1 ≡ 2 ^ 64 → now ≡ None) → h → (now ≡ None) × (IsErrAnd r TellsNoNext × IsKept alone a d)

@@ -1,4 +1,4 @@
--- Whether a copy is told as found: what stands on its side as others add messages, and what stands there before a step.
+-- Whether a copy is reported as found: what stands on its side as others add messages, and what stands there before a step.
 use Rattle.std.proofs.Common.{◌≡◌, inl, inr, ℕ, Bool, true, false, cond, List, [], ◌∷◌, ◌++◌, length, drop, Option, Some, None, Result, Ok, Err, IfOk, OnOk, refl, sym, ◌∙◌, ap, subst, arith, length-append}
 use Rattle.std.specs.Prelude.{All, Contains, find, nat_eq, nat_le, ◌&&◌}
 use Rattle.std.specs.Cmp.Lexicographic.{pointwise, bytes_decides}
@@ -213,7 +213,7 @@ plain_so ours (Ok x) h from d k = λ honest at y same. plain_found x k
 
 -- ---- all steps
 
--- one step more is told, which is the first, or before which none of its calls was done
+-- one step more is reported, which is the first, or before which none of its calls was done
 pub found_more : (plan : Plan) (d : Device) (ps : List Performed) (p : Performed) → AreFoundSo plan d ps → (ps ≡ [] → IsFoundSo plan d p) → ((ps ≡ [] → ⊥) → IsNew p) → AreFoundSo plan d (ps ++ p ∷ [])
 found_more plan d [] p k first later = (first refl, All-nil IsNew)
 found_more plan d (q ∷ ps) p k first later = (k.0, All-push IsNew ps p k.1 (later (λ e. cc)))
@@ -240,7 +240,7 @@ all_new opening opened [] d steps k f = All-nil IsNew
 all_new {ours} {alone} opening opened (p ∷ ps) d steps k f =
     All-cons IsNew p ps (f.0 ∙ not_there opening opened p.step (next_first (plan_at opened).steps (log_at opened) p.step (steps_of ps) steps) d k) f.1
 
--- ---- what a pass tells
+-- ---- what a pass reports
 
 pub mended_plan : (opened : Option Opened) → plan_at (turned mended opened) ≡ plan_at opened
 mended_plan None = refl
@@ -260,7 +260,7 @@ same_plan a b d Already e k = tt
 same_plan a b d (Ran performed unfit) e k = k
 same_plan a b d (Finished performed) e k = subst (λ (p : Plan). AreFoundSo p d performed.items) e k
 
--- from one condition to another, behind calls that change no copy
+-- from one condition to another, after calls that change no copy
 pub finds_from : (ours : List ℕ → Bool) (a b : Option Opened) (d0 d1 : Device) (r : Result Pass RunFault) (h0 h1 from start : Type 0) → plan_at b ≡ plan_at a → (h1 → h0) → (h1 → start → from) → (h0 → FindsSame ours d0 d1)
     → IfOk r (λ pass. h1 → from → OfSame ours d1 (λ d. FindsBy b d pass)) → IfOk r (λ pass. h1 → start → OfSame ours d0 (λ d. FindsBy a d pass))
 finds_from ours a b d0 d1 (Err e) h0 h1 from start kept honest leads same k = tt

@@ -141,7 +141,7 @@ number_held (Some o) s w d m step held same h is =
     let known = book_known m.files o.state s o.pending (Planned w) held (subst (λ (f : Files). Holds f s (Planned w)) (sym same) h) in
     is ∙ ap (λ (p : Pending). number_at (Some (record o { pending = p }))) known.1
 
--- ---- what is told
+-- ---- what is reported
 
 -- a refusal while a copy is sought or logged is of the step of this number
 pub in_look : (number : ℕ) (opened : Option Opened) (honest from : Type 0) (d : Device) → AreReasons (InStep number opened honest from d) (InLook number)

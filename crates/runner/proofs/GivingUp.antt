@@ -325,7 +325,7 @@ leaves_noted ours alone opened now d m d' (Ok x) plan n boxes done left = left_n
 leaves_noted ours alone opened now d m d' (Err e) plan n boxes done (inl k) = inl (still_noted ours opened now d d' plan n k)
 leaves_noted ours alone opened now d m d' (Err e) plan n boxes done (inr k) = inr (k.0, k.1, left_noted ours alone opened now d m d' k.0 plan n boxes k.2)
 
--- what is ready: the boxes are open, and no torn line stands behind the plan
+-- what is ready: the boxes are open, and no torn line stands after the plan
 abbrev pub ready : Option Opened → Option Opened
 ready opened = turned mended (with_box Near (with_box Far opened))
 

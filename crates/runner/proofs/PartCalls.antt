@@ -20,7 +20,7 @@ use Rattle.runner.specs.Parts.{InStep, Left, Never, NoLess, PartOr, Passed, Tell
 
 -- ---- a bad line of the state or the journal
 
--- a fault that tells nothing of the state or the journal
+-- a fault that reports nothing of the state or the journal
 abbrev pub TellsNoBook : OutsideFault → Type 0
 TellsNoBook out.Stopped = Unit {0}
 TellsNoBook out.Refused = Unit {0}
@@ -93,7 +93,7 @@ book_unrefused e h is = subst (λ (x : OutsideFault). FromBook x) is h
 pub shelf_unrefused : (e : OutsideFault) → FromShelf e → e ≡ out.Refused → ⊥
 shelf_unrefused e h is = subst (λ (x : OutsideFault). FromShelf x) is h
 
--- ---- what was told
+-- ---- what was reported
 
 pub more_none : (s0 s1 : Seen) → s1.told ≡ s0.told → TellsMore s0 s1
 more_none s0 s1 e = record { since = []; now = e }
@@ -104,7 +104,7 @@ more_after s0 s1 s2 p q = record { since = q.since ++ p.since; now = q.now ∙ a
 pub last_after : (e : OutsideFault) (s0 s1 s2 : Seen) → TellsMore s0 s1 → IsLast e s1 s2 → IsLast e s0 s2
 last_after e s0 s1 s2 p q = record { since = q.since ++ p.since; now = q.now ∙ ap (λ (l : List OutsideFault). e ∷ (q.since ++ l)) p.now ∙ ap (λ (l : List OutsideFault). e ∷ l) (sym (append_assoc q.since p.since s0.told)) }
 
--- what may be told after more was told
+-- what may be reported after more was reported
 pub caused_after : (reasons : Reasons) (f : RunFault) (s0 s1 s2 : Seen) → (f ≡ run.Stopped → (s1.is_broken ≡ true) ⊎ (s1.stops < s2.stops) → (s0.is_broken ≡ true) ⊎ (s0.stops < s2.stops)) → TellsMore s0 s1 → s0.appends ≤ s1.appends → IsCaused reasons f s1 s2 → IsCaused reasons f s0 s2
 caused_after reasons run.Stopped s0 s1 s2 stop p a h = stop refl h
 caused_after reasons (run.Refused step) s0 s1 s2 stop p a h = (h.0, last_after out.Refused s0 s1 s2 p h.1)
@@ -130,7 +130,7 @@ leaves_after u run.MarksRepeat s0 s1 s2 p k = k
 leaves_after u run.NoMemory s0 s1 s2 p k = k
 leaves_after u run.KeywordsChanged s0 s1 s2 p k = k
 
--- ---- why a fault is told
+-- ---- why a fault is reported
 
 abbrev StopCount : OutsideFault → Seen → Seen → Type 0
 StopCount e old new = e ≡ out.Stopped → (old.is_broken ≡ true) ⊎ (old.stops < new.stops)
@@ -155,7 +155,7 @@ called_by reasons (out.BadState line) s0 s1 stop h t u = inr (inr (h (λ e. cc),
 called_by reasons (out.BadJournal line) s0 s1 stop h t u = (h (λ e. cc), t.journal line refl)
 called_by reasons out.NoMemory s0 s1 stop h t u = tt
 
--- ---- how many stops it tells
+-- ---- how many stops it reports
 
 step_stops : (e : OutsideFault) (number : ℕ) → stops_met (step_fault e number) ≡ stops_told e
 step_stops out.Stopped number = refl
@@ -173,7 +173,7 @@ call_stops (out.BadState line) = refl
 call_stops (out.BadJournal line) = refl
 call_stops out.NoMemory = refl
 
--- a fault of the run's own tells none
+-- a fault of the run's own reports none
 no_stop : (reasons : Reasons) (f : RunFault) (s : Seen) → s.is_broken ≡ false → IsCaused reasons f s s → stops_met f ≡ 0
 no_stop reasons run.Stopped s whole (inl broken) = absurd (cc)
 no_stop reasons run.Stopped s whole (inr more) = omega (arith, more)
@@ -227,7 +227,7 @@ broken_or_whole s = either s.is_broken
 
 module _ {T : Type 0} (honest : Type 0) (from : Device → Type 0) (others : Effect Device) (copies : T → ℕ) (tells : OutsideFault → Type 0) (does : T → Effect Device) (leaves : OutsideFault → Effect Device) (s0 s1 : Seen) where
   -- that went
-  -- by what was told where the outside has kept its word
+  -- by what was reported where the outside has behaved as specified
   pub passed_told : (to : Device → Type 0) (x : T) → Call honest others copies tells does leaves s0 s1 (Ok x) → (honest → (m : Device) → from s0.device → others s0.device m → does x m s1.device → to s1.device) → Passed honest from to (copies x) s0 s1
   passed_told to x c f =
       let a = c.acts in
@@ -350,7 +350,7 @@ left_after {reasons} h0 h1 a b underway m f s0 s1 s2 honest p q =
       left = λ h at. leaves_after underway f s0 s1 s2 more (q.left h (p.reaches (honest h) at));
     }
 
--- a fault of the run's own, behind a part that went
+-- a fault of the run's own, after a part that went
 pub left_here : {reasons : Reasons} (h : Type 0) (a b underway : Device → Type 0) (m : ℕ) (f : RunFault) (s0 s1 : Seen) → Passed h a b m s0 s1 → IsCaused reasons f s1 s1 → (b s1.device → LeavesRun underway f s0 s1) → Left reasons h a underway f s0 s1
 left_here {reasons} h a b underway m f s0 s1 p caused g = record {
   caused = caused_after reasons f s0 s1 s1 (stop_after s0 s1 s1 p.is_whole p.stops) (more_none s0 s1 p.told) (omega (arith, p.appends)) caused;

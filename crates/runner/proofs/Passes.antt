@@ -286,7 +286,7 @@ module _ {ours : List ℕ → Bool} {alone : Bool} (opening : Opening ours alone
         since = since_map opening _ _ (λ w g k. (subst (λ (x : Options). IsPlanned ours w x plan) (sym asked.called ∙ c.chosen) (is w g.in_order (c.state ∙ ap (λ (x : SyncState). Some x) (sym g.state)) k.0 mine), k.1)) both.since;
       }
 
-  -- it is that of the world that was listed, and so are the messages that were passed over
+  -- it is that of the world that was listed, and so are the messages that were skipped
   pub passed_by : (opened : Option Opened) (options : Options) (stream : Stream) (far near : Listing) (plan : Plan) (unfit : List (Side × ℕ)) → IsDrawn opened stream far near options plan.steps
       → ((w : World) → IsInOrder w → state_of opened ≡ Some w.state → AreShown w far near → All (λ mark. ours mark ≡ true) (marks_of plan.steps) → IsPlanned ours w options plan)
       → AreUnfit opened far near options unfit → (d : Device) → Inputs opening options stream → BothListed opening opened far near d → PassedOver opening plan unfit
@@ -410,7 +410,7 @@ module _ {ours : List ℕ → Bool} {alone : Bool} (opening : Opening ours alone
       by_case (inr (inl s)) = absurd (idle_planned o.pending none (planned_state o s.world d s.grows k.held s.holds).1)
       by_case (inr (inr s)) = let e = done_state o s.world d s.grows k.held s.holds in absurd (omega arith)
 
-  -- what was read is of the opening's run or of the one behind it
+  -- what was read is of the opening's run or of the one after it
   pub known_least : (opened : Option Opened) (d : Device) → ReadUnderway opening opened d → opening.world.state.run ≤ run_of opened
   known_least None d k = absurd k.held
   known_least (Some o) d k = by_case k.underway

@@ -120,7 +120,7 @@ turned_state f (Some o) = refl
 
 -- ---- a fault of the shelf
 
--- files that hold a book tell no line
+-- files that hold a book report no line
 pub no_line : (files : Files) (s : SyncState) (p : Pending) (e : OutsideFault) → Holds files s p → FromShelf e → TellsFiles e files → TellsNoBook e
 no_line files s p out.Stopped h k t = tt
 no_line files s p out.Refused h k t = tt
@@ -137,7 +137,7 @@ no_line files s p (out.BadJournal line) h k t = by_fault (held_open files s p (b
     by_fault (inr e) = cc
 no_line files s p out.NoMemory h k t = tt
 
--- what was told of the files is so of those that stand there
+-- what was reported of the files is so of those that stand there
 pub unread_files : (e : OutsideFault) (m d' : Device) → d' ≡ m → TellsFiles e m.files → TellsFiles e d'.files
 unread_files e m d' is t = subst (λ (d : Device). TellsFiles e d.files) (sym is) t
 

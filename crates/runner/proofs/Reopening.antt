@@ -27,7 +27,7 @@ module _ {ours : List ℕ → Bool} {alone : Bool} (opening : Opening ours alone
   pub attempted_none : (from : Type 0) (n : ℕ) (s : Seen) → n ≡ 0 → Attempted from n s s
   attempted_none from n s z = record { reopens = record { since = []; now = refl; as_many = sym z }; each = λ f. All-nil (Underway opening); goes_on = λ f. stays s.device s.device refl }
 
-  -- an attempt behind these finds the outside so
+  -- an attempt after these finds the outside so
   record Found (n : ℕ) (before : List Device) (start now s1 : Seen) : Type 0 where
     reopens : Reopens n start s1
     at : began_on reopens.since start.device ≡ s1.device
@@ -60,7 +60,7 @@ module _ {ours : List ℕ → Bool} {alone : Bool} (opening : Opening ours alone
             goes_on = λ s2 over on. (over, subst (λ (d : Device). GoesOn d s2.device) (found_device n now s1 e) on);
           }
 
-  -- where it began, as it is told behind it
+  -- where it began, as it is reported after it
   pub record LastAttemptAt (n : ℕ) (start s1 s2 : Seen) (stream drawn : Stream) : Type 0 where
     pub began : LastAttempt opening n start s2 stream
     pub at : began_on began.reopens.since start.device ≡ s1.device

@@ -144,7 +144,7 @@ module _ {ours : List ℕ → Bool} {alone : Bool} (opening : Opening ours alone
   pub copied_held : (d : Device) → AfterCopy opening opened d → RefusedAt (number_at opened) d
   copied_held d k = let s = k.since in let at = s.holds in stands_held s.world d (inr (Copied at.0, at.1))
 
-  -- a plan that was just made stands where its log says, and may be taken up
+  -- a plan that was just made stands where its log says, and may be resumed
   pub either_ready : (is_resumed : Bool) (d : Device) → BeforeStep opening opened false d → BeforeStep opening opened is_resumed d
   either_ready false d k = k
   either_ready true d k = moment_map opening opened _ _ (λ w g b at. inl (false, at)) k

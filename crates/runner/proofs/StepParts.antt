@@ -1,4 +1,4 @@
--- Parts that perform steps: which step a refusal is told of.
+-- Parts that perform steps: which step a refusal is reported of.
 use Rattle.std.proofs.Common.{◌≡◌, ◌∙◌, ℕ, Bool, List, Option, Some, None, Result, refl, sym, subst}
 use Rattle.rand_core.specs.Stream.{Stream}
 use Rattle.rules.specs.declared.options.Options.{Options}

@@ -1,4 +1,4 @@
--- What is told of a run: the copies stand in the state that a commit makes, and the steps are those of the plan of its world.
+-- What is reported of a run: the copies stand in the state that a commit makes, and the steps are those of the plan of its world.
 use Rattle.std.proofs.Common.{◌≡◌, ℕ, All, List, [], ◌∷◌, ◌++◌, length, drop, take, Bool, false, Option, Some, None, unwrap_or, Result, Ok, Err, IfOk, sym, ◌∙◌, ap, subst}
 use Rattle.std.specs.Prelude.{Contains, IsPermutation}
 use Rattle.std.proofs.lemmas.List.{take-append-drop}
@@ -70,7 +70,7 @@ among (s ∷ steps) (l ∷ ls) ps e =
     let rest = entries_of_copies steps (ls ++ logs_of ps) in
     All-weaker (IsAmong rest) (IsAmong (entry_of_copy s l ++ rest)) (λ q k. among_more (entry_of_copy s l) rest q k) ps (among steps ls ps e)
 
--- ---- what is told of a step
+-- ---- what is reported of a step
 
 is_other : (r : StepResult) → FitsStep (step.Gone Pull 0 0) (logged_of r) → IsOtherResult r
 is_other (did.Made copy) f = f

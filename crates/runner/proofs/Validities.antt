@@ -186,7 +186,7 @@ compared_listed (Some o) far near side are told = let r = by_pending o.pending (
     by_pending Useless e = (state_validity o.state side, e)
     by_pending (Planned written) e = (plan_validity written.journal.plan side, refl)
 
--- ---- what is told
+-- ---- what is reported
 
 pub far_told : (honest : Type 0) (alone : Bool) (opened : Option Opened) (a b : Device) (side : Side) → TellsOther honest alone opened Far a b side → TellsChange honest alone opened a b side
 far_told honest alone opened a b side told = λ h. let t = told.1 h in (rw told.0 t.0, t.1)

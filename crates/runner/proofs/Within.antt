@@ -91,6 +91,6 @@ module _ {ours : List ℕ → Bool} {alone : Bool} (opening : Opening ours alone
   pub set_whole : (direction : Direction) (far near set cleared : ℕ) → next_at opened ≡ Some (step.Flags direction far near set cleared) → (d : Device) → BeforeStep opening opened true d → kept of_outside set ≡ set
   set_whole direction far near set cleared next d k = kept_whole opening.options.keywords of_outside set same (ready_within opening opened (step.Flags direction far near set cleared) next true d k).0
 
-  -- and those that are cleared behind them
+  -- and those that are cleared after them
   pub cleared_whole : (direction : Direction) (far near set cleared : ℕ) → next_at opened ≡ Some (step.Flags direction far near set cleared) → (is_made : Bool) (d : Device) → DuringStep opening opened is_made d → kept of_outside cleared ≡ cleared
   cleared_whole direction far near set cleared next is_made d k = kept_whole opening.options.keywords of_outside cleared same (begun_within opening opened (step.Flags direction far near set cleared) next is_made d k).1

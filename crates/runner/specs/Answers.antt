@@ -58,7 +58,7 @@ abbrev pub RepeatsIn : Option Opened → Stream → (far near : Listing) → Opt
 RepeatsIn None stream far near options = ⊥
 RepeatsIn (Some o) stream far near options = RepeatsFor stream (count_new (scene far near o.state options))
 
--- one for each new message of some world since the opening, where the outside has kept its word and began so
+-- one for each new message of some world since the opening, where the outside has behaved as specified and began so
 pub record HasRepeats {ours : List ℕ → Bool} {alone : Bool} (opening : Opening ours alone) (honest from : Type 0) (options : Options) (stream : Stream) : Type 0 where
   pub count : ℕ
   pub repeats : RepeatsFor stream count
@@ -74,7 +74,7 @@ abbrev pub AreUnfit : Option Opened → (far near : Listing) → Options → Lis
 AreUnfit None far near options unfit = ⊥
 AreUnfit (Some o) far near options unfit = unfit ≡ all_unfit (scene far near o.state options)
 
--- the steps performed are those of the plan of two listings, and these messages of the same listings were passed over
+-- the steps performed are those of the plan of two listings, and these messages of the same listings were skipped
 pub record IsRun (opened : Option Opened) (options : Options) (stream : Stream) (steps : List Step) (unfit : List (Side × ℕ)) : Type 0 where
   pub far : Listing
   pub near : Listing

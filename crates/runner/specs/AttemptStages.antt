@@ -20,8 +20,8 @@ use Rattle.runner.specs.Results.{HasResults, Report}
 use Rattle.runner.specs.Validities.{IsCompared, TellsChanged}
 
 module _ {O : Type 0} (o : Ghosts O) (opening : Opening o.ours o.alone) where
-  -- What is said of an answer, by the files that the attempt found. If it began with the run still to do: the report, which copies were found,
-  -- and what calls have named.
+  -- What is said of an answer, by the files that the attempt found. If it began with the run still to do: the report, which copies were
+  -- found, and what calls have named.
   pub record AttemptAnswer (options : Options) (stream : Stream) (fixed : Option ℕ) (old new : O) (pass : Pass) : Type 0 where
     pub by_files : o.honest new → AttemptAt opening fixed (o.seen old).device → AnswersAt (opening.world.state.run + 1) options pass (o.seen old).device stream
     pub results : o.honest new → HasResults pass (o.seen new).device
@@ -29,7 +29,7 @@ module _ {O : Type 0} (o : Ghosts O) (opening : Opening o.ours o.alone) where
     pub found : o.honest new → AttemptStart opening options stream fixed (o.seen old).device → FindsAt o.ours (o.seen old).device pass
     pub named : o.honest new → AttemptStart opening options stream fixed (o.seen old).device → NamesAt opening pass (o.seen old).device (o.seen new).device
 
-  -- The run's number: it is never beyond the next one, and none is fixed after the greatest, of which the attempt tells.
+  -- The run's number: it is never beyond the next one, and none is fixed after the greatest, of which the attempt reports.
   pub record FixesRun (fixed now : Option ℕ) (old new : O) (result : Result Pass RunFault) : Type 0 where
     pub reached : o.honest new → IsReached fixed (o.seen old).device.files → IsReached now (o.seen new).device.files
     pub greatest : fixed ≡ None → HasNoNext (o.honest new) o.alone (o.seen old).device (o.seen new).device result
@@ -45,8 +45,8 @@ module _ {O : Type 0} (o : Ghosts O) (opening : Opening o.ours o.alone) where
       or_unread (TellsUnread h d') (or_greatest (TellsLastRun now h d') (or_beyond (IsRead now × (h → IsReached fixed d.files → ⊥))
       (or_keywords (TellsOtherMap now h o.alone options.keywords d d') (because (λ side. TellsChanged h o.alone d d' side × IsCompared now side) (HasRepeats opening h (AttemptStart opening options stream fixed d) options stream)))))
 
-  -- An attempt, between two numbers of the run, where one is fixed, and two places of the generator. If it succeeds, the run is over. After an
-  -- error it is still to do. On an outside that had failed before, it stops.
+  -- An attempt, between two numbers of the run, where one is fixed, and two places of the generator. If it succeeds, the run is over. After
+  -- an error it is still to do. On an outside that had failed before, it stops.
   pub record Attempt (options : Options) (stream drawn : Stream) (fixed now : Option ℕ) (old new : O) (result : Result Pass RunFault) : Type 0 where
     pub frame : Frame o old new
     pub answer : IfOk result (AttemptAnswer options stream fixed old new)

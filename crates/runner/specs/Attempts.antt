@@ -22,12 +22,12 @@ use Rattle.runner.specs.Validities.{HasChanged, IsKept}
 
 -- ---- where a run stands between two attempts
 
--- an opening: the run behind its state has not been finished, and its number is not beyond the greatest
+-- an opening: the run after its state has not been finished, and its number is not beyond the greatest
 pub record AtOpening {ours : List ℕ → Bool} {alone : Bool} (opening : Opening ours alone) (d : Device) : Type 0 where
   pub room : opening.world.state.run + 1 < 2 ^ 64
   pub open_run : Unplanned opening d ⊎ IsPending opening d
 
--- so much is so where this began at an opening, on an outside that has kept its word, under the options of the call and marks that
+-- so much is so where this began at an opening, on an outside that has behaved as specified, under the options of the call and marks that
 -- nobody else writes
 abbrev pub FromOpening : (honest : Type 0) → {ours : List ℕ → Bool} {alone : Bool} → Opening ours alone → Options → Stream → (start : Device) → Type 0 → Type 0
 FromOpening honest {ours} {alone} opening options stream start P = honest → Inputs opening options stream → AtOpening opening start → P
@@ -62,7 +62,8 @@ GoesOnOver (d ∷ since) start now = GoesOnOver since start d × GoesOn d now
 
 -- ---- the last attempt
 
--- the device on which the last of several attempts began: as it was when the outside was opened again the last time since, or else the first
+-- the device on which the last of several attempts began: as it was when the outside was opened again the last time since, or else the
+-- first
 abbrev pub began_on : (since : List Device) → (start : Device) → Device
 began_on [] start = start
 began_on (d ∷ since) start = d
@@ -73,9 +74,10 @@ pub record Reopens (times : ℕ) (old new : Seen) : Type 0 where
   pub now : new.reopened ≡ since ++ old.reopened
   pub as_many : length since ≡ times
 
--- Where an attempt began that came after so many others. Behind each of those the outside was opened again, and not otherwise, with the run
--- underway. The first one began where `settle` was called, and each other where the outside was opened for it. From one to the next, and from
--- the last to its end, no plan and no logged step was lost, and each message that no call named stayed. The generator has moved by whole pairs.
+-- Where an attempt began that came after so many others. After each of those the outside was opened again, and not otherwise, with the run
+-- underway. The first one began where `settle` was called, and each other where the outside was opened for it. From one to the next, and
+-- from the last to its end, no plan and no logged step was lost, and each message that no call named stayed. The generator has moved by
+-- whole pairs.
 pub record LastAttempt {ours : List ℕ → Bool} {alone : Bool} (opening : Opening ours alone) (earlier : ℕ) (old new : Seen) (stream : Stream) : Type 0 where
   pub reopens : Reopens earlier old new
   pub each : All (Underway opening) reopens.since
@@ -117,7 +119,7 @@ pub record HaveRepeated (honest : Type 0) {ours : List ℕ → Bool} {alone : Bo
 
 -- ---- the greatest number
 
--- no run comes behind that of the greatest number: line 2 of the state says so, unless it was not read
+-- no run comes after that of the greatest number: line 2 of the state says so, unless it was not read
 abbrev pub TellsNoNext : RunFault → Type 0
 TellsNoNext run.Stopped = Unit {0}
 TellsNoNext (run.Refused step) = ⊥
@@ -129,7 +131,7 @@ TellsNoNext run.MarksRepeat = ⊥
 TellsNoNext run.NoMemory = Unit {0}
 TellsNoNext run.KeywordsChanged = ⊥
 
--- so it is told where the state's run has it, and nothing has changed then
+-- so it is reported where the state's run has it, and nothing has changed then
 abbrev pub HasNoNext : {T : Type 0} → (honest : Type 0) → (alone : Bool) → (d d' : Device) → Result T RunFault → Type 0
 HasNoNext honest alone d d' result = honest → (s : SyncState) (p : Pending) → Holds d.files s p → s.run + 1 ≡ 2 ^ 64 → IsErrAnd result TellsNoNext × IsKept alone d d'
 

@@ -46,7 +46,7 @@ pub record ReadUnderway {ours : List ℕ → Bool} {alone : Bool} (opening : Ope
   pub underway : Underway opening d
   pub held : IsHeld opened d
 
--- there is a plan, which will be taken up
+-- there is a plan, which will be resumed
 pub record Resumed {ours : List ℕ → Bool} {alone : Bool} (opening : Opening ours alone) (opened : Option Opened) (d : Device) : Type 0 where
   pub pending : IsPending opening d
   pub held : IsHeld opened d
@@ -56,8 +56,8 @@ pub record HasNone {ours : List ℕ → Bool} {alone : Bool} (opening : Opening 
   pub unplanned : Unplanned opening d
   pub held : IsHeld opened d
 
--- there is no journal, and no call has named a message; once the waiting files are admitted, each that waited at the opening has its UID, and none
--- waits where nobody adds any
+-- there is no journal, and no call has named a message; once the waiting files are admitted, each that waited at the opening has its UID,
+-- and none waits where nobody adds any
 pub record IsClear {ours : List ℕ → Bool} {alone : Bool} (opening : Opening ours alone) (opened : Option Opened) (is_admitted : Bool) (d : Device) : Type 0 where
   pub state : state_of opened ≡ Some opening.world.state
   pub files : Holds d.files opening.world.state Missing

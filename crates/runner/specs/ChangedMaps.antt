@@ -1,4 +1,4 @@
--- When it is told that the map of keywords has changed.
+-- When it is reported that the map of keywords has changed.
 use Rattle.std.specs.Prelude.{Bool, List, Option}
 use Rattle.mailcore.specs.declared.keywords.Keyword.{Keyword}
 use Rattle.mailcore.specs.declared.side.Side.{Side}

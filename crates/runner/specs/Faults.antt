@@ -1,4 +1,4 @@
--- How the faults of the outside are told by a run, and what a fault of a run says.
+-- How the faults of the outside are reported by a run, and what a fault of a run says.
 use Rattle.std.specs.Prelude.{◌≡◌, ◌<◌, ◌⊎◌, ◌+◌, ◌^◌, ℕ, true, length, Option, None, Some}
 use Rattle.mailcore.specs.declared.side.Side.{Side}
 use Rattle.mailcore.specs.declared.side.Side.TheVariants.{Far}
@@ -27,7 +27,7 @@ call_fault (out.BadState line) = run.BadState line
 call_fault (out.BadJournal line) = run.BadJournal line
 call_fault out.NoMemory = run.NoMemory
 
--- how it is told while the step of this number is performed
+-- how it is reported while the step of this number is performed
 abbrev pub step_fault : OutsideFault → (number : ℕ) → RunFault
 step_fault out.Stopped number = run.Stopped
 step_fault out.Refused number = run.Refused number
@@ -36,7 +36,7 @@ step_fault (out.BadState line) number = run.BadState line
 step_fault (out.BadJournal line) number = run.BadJournal line
 step_fault out.NoMemory number = run.NoMemory
 
--- how many stops a fault tells
+-- how many stops a fault reports
 abbrev pub stops_met : RunFault → ℕ
 stops_met run.Stopped = 1
 stops_met (run.Refused step) = 0
@@ -48,9 +48,9 @@ stops_met run.MarksRepeat = 0
 stops_met run.NoMemory = 0
 stops_met run.KeywordsChanged = 0
 
--- ---- why a run may tell a fault
+-- ---- why a run may report a fault
 
--- a copy was made whose UID was not told, and it was not found
+-- a copy was made whose UID was not reported, and it was not found
 pub record IsLost (side : Side) (number : ℕ) (old new : Seen) : Type 0 where
   pub far : side ≡ Far
   pub protocol : number ≡ 3
@@ -109,9 +109,9 @@ ReadsBeyond (Some o) run = o.state.run + 1 < run
 abbrev pub TellsBeyond : (now : Option Opened) → (honest : Type 0) → (run : ℕ) → Device → Type 0
 TellsBeyond now honest run d = ReadsBeyond now run × (honest → IsBeyond run d)
 
--- what stands behind faults of the run's own: that a side's UIDVALIDITY has changed, that the map of keywords has, that marks repeat, that
--- the run is beyond the next one, that the state's run has the greatest number, and that the files hold no book where a line of the state or the
--- journal is reported as bad; and behind a refusal: that it is one of this step, or of a call by which no step was performed
+-- why faults of the run's own are reported: that a side's UIDVALIDITY has changed, that the map of keywords has, that marks repeat, that
+-- the run is beyond the next one, that the state's run has the greatest number, and that the files hold no book, if a line of the state or
+-- the journal is reported as bad; and why a refusal is: it is one of this step
 pub record Reasons : Type 1 where
   pub changed : Side → Type 0
   pub keywords : Type 0
@@ -153,7 +153,7 @@ or_greatest greatest reasons = record reasons { greatest = greatest }
 abbrev pub or_refused : (refused : (step : ℕ) → Type 0) → Reasons → Reasons
 or_refused refused reasons = record reasons { refused = refused }
 
--- A call stopped, was refused or had another fault, which is the last that was told; the faults of the run's own have their reasons.
+-- A call stopped, was refused or had another fault, which is the last that was reported; the faults of the run's own have their reasons.
 -- Line 0 of the state: the run is beyond the next one. Line 2: its run has the greatest number. Any line of the state or the journal: the
 -- outside has reported it last, line 0 of a copy whose UID is taken, and each other one of files that hold no book.
 abbrev pub IsCaused : Reasons → RunFault → Seen → Seen → Type 0
@@ -169,7 +169,8 @@ IsCaused reasons run.KeywordsChanged old new = reasons.keywords
 
 -- ---- what a fault leaves of a run that is underway
 
--- It is underway still. Neither the state nor the journal is found bad then, and a refusal or a fault of a box is the last that was told.
+-- It is underway still. Neither the state nor the journal is found bad then, and a refusal or a fault of a box is the last that was
+-- reported.
 abbrev pub LeavesRun : (underway : Device → Type 0) → RunFault → Seen → Seen → Type 0
 LeavesRun underway run.Stopped old new = underway new.device
 LeavesRun underway (run.Refused step) old new = underway new.device × IsLast out.Refused old new

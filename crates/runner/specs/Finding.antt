@@ -1,4 +1,4 @@
--- Whether a copy that is told was made in this pass or found: by what the target held when the pass began.
+-- Whether a copy that is reported was made in this pass or found: by what the target held when the pass began.
 use Rattle.std.specs.Prelude.{◌≡◌, ℕ, All, Bool, true, List, [], ◌∷◌, Option, None, Some}
 use Rattle.mailcore.specs.declared.side.Side.{Side}
 use Rattle.mailcore.specs.declared.side.Direction.{Direction}
@@ -32,27 +32,27 @@ copy_at plan (step.Gone direction far near) d = None
 copy_at plan (step.Flags direction far near set cleared) d = None
 copy_at plan (step.Expunge side uid) d = None
 
--- the UID that is told as that of a copy that was found
+-- the UID that is reported as that of a copy that was found
 abbrev pub told_found : StepResult → Option ℕ
 told_found (did.Made copy) = None
 told_found (did.Found copy) = Some copy
 told_found did.Void = None
 told_found did.Plain = None
 
--- a copy is told as found exactly if it stood there, and has the UID that it had
+-- a copy is reported as found exactly if it stood there, and has the UID that it had
 abbrev pub IsFoundSo : Plan → Device → Performed → Type 0
 IsFoundSo plan d p = told_found p.result ≡ copy_at plan p.step d
 
--- none is told as found
+-- none is reported as found
 abbrev pub IsNew : Performed → Type 0
 IsNew p = told_found p.result ≡ None
 
--- The first of the steps may have been done when the pass began. Those behind it were not.
+-- The first of the steps may have been done when the pass began. Those after it were not.
 abbrev pub AreFoundSo : Plan → Device → List Performed → Type 0
 AreFoundSo plan d [] = Unit {0}
 AreFoundSo plan d (p ∷ performed) = IsFoundSo plan d p × All IsNew performed
 
--- what a pass tells as found, by what was read and the device when it began: nothing, where it made the plan itself
+-- what a pass reports as found, by what was read and the device when it began: nothing, where it made the plan itself
 abbrev pub FindsBy : Option Opened → Device → Pass → Type 0
 FindsBy opened d Already = Unit {0}
 FindsBy opened d (Ran performed unfit) = All IsNew performed.items
@@ -70,6 +70,6 @@ OfSame ours now P = (d : Device) → FindsSame ours d now → P d
 
 -- ---- by the files
 
--- what a pass tells as found that began with this device, by what its files held
+-- what a pass reports as found that began with this device, by what its files held
 abbrev pub FindsAt : (ours : List ℕ → Bool) → Device → Pass → Type 0
 FindsAt ours began pass = (s : SyncState) (p : Pending) → Holds began.files s p → OfSame ours began (λ d. FindsBy (as_read s p) d pass)

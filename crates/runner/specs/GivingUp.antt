@@ -44,7 +44,7 @@ pub record KeepsBoxes (ours : List ℕ → Bool) (alone : Bool) (d d' : Device) 
 abbrev pub KeepsAll : (ours : List ℕ → Bool) → (alone : Bool) → (d d' : Device) → Type 0
 KeepsAll ours alone d d' = KeepsBoxes ours alone d d' × (d'.files ≡ d.files)
 
--- ---- the copy behind the log
+-- ---- the copy after the log
 
 -- the copy that the next step may have made: it bears its mark, under a UID that was given since the plan was made
 abbrev pub copy_of_next : Plan → Option Step → Device → Option ℕ
@@ -81,8 +81,8 @@ pub record HoldsLeftOf (lost : Lost) (opened : Option Opened) (pending : Pending
   pub left : GivesUp journal lost before state
   pub held : Holds d.files state pending
 
--- the same, where those entries lose a side whose message there the plan has removed, or found removed, and whose other one was undeleted, by
--- both mailboxes as they were looked at
+-- the same, where those entries lose a side whose message there the plan has removed, or found removed, and whose other one was undeleted,
+-- by both mailboxes as they were looked at
 pub record HoldsLeft (ours : List ℕ → Bool) (alone : Bool) (opened : Option Opened) (pending : Pending) (d d' : Device) : Type 0 where
   pub before : SyncState
   pub journal : Journal
@@ -94,9 +94,9 @@ pub record HoldsLeft (ours : List ℕ → Bool) (alone : Bool) (opened : Option 
   pub left : GivesUp journal (lost_at journal before looked) before state
   pub held : Holds d'.files state pending
 
--- The state that is left of this plan, of whose next step a copy was sought: it is logged if it was there. The device on which it was sought
--- has the same copies as this one. Those entries lose a side whose message there the plan has removed, or found removed, and whose other one was
--- undeleted, by both mailboxes as they were looked at.
+-- The state that is left of this plan, of whose next step a copy was sought: it is logged if it was there. The device on which it was
+-- sought has the same copies as this one. Those entries lose a side whose message there the plan has removed, or found removed, and whose
+-- other one was undeleted, by both mailboxes as they were looked at.
 pub record IsGivenUp (ours : List ℕ → Bool) (alone : Bool) (before : SyncState) (j : Journal) (d d' : Device) (pending : Pending) : Type 0 where
   pub sought : Device
   pub same : FindsSame ours d sought
@@ -161,7 +161,7 @@ pub record LosesBy (ours : List ℕ → Bool) (alone : Bool) (opened : Option Op
 abbrev pub RemovesSome : Option Opened → Bool → Type 0
 RemovesSome opened removes = (j : Journal) → journal_of opened ≡ Some j → removes ≡ removes_some j
 
--- ---- why giving up may tell a fault, and what it counts
+-- ---- why giving up may report a fault, and what it counts
 
 abbrev pub Nowhere : Device → Type 0
 Nowhere d = ⊥
@@ -170,17 +170,16 @@ Nowhere d = ⊥
 abbrev pub Counted : {T : Type 0} → Reasons → (honest : Type 0) → Seen → Seen → Result T RunFault → Type 0
 Counted reasons honest old new result = PartOr reasons honest Nowhere Nowhere (λ _. 0) (λ _. Nowhere) old new result
 
--- a refusal may be told of the step of this number
+-- a refusal may be reported of the step of this number
 abbrev pub InLook : (number : ℕ) → Reasons
 InLook number = or_refused (λ step. step ≡ number) Never
 
--- a refusal may be told of the next step of the plan that the files held
+-- a refusal may be reported of the next step of the plan that the files held
 abbrev pub TellsNext : (honest : Type 0) → Device → (step : ℕ) → Type 0
 TellsNext honest d step = honest → (s : SyncState) (w : WrittenJournal) → Holds d.files s (Planned w) → step ≡ length w.journal.log + 1
 
--- Why giving up may tell a fault: `ValidityChanged` comes only where that side's UIDVALIDITY is not the plan's, far before near, and nothing
--- has changed then; a line of the state or the journal only where the files that stand there hold no book, but line 0 of the state, which the
--- outside has told last, of a copy whose UID is taken; and a refusal only of the step after the logged ones, or of a call by which no step is
--- performed.
+-- Why giving up may report a fault: `ValidityChanged` comes only where that side's UIDVALIDITY is not the plan's, far before near, and
+-- nothing has changed then; a line of the state or the journal only where the files that stand there hold no book, but line 0 of the state,
+-- which the outside has reported last, of a copy whose UID is taken; and a refusal only of the step after the logged ones.
 abbrev pub giving_up_reasons : (honest : Type 0) → (alone : Bool) → (old new : Device) → Reasons
 giving_up_reasons honest alone old new = or_unread (TellsUnread honest new) (or_refused (TellsNext honest old) (because (TellsChanged honest alone old new) ⊥))

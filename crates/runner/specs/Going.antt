@@ -137,7 +137,7 @@ pub record AtMoment {ours : List ℕ → Bool} {alone : Bool} (opening : Opening
   pub state : state_of opened ≡ Some opening.world.state
   pub since : Since opening P
 
--- none of its calls is done; where the plan was taken up again, some or all may be
+-- none of its calls is done; where the plan was resumed, some or all may be
 abbrev pub StepStart : (List ℕ → Bool) → Bool → List Named → World → Options → Version → Plan → List Logged → (is_resumed : Bool) → Device → Type 0
 StepStart ours alone earlier w options version plan log false d = Midway ours alone earlier w options version plan log false log false d
 StepStart ours alone earlier w options version plan log true d = Stands ours alone earlier w options version plan log false d

@@ -10,12 +10,12 @@ use Rattle.runner.specs.declared.fault.RunFault.TheVariants.{Stopped}
 use Rattle.runner.specs.Faults.{IsCaused, LeavesRun, Reasons, RefusedAt, TellsRefused, because, or_refused, performing, stops_met}
 use Rattle.runner.specs.Going.{number_at}
 
--- what was told before stands behind what was told since
+-- what was reported before stands after what was reported since
 pub record TellsMore (old new : Seen) : Type 0 where
   pub since : List OutsideFault
   pub now : new.told ≡ since ++ old.told
 
--- neither count falls, nothing that was told is lost, and nothing was opened again
+-- neither count falls, nothing that was reported is lost, and nothing was opened again
 pub record NoLess (old new : Seen) : Type 0 where
   pub stops : old.stops ≤ new.stops
   pub told : TellsMore old new
@@ -33,8 +33,8 @@ pub record Passed (honest : Type 0) (from to : Device → Type 0) (copies : ℕ)
   pub goes_on : honest → GoesOn old.device new.device
   pub reaches : honest → from old.device → to new.device
 
--- a part that ended with a fault; where the outside was whole before, a stop that it tells was counted once, and no other. The device has gone
--- on.
+-- a part that ended with a fault; where the outside was whole before, a stop that it reports was counted once, and no other. The device has
+-- gone on.
 pub record Left (reasons : Reasons) (honest : Type 0) (from underway : Device → Type 0) (fault : RunFault) (old new : Seen) : Type 0 where
   pub caused : IsCaused reasons fault old new
   pub no_less : NoLess old new
@@ -42,7 +42,7 @@ pub record Left (reasons : Reasons) (honest : Type 0) (from underway : Device �
   pub goes_on : honest → GoesOn old.device new.device
   pub left : honest → from old.device → LeavesRun underway fault old new
 
--- a part that may tell a fault of the run's own, for these reasons
+-- a part that may report a fault of the run's own, for these reasons
 abbrev pub PartOr : {T : Type 0} → Reasons → (honest : Type 0) → (from underway : Device → Type 0) → (copies : T → ℕ) → (reaches : T → Device → Type 0) → Seen → Seen → Result T RunFault → Type 0
 PartOr reasons honest from underway copies reaches old new (Ok answer) = Passed honest from (reaches answer) (copies answer) old new
 PartOr reasons honest from underway copies reaches old new (Err fault) = Left reasons honest from underway fault old new
@@ -55,15 +55,15 @@ Never = performing (λ step. ⊥)
 abbrev pub Part : {T : Type 0} → (honest : Type 0) → (from underway : Device → Type 0) → (copies : T → ℕ) → (reaches : T → Device → Type 0) → Seen → Seen → Result T RunFault → Type 0
 Part honest from underway copies reaches old new result = PartOr Never honest from underway copies reaches old new result
 
--- a refusal is told of the step of this number, and the files hold the plan of which it is the next step
+-- a refusal is reported of the step of this number, and the files hold the plan of which it is the next step
 abbrev pub InStep : (number : ℕ) → Option Opened → (honest from : Type 0) → Device → Reasons
 InStep number opened honest from d = performing (λ step. (step ≡ number) × (honest → from → RefusedAt (number_at opened) d))
 
--- a part that performs the step of this number, and tells no fault of the run's own
+-- a part that performs the step of this number, and reports no fault of the run's own
 abbrev pub StepPart : {T : Type 0} → (number : ℕ) → Option Opened → (honest : Type 0) → (from underway : Device → Type 0) → (copies : T → ℕ) → (reaches : T → Device → Type 0) → Seen → Seen → Result T RunFault → Type 0
 StepPart number opened honest from underway copies reaches old new result = PartOr (InStep number opened honest (from old.device) new.device) honest from underway copies reaches old new result
 
--- a part that performs steps of the plan that is pending, and may tell a fault of the run's own, for these reasons
+-- a part that performs steps of the plan that is pending, and may report a fault of the run's own, for these reasons
 abbrev pub RunPart : {T : Type 0} → Reasons → (now : Option Opened) → (honest : Type 0) → (from underway : Device → Type 0) → (copies : T → ℕ) → (reaches : T → Device → Type 0) → Seen → Seen → Result T RunFault → Type 0
 RunPart reasons now honest from underway copies reaches old new result = PartOr (or_refused (TellsRefused now honest (from old.device) new.device) reasons) honest from underway copies reaches old new result
 

@@ -72,8 +72,8 @@ module _ {O : Type 0} (o : Ghosts O) where
 
     -- ---- a stage
 
-    -- What is said of an answer to this run, by what was read when the stage began. If the run was underway so: the report, which copies were
-    -- found, and what calls have named.
+    -- What is said of an answer to this run, by what was read when the stage began. If the run was underway so: the report, which copies
+    -- were found, and what calls have named.
     pub record StageAnswer (run : ℕ) (from : Device → Type 0) (old new : O) (pass : Pass) : Type 0 where
       pub by_files : AnswersTo run (o.opened old) pass
       pub results : o.honest new → HasResults pass (o.seen new).device
@@ -99,7 +99,7 @@ module _ {O : Type 0} (o : Ghosts O) where
 
     -- ---- a plan
 
-    -- one was made and written, and these messages were passed over, for some world since the opening
+    -- one was made and written, and these messages were skipped, for some world since the opening
     pub record Proposed (options : Options) (stream : Stream) (old new : O) (unfit : List (Side × ℕ)) : Type 0 where
       pub going : IsGoing (o.opened new)
       pub log : log_at (o.opened new) ≡ []

@@ -1,4 +1,4 @@
--- What one pass answers, leaves and may tell.
+-- What one pass answers, leaves and may report.
 use Rattle.std.specs.Prelude.{◌≡◌, ◌≤◌, ◌+◌, ℕ, Bool, true, List, Option}
 use Rattle.rand_core.specs.Stream.{Stream}
 use Rattle.rules.specs.declared.options.Options.{Options}
@@ -20,12 +20,12 @@ use Rattle.runner.specs.Naming.{NamesAt, OthersStand}
 use Rattle.runner.specs.Results.{Report}
 use Rattle.runner.specs.Validities.{IsCompared, LeavesBoxes, TellsChanged}
 
--- Of a run that was underway. The steps told are those of the plan of the world that the run is over for, in order: all of them, or the last
--- where the plan was pending; each new message is told with the UID of a copy; the messages that were passed over are those of the listed
--- world. A copy is told as found exactly if it stood on its side when the pass began, under the UID that it has: that of the first step that
--- was not logged alone, and none where the plan was made in this pass. Where nobody else adds messages, and the run is not an older one, both
--- mailboxes and the state are alike to the outcome that the rules name for the opening. Calls have named only what steps of that plan are to
--- change or to remove, and each other message stands as it did.
+-- Of a run that was underway. The steps reported are those of the plan of the world that the run is over for, in order: all of them, or the
+-- last where the plan was pending; each new message is reported with the UID of a copy; the messages that were skipped are those of the
+-- listed world. A copy is reported as found exactly if it stood on its side when the pass began, under the UID that it has: that of the
+-- first step that was not logged alone, and none where the plan was made in this pass. Where nobody else adds messages, and the run is not
+-- an older one, both mailboxes and the state are alike to the outcome that the rules name for the opening. Calls have named only what steps
+-- of that plan are to change or to remove, and each other message stands as it did.
 pub record TellsRun {ours : List ℕ → Bool} {alone : Bool} (opening : Opening ours alone) (run : ℕ) (pass : Pass) (old new : Device) : Type 0 where
   pub told : Report opening pass new
   pub found : FindsAt ours old pass
@@ -38,12 +38,12 @@ pub record LeavesMade (honest : Type 0) (alone : Bool) (old new : Device) : Type
   pub stores : LeavesBoxes honest alone old new
   pub idle : OfFiles honest old (λ s p. IsIdle p → Holds new.files s Missing)
 
--- Why a pass tells a fault. `ValidityChanged` comes only where that side's UIDVALIDITY is not the recorded one, far before near, and
+-- Why a pass reports a fault. `ValidityChanged` comes only where that side's UIDVALIDITY is not the recorded one, far before near, and
 -- `KeywordsChanged` only where the files hold a plan by another map and both UIDVALIDITYs are those of the plan; nothing has changed then;
--- `MarksRepeat` only where the generator's draws do, before there is a mark for each new message of some world since the
--- opening; a line of the state or the journal only where the outside has reported it last, and the files that stand there hold no book, but line 0
--- of the state: where the run is beyond the next one, or the outside has reported it last. That a run is beyond the next one, and that a plan
--- goes by another map, is so of what was read on each outside; and on each `ValidityChanged` comes only for a box that was opened and has a
+-- `MarksRepeat` only where the generator's draws do, before there is a mark for each new message of some world since the opening; a line of
+-- the state or the journal only where the outside has reported it last, and the files that stand there hold no book, but line 0 of the
+-- state: where the run is beyond the next one, or the outside has reported it last. That a run is beyond the next one, and that a plan goes
+-- by another map, is so of what was read on each outside; and on each `ValidityChanged` comes only for a box that was opened and has a
 -- recorded UIDVALIDITY: never in a first run.
 abbrev pub pass_reasons : (now : Option Opened) → (honest : Type 0) → {ours : List ℕ → Bool} {alone : Bool} → Opening ours alone → (run : ℕ) → Options → Stream → (old new : Device) → Reasons
 pass_reasons now honest {ours} {alone} opening run options stream old new =

@@ -1,4 +1,4 @@
--- What is told of a run: where the copies stand, of which plan the steps are, and which messages were passed over.
+-- What is reported of a run: where the copies stand, of which plan the steps are, and which messages were skipped.
 use Rattle.std.specs.Prelude.{◌≡◌, ℕ, All, Bool, Contains, List, [], ◌++◌, Some}
 use Rattle.mailcore.specs.declared.side.Side.{Side}
 use Rattle.mailcore.specs.declared.side.Direction.{Direction}
@@ -34,14 +34,14 @@ abbrev pub entry_with : Direction → (uid flags copy : ℕ) → Entry
 entry_with Pull uid flags copy = record { far = Some uid; near = Some copy; flags = flags }
 entry_with Push uid flags copy = record { far = Some copy; near = Some uid; flags = flags }
 
--- what may be told of a new message: a copy, which stands with it in an entry, or that there is none
+-- what may be reported of a new message: a copy, which stands with it in an entry, or that there is none
 abbrev pub IsNewResult : List Entry → Direction → (uid flags : ℕ) → StepResult → Type 0
 IsNewResult entries direction uid flags (did.Made copy) = Contains entries (entry_with direction uid flags copy)
 IsNewResult entries direction uid flags (did.Found copy) = Contains entries (entry_with direction uid flags copy)
 IsNewResult entries direction uid flags did.Void = Unit {0}
 IsNewResult entries direction uid flags did.Plain = ⊥
 
--- what may be told of another step, which copies nothing
+-- what may be reported of another step, which copies nothing
 abbrev pub IsOtherResult : StepResult → Type 0
 IsOtherResult (did.Made copy) = ⊥
 IsOtherResult (did.Found copy) = ⊥
@@ -54,7 +54,7 @@ IsResult entries (step.Gone direction far near) result = IsOtherResult result
 IsResult entries (step.Flags direction far near set cleared) result = IsOtherResult result
 IsResult entries (step.Expunge side uid) result = IsOtherResult result
 
--- the files hold a state, in whose entries each copy that is told stands, and no journal
+-- the files hold a state, in whose entries each copy that is reported stands, and no journal
 pub record AreResults (performed : List Performed) (d : Device) : Type 0 where
   pub state : SyncState
   pub files : Holds d.files state Missing
@@ -77,26 +77,26 @@ pub record IsOverBy (ours : List ℕ → Bool) (alone : Bool) (earlier : List Na
 abbrev pub EndsBy : {ours : List ℕ → Bool} {alone : Bool} → Opening ours alone → Plan → List Logged → Device → Type 0
 EndsBy {ours} {alone} opening plan log d = Since opening (λ w. IsOverBy ours alone opening.named w opening.options plan log d)
 
--- some world since the opening has this plan, and these messages of it, which only want fitness to be new, were passed over
+-- some world since the opening has this plan, and these messages of it, which only want fitness to be new, were skipped
 abbrev pub PassedOver : {ours : List ℕ → Bool} {alone : Bool} → Opening ours alone → Plan → List (Side × ℕ) → Type 0
 PassedOver {ours} {alone} opening plan unfit = Since opening (λ w. IsPlanned ours w opening.options plan × (unfit ≡ all_unfit (scene_of w opening.options)))
 
--- The steps told are those of this plan behind these ones. The run is over for a world that has this plan, the copies bear its marks, and
--- each new message that is told, and no other step, has the UID of a copy. Calls have named no message since the opening but those that the
--- steps of this plan are to change or to remove.
+-- The steps reported are those of this plan after these ones. The run is over for a world that has this plan, the copies bear its marks,
+-- and each new message that is reported, and no other step, has the UID of a copy. Calls have named no message since the opening but those
+-- that the steps of this plan are to change or to remove.
 pub record AreStepsOf {ours : List ℕ → Bool} {alone : Bool} (opening : Opening ours alone) (plan : Plan) (before : List Step) (performed : List Performed) (d : Device) : Type 0 where
   pub steps : plan.steps ≡ before ++ steps_of performed
   pub copies : Fit (steps_of performed) (results_of (logs_of performed))
   pub over : Since opening (λ w. EndedUnder ours alone opening.named w opening.options (marks_of plan.steps) d × IsPlanned ours w opening.options plan)
   pub named : NamedBy opening.named plan.steps d.named
 
--- what is told of a run that was planned in this pass: all steps of its plan, and the messages of the world that was listed for it
+-- what is reported of a run that was planned in this pass: all steps of its plan, and the messages of the world that was listed for it
 pub record WholeReport {ours : List ℕ → Bool} {alone : Bool} (opening : Opening ours alone) (performed : List Performed) (unfit : List (Side × ℕ)) (d : Device) : Type 0 where
   pub plan : Plan
   pub all : AreStepsOf opening plan [] performed d
   pub passed_over : PassedOver opening plan unfit
 
--- of one that was taken up: the last steps of its plan
+-- of one that was resumed: the last steps of its plan
 pub record RestReport {ours : List ℕ → Bool} {alone : Bool} (opening : Opening ours alone) (performed : List Performed) (d : Device) : Type 0 where
   pub plan : Plan
   pub before : List Step

@@ -26,13 +26,14 @@ use Rattle.runner.specs.Naming.{NamesAt, OthersStand}
 use Rattle.runner.specs.Results.{Report}
 use Rattle.runner.specs.Validities.{IsCompared}
 
--- An answer. The run is over; where nobody else adds messages, both mailboxes and the state are alike to the outcome that the rules name for
--- the opening. What is told is what the last attempt answered: by the files of the device on which it began, the run was made already, or a
--- plan of it was pending, or none was. The steps told are those of the plan of the world that the run is over for: all of them, or the last
--- where the plan was pending, each new message with the UID of a copy; the messages that were passed over are those of the listed world. A
--- copy that is told as found stood on its side when the last attempt began, and has the UID that it had there; each other one was made by it.
--- Calls have named only what steps of that plan are to change or to remove, and the last attempt none, where the run was made already. Each
--- message that stood when this began, or when an attempt did, and that no step is to change or to remove, stands as it did.
+-- An answer. The run is over; where nobody else adds messages, both mailboxes and the state are alike to the outcome that the rules name
+-- for the opening. What is reported is what the last attempt answered: by the files of the device on which it began, the run was made
+-- already, or a plan of it was pending, or none was. The steps reported are those of the plan of the world that the run is over for: all of
+-- them, or the last where the plan was pending, each new message with the UID of a copy; the messages that were skipped are those of the
+-- listed world. A copy that is reported as found stood on its side when the last attempt began, and has the UID that it had there; each
+-- other one was made by it. Calls have named only what steps of that plan are to change or to remove, and the last attempt none, where the
+-- run was made already. Each message that stood when this began, or when an attempt did, and that no step is to change or to remove, stands
+-- as it did.
 pub record IsSettled {ours : List ℕ → Bool} {alone : Bool} (opening : Opening ours alone) (options : Options) (stream : Stream) (settled : Settled) (old new : Seen) : Type 0 where
   pub over : IsOver opening new.device
   pub alike : alone ≡ true → IsOpening opening.world → IsDone opening.world opening.options new.device
@@ -44,30 +45,31 @@ pub record IsSettled {ours : List ℕ → Bool} {alone : Bool} (opening : Openin
   pub others : (s : SyncState) (p : Pending) → Holds (began_on began.reopens.since old.device).files s p →
       All (λ d. OthersStand opening (as_read s p) settled.last d new.device) (began.reopens.since ++ old.device ∷ [])
 
--- A fault. The run is underway still. Behind `ValidityChanged` and `KeywordsChanged` nothing has changed but what the attempts before the last
--- have done. A step
--- that is told as refused is the next one of the plan that the files then hold.
+-- A fault. The run is underway still. After `ValidityChanged` and `KeywordsChanged` nothing has changed but what the attempts before the
+-- last have done. A step that is reported as refused is the next one of the plan that the files then hold.
 pub record IsUnsettled {ours : List ℕ → Bool} {alone : Bool} (opening : Opening ours alone) (tries : ℕ) (stream : Stream) (fault : RunFault) (old new : Seen) : Type 0 where
   pub left : LeavesRun (Underway opening) fault old new
   pub changed : (side : Side) → fault ≡ run.ValidityChanged side → ChangedLast opening tries side old new stream
   pub keywords : fault ≡ run.KeywordsChanged → KeptLast opening tries old new stream
   pub refused : (step : ℕ) → fault ≡ run.Refused step → RefusedAt step new.device
 
--- Why several attempts report a fault that is no stop. A step is reported as refused only where it is the next one of the plan that is pending
--- then. A UIDVALIDITY is reported as changed only of a box that was opened, and for which one is recorded. Marks repeat only where the draws of an attempt do, and the map of keywords has changed only where the plan that was read goes by another
--- one. A line of the state or the journal is reported only where the outside has reported it last, and the files that stand there hold no book
--- from it on, but line 2 of the state, where the state that was read has the greatest run, and line 0: of a copy whose UID is taken, or of a state
--- that was read and is not the one before the run, which no outside shows that behaves as specified.
+-- Why several attempts report a fault that is no stop. A step is reported as refused only where it is the next one of the plan that is
+-- pending then. A UIDVALIDITY is reported as changed only of a box that was opened, and for which one is recorded. Marks repeat only where
+-- the draws of an attempt do, and the map of keywords has changed only where the plan that was read goes by another one. A line of the
+-- state or the journal is reported only where the outside has reported it last, and the files that stand there hold no book from it on, but
+-- line 2 of the state, where the state that was read has the greatest run, and line 0: of a copy whose UID is taken, or of a state that was
+-- read and is not the one before the run, which no outside shows that behaves as specified.
 abbrev pub settle_reasons : (now : Option Opened) → (honest : Type 0) → {ours : List ℕ → Bool} {alone : Bool} → Opening ours alone → Options → (stream after : Stream) → (old new : Device) → Reasons
 settle_reasons now honest {ours} {alone} opening options stream after old new =
     or_unread (TellsUnread honest new) (or_greatest (TellsLastRun now honest new) (or_refused (IsNextOf now) (or_beyond (IsRead now × (honest → ⊥))
     (or_keywords (HasOtherMapIn options.keywords now × (honest → HoldsOtherMap options.keywords new)) (because (IsCompared now) (HaveRepeated honest opening options stream after old))))))
 
--- a fault that is no stop has its reason; a refusal or a fault of a box is the last that was told, unless it is that of a copy that was lost
+-- a fault that is no stop has its reason; a refusal or a fault of a box is the last that was reported, unless it is that of a copy that was
+-- lost
 abbrev pub HasReason : (now : Option Opened) → (honest : Type 0) → {ours : List ℕ → Bool} {alone : Bool} → Opening ours alone → Options → (stream after : Stream) → RunFault → (old new : Seen) → Type 0
 HasReason now honest {ours} {alone} opening options stream after fault old new = (fault ≡ run.Stopped → ⊥) → IsCaused (settle_reasons now honest opening options stream after old.device new.device) fault old new
 
--- behind a fault: each of all attempts met a stop where a stop is told, and else each but the last
+-- after a fault: each of all attempts met a stop where a stop is reported, and else each but the last
 pub record CountsFailed (tries : ℕ) (fault : RunFault) (old new : Seen) : Type 0 where
   pub stopped : fault ≡ run.Stopped → MetStops tries old new × Reopens (tries - 1) old new
   pub ended : (fault ≡ run.Stopped → ⊥) → MetBefore tries old new
@@ -77,9 +79,9 @@ pub record AppendsLast (earlier copies : ℕ) (old new : Seen) : Type 0 where
   pub least : old.appends + copies ≤ new.appends
   pub alone : earlier ≡ 0 → new.appends ≡ old.appends + copies
 
--- Each attempt but the last met one stop, and no other call stopped. Where the outside had failed before, the first met one that was counted
--- then, and it changed nothing. The outside was opened again for each attempt but the first. The last one has made each copy that it reports as
--- made, and none for a copy that it found.
+-- Each attempt but the last met one stop, and no other call stopped. Where the outside had failed before, the first met one that was
+-- counted then, and it changed nothing. The outside was opened again for each attempt but the first. The last one has made each copy that
+-- it reports as made, and none for a copy that it found.
 abbrev pub CountsAttempts : (tries : ℕ) → (old new : Seen) → Result Settled RunFault → Type 0
 CountsAttempts tries old new (Ok settled) = MetStops settled.stops old new × (failed_before old ≤ settled.stops) × Reopens settled.stops old new × AppendsLast settled.stops (made_in settled.last) old new
 CountsAttempts tries old new (Err fault) = CountsFailed tries fault old new

@@ -1,4 +1,4 @@
--- The UIDVALIDITY of a side that a run goes by, and when it is told to have changed.
+-- The UIDVALIDITY of a side that a run goes by, and when it is reported to have changed.
 use Rattle.std.specs.Prelude.{◌≡◌, ◌≢◌, ◌==◌, if◌then◌else◌, ℕ, Bool, true, Option, None, Some}
 use Rattle.mailcore.specs.declared.side.Side.{Side}
 use Rattle.mailcore.specs.declared.side.Side.TheVariants.{Far, Near}
@@ -93,7 +93,7 @@ pub record IsKept (alone : Bool) (d d' : Device) : Type 0 where
 abbrev pub LeavesBoxes : (honest : Type 0) → (alone : Bool) → (d d' : Device) → Type 0
 LeavesBoxes honest alone d d' = honest → (d'.named ≡ d.named) × (alone ≡ true → (d'.far ≡ d.far) × (d'.near ≡ d.near))
 
--- ---- when a change is told
+-- ---- when a change is reported
 
 -- On each outside: this side's box was opened, and one is recorded for it, so that it was compared.
 pub record IsCompared (now : Option Opened) (side : Side) : Type 0 where

@@ -48,7 +48,7 @@ fn seek<O: Outside>(
     }
 }
 
-/// Looks for the copy that was just made, whose UID was not told.
+/// Looks for the copy that was just made, whose UID was not reported.
 fn find_copy<O: Outside>(
     outside: &mut O,
     number: usize,
@@ -73,7 +73,8 @@ fn find_copy<O: Outside>(
     }
 }
 
-/// Makes the copy. It is void exactly where its source is gone or not fit to be copied. `StoreFault`, number 3 of the far box: its UID was not told, and no message bears its mark.
+/// Makes the copy. It is void exactly where its source is gone or not fit to be copied. `StoreFault`, number 3 of the far box: its UID was
+/// not reported, and no message bears its mark.
 fn copy<O: Outside>(
     outside: &mut O,
     number: usize,
@@ -113,7 +114,7 @@ fn copy<O: Outside>(
     }
 }
 
-/// Performs a step that copies a message. Where the plan was taken up again, a copy that is there is not made again.
+/// Performs a step that copies a message. Where the plan was resumed, a copy that is there is not made again.
 pub(crate) fn bring<O: Outside>(
     outside: &mut O,
     number: usize,

@@ -9,7 +9,7 @@ use outside::fault::OutsideFault;
 use std::error::Error;
 use std::fmt;
 
-/// Why a run was not finished. After each it can be taken up again, once the outside was reopened.
+/// Why a run was not finished. After each it can be resumed, once the outside was reopened.
 #[derive(Clone, Copy, Debug, PartialEq, Eq)]
 pub enum RunFault {
     /// A call was stopped.
@@ -22,8 +22,8 @@ pub enum RunFault {
     BadState(usize),
     /// The journal is bad, from this line on.
     BadJournal(usize),
-    /// Another fault of this side's box, by its number. Number 2 of the far box is also told where it said no to a call that performs no
-    /// step, and number 3 where a copy was made whose UID was not told, and no message bears its mark.
+    /// Another fault of this side's box, by its number. Number 2 of the far box: it said no to a call before the steps. Number 3: a copy
+    /// was made whose UID was not reported, and no message bears its mark.
     StoreFault(Side, u8),
     /// 64 marks in a row had been drawn already.
     MarksRepeat,
@@ -57,7 +57,7 @@ impl fmt::Display for RunFault {
 
 impl Error for RunFault {}
 
-/// How a fault of the outside is told while no step is performed.
+/// How a fault of the outside is reported while no step is performed.
 pub(crate) fn call_fault(fault: OutsideFault) -> RunFault
     ensures { result ≡ spec.call_fault fault }
 {
@@ -71,7 +71,7 @@ pub(crate) fn call_fault(fault: OutsideFault) -> RunFault
     }
 }
 
-/// How a fault of the outside is told while the step of this number is performed.
+/// How a fault of the outside is reported while the step of this number is performed.
 pub(crate) fn step_fault(fault: OutsideFault, number: usize) -> RunFault
     ensures { result ≡ spec.step_fault fault number }
 {

@@ -1,4 +1,4 @@
-//! A run over two mailboxes and a book: what it does, call by call, so that it can be taken up again wherever it stopped.
+//! A run over two mailboxes and a book: what it does, call by call, so that it can be resumed wherever it stopped.
 #![tactic(auto)]
 
 pub mod changing;

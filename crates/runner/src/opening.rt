@@ -69,7 +69,7 @@ pub(crate) fn forget<O: Outside>(outside: &mut O) -> Result<(), RunFault>
     }
 }
 
-/// Takes a torn line off the journal, so that steps can be logged behind it.
+/// Takes a torn line off the journal, so that steps can be logged after it.
 pub(crate) fn untear<O: Outside>(outside: &mut O) -> Result<(), RunFault>
     ghost opening: { Opening O.ours O.alone }
     requires plan { HasPlan (O.opened outside.old) }

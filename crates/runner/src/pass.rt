@@ -9,7 +9,7 @@ use mailcore::uid::Uid;
 pub enum Pass {
     /// It was made before.
     Already,
-    /// A plan was made, and these are its steps. The messages of the second list were passed over, since they are not fit to be copied.
+    /// A plan was made, and these are its steps. The messages of the second list were skipped, since they are not fit to be copied.
     Ran(Vec<Performed>, Vec<(Side, Uid)>),
     /// A plan was pending, and these of its steps were not logged yet.
     Finished(Vec<Performed>),

@@ -52,7 +52,7 @@ fn marks_for<R: Rng>(
     }
 }
 
-/// The plan of both listings. `ValidityChanged`: a box tells another UIDVALIDITY than when it was opened.
+/// The plan of both listings. `ValidityChanged`: a box reports another UIDVALIDITY than when it was opened.
 pub(crate) fn make_plan<O: Outside, R: Rng>(
     alloc: Global,
     outside: &O,

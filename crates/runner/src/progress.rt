@@ -1,23 +1,23 @@
-//! Who is told how far a run is.
+//! Who is informed how far a run is.
 
 ghost use Rattle.runner.specs.Going.{HasUntorn};
 
 use outside::outside::Outside;
 
-/// Who is told how far a run is.
+/// Who is informed how far a run is.
 pub trait Progress {
     /// So many steps of the plan are logged, of so many that it has.
     fn tell(&self, logged: usize, steps: usize);
 }
 
-/// Nobody is told.
+/// Nobody is informed.
 impl Progress for () {
     fn tell(&self, logged: usize, steps: usize) {
         let _ = (logged, steps);
     }
 }
 
-/// Tells how many steps of the plan that is pending are logged.
+/// Reports how many steps of the plan that is pending are logged.
 pub(crate) fn tell_logged<O: Outside, P: Progress>(outside: &O, progress: &P)
     requires going { HasUntorn (O.opened outside.now) }
 {

@@ -47,7 +47,7 @@ fn conclude<O: Outside>(outside: &mut O, is_resumed: bool) -> Result<(), RunFaul
     }
 }
 
-/// Makes a plan and writes it. Messages that are not fit are told.
+/// Makes a plan and writes it. Messages that are not fit are reported.
 fn propose<O: Outside, R: Rng>(
     alloc: Global,
     outside: &mut O,

@@ -26,7 +26,7 @@ use rules::plan::Step;
 use std::alloc::Global;
 use sync_state::journal::Logged;
 
-/// Performs the next step. Where the plan was taken up again, what is done already makes no difference.
+/// Performs the next step. Where the plan was resumed, what is done already makes no difference.
 fn perform<O: Outside>(
     outside: &mut O,
     number: usize,
@@ -157,7 +157,7 @@ fn advance<O: Outside>(
     Ok(Performed { step, result })
 }
 
-/// Performs and logs the steps that are not logged yet, in order, and gives what became of them. How many are logged is told before
+/// Performs and logs the steps that are not logged yet, in order, and gives what became of them. How many are logged is reported before
 /// the first of them, and after each.
 pub(crate) fn carry_out<O: Outside, P: Progress>(
     alloc: Global,
