@@ -20,6 +20,7 @@ from tests.support.scene import ONE, TWO, Scene, configuration, mode_of, near_te
 from tests.support.tally import Tally
 
 LONGEST = "x" * 200 + "/" + "x" * 54
+SYNC_WORDS = [2, "mbsync: sync words", "  --noop stands alone, and no two words may name the same changes: mbsync -h says what each names"]
 
 
 def first_pull(tally):
@@ -165,9 +166,10 @@ def the_lock(tally):
 def usage(tally):
     with Scene() as scene:
         scene.server.stop()
-        tally.same("no words", scene.run(), [2, "mbsync: no channel"])
-        tally.same("words of Sync that are refused", scene.run("--pull", "--noop", "c"), [2, "mbsync: sync words"])
-        tally.same("unknown names", scene.run("c", "nope", "none"), [2, "mbsync: unknown nope"])
+        tally.same("no words", scene.run(), [2, "mbsync: no channel", "  name a channel or a group of the configuration, or give -a for all channels"])
+        tally.same("words of Sync that are refused", scene.run("--pull", "--noop", "c"), SYNC_WORDS)
+        unknown = "  the configuration has no channel or group of this name: mbsync -al lists what it has"
+        tally.same("unknown names", scene.run("c", "nope", "none"), [2, "mbsync: unknown nope", unknown])
         tally.same("an unknown option", scene.run("--nope", "c")[0], 2)
         got = scene.run("-h")
         tally.same("help", [got[0], "Usage: mbsync [OPTIONS] [CHANNEL]..." in got], [0, True])
@@ -206,7 +208,7 @@ def bad_configurations(tally):
         tally.same("a cell twice", scene.run("c"), [1, "mbsync: config line 13: kind 9", f"  {file}, line 13: {twice}"])
         scene.configure(text.replace("Host h\n", ""))
         tally.same("a keyword that lacks", scene.run("c"), [1, "mbsync: config line 1: kind 8", f"  {file}, line 1: IMAPStore far lacks Host"])
-        tally.same("the words are looked at first", scene.run("--pull", "--noop", "c"), [2, "mbsync: sync words"])
+        tally.same("the words are looked at first", scene.run("--pull", "--noop", "c"), SYNC_WORDS)
 
 
 def states_of_others(tally):

@@ -49,6 +49,16 @@ impl fmt::Display for Refusal<'_> {
 }
 
 impl Refusal<'_> {
+    /// What to do, on a line after a line end.
+    pub(crate) fn advice(self) -> &'static str {
+        match self {
+            Refusal::Unknown(_) => {
+                "\n  the configuration has no channel or group of this name: mbsync -al lists what it has"
+            }
+            Refusal::SyncWords | Refusal::NoMemory => "",
+        }
+    }
+
     /// The exit status.
     pub(crate) fn status(self) -> u8
         ensures { result ≡ status_of self.entry }

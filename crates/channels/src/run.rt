@@ -64,7 +64,7 @@ pub fn run_config<S: Stores, R: Rng, O: Write, E: Write>(
     };
     match course_of(alloc, config, request) {
         Ok(course) => run_told(work, &course, &mut ToldStores::new(stores, out, err), rng),
-        Err(refusal) => match writeln!(err, "mbsync: {refusal}") {
+        Err(refusal) => match writeln!(err, "mbsync: {refusal}{}", refusal.advice()) {
             Ok(()) => refusal.status(),
             Err(_) => 1,
         },

@@ -10,7 +10,8 @@ use std::io::Write;
 
 /// Prints why the words name no request, and gives the exit status of the program: help goes to `out`, with status 0. To
 /// `err` go, with status 2, `clap`'s text of other words that it does not take, `mbsync: no channel` and
-/// `mbsync: sync words`, and with status 1 `mbsync: no memory`. The status is 1 too where writing fails.
+/// `mbsync: sync words`, each with a second line that says what to write, and with status 1 `mbsync: no memory`. The
+/// status is 1 too where writing fails.
 pub fn tell<O: Write, E: Write>(fault: &UsageFault, out: &mut O, err: &mut E) -> u8
     ensures status { (result ≡ status_of fault.now) ⊎ (result ≡ 1) }
     ensures help { is_help fault.now ≡ true → err.new ≡ err.old }
@@ -35,9 +36,22 @@ fn tell_help<O: Write>(fault: &UsageFault, out: &mut O) -> io::Result<()> {
 fn tell_fault<E: Write>(fault: &UsageFault, err: &mut E) -> io::Result<()> {
     match fault {
         UsageFault::Line(error) => write!(err, "{error}")?,
-        _ => writeln!(err, "mbsync: {fault}")?,
+        _ => writeln!(err, "mbsync: {fault}{}", advice(fault))?,
     }
     err.flush()
+}
+
+/// What to write instead, each line after a line end.
+fn advice(fault: &UsageFault) -> &'static str {
+    match fault {
+        UsageFault::NoChannel => {
+            "\n  name a channel or a group of the configuration, or give -a for all channels"
+        }
+        UsageFault::SyncWords => {
+            "\n  --noop stands alone, and no two words may name the same changes: mbsync -h says what each names"
+        }
+        UsageFault::Line(_) | UsageFault::NoMemory => "",
+    }
 }
 
 /// Whether the words ask for help.
