@@ -191,7 +191,7 @@ def things_for_our_files(tally):
                 if name in own:
                     os.remove(path)
                 make(path)
-                told = ["mbsync: cannot open " + path] if name.endswith("lock") else stopped(f"{path}: {NO_FILE}")[2:]
+                told = ["mbsync: cannot open " + path, "  " + NO_FILE] if name.endswith("lock") else stopped(f"{path}: {NO_FILE}")[2:]
                 tally.same(f"a {kind} at {name} is named at once", scene.run("c", most=QUICK), [1, "c:INBOX", *told])
                 tally.same("nothing is made or changed", [os.path.lexists(scene.path("elsewhere")), scene.sides()],
                            [False, [near(ONE, TWO), far(ONE, TWO)]])
@@ -327,7 +327,7 @@ def no_permission(tally):
             scene.leave_root()
             kept = os.stat(scene.path(part)).st_mode & 0o777
             os.chmod(scene.path(part), mode)
-            told = stopped(f"{scene.path(named)}: {NO_PERMISSION}") if named else [1, "mbsync: cannot open " + scene.path(part)]
+            told = stopped(f"{scene.path(named)}: {NO_PERMISSION}") if named else [1, "mbsync: cannot open " + scene.path(part), "  " + NO_PERMISSION]
             tally.same(f"{part} without permission is told", scene.run("c"), told)
             os.chmod(scene.path(part), kept)
             tally.same("nothing is lost", scene.sides(), [near(ONE, TWO), far(ONE, TWO, THREE)])
@@ -340,7 +340,7 @@ def no_permission(tally):
             scene.server.boxes[name].add(THREE)
         scene.leave_root()
         os.chmod(scene.path("mail/a"), 0)
-        told = [1, "mbsync: cannot open " + scene.path("mail/a")]
+        told = [1, "mbsync: cannot open " + scene.path("mail/a"), "  " + NO_PERMISSION]
         tally.same("a folder of Path without permission is told, not passed over", [scene.run("all"), scene.run("-l", "all")], [told, told])
         os.chmod(scene.path("mail/a"), 0o700)
         lines = ["all:a", "new pull 2 -> 2", "ran", "all:b", "new pull 2 -> 2", "ran"]
@@ -405,7 +405,7 @@ def read_only_disk(tally):
         before = scene.own()
         subprocess.run(["mount", "-o", "remount,ro", scene.path("inbox")], check=True)
         tally.same("a mailbox that can be read only is told", scene.run("c"),
-                   [1, "c:INBOX", "mbsync: cannot open " + scene.path("inbox/.mbsyncstate.lock")])
+                   [1, "c:INBOX", "mbsync: cannot open " + scene.path("inbox/.mbsyncstate.lock"), "  " + READ_ONLY])
         tally.same("nothing has changed", [scene.own(), scene.sides()], [before, [near(ONE), far(ONE, TWO)]])
     with Edge(ONE) as scene:
         scene.near()

@@ -137,7 +137,7 @@ def the_walk(tally):
         os.rename(scene.path("mail"), scene.path("else"))
         tally.same("a Path that is not there", scene.run("-l", "all"), [0, "all:a"])
         scene.write("mail", b"")
-        tally.same("a Path that is a file", scene.run("-l", "all"), [1, f"mbsync: cannot open {scene.path('mail/')}"])
+        tally.same("a Path that is a file", scene.run("-l", "all"), [1, f"mbsync: cannot open {scene.path('mail/')}", "  a part of this path is a file, not a folder"])
 
 
 def the_lock(tally):

@@ -25,7 +25,7 @@ IsFault Unopened = Unit {0}
 pub fault_is_fault : (fault : BoxFault) → IsFault (outcome_of_box_fault fault)
 fault_is_fault (Absent side) = tt
 fault_is_fault (Removed side) = tt
-fault_is_fault (CannotOpen path) = tt
+fault_is_fault (CannotOpen path reason) = tt
 fault_is_fault (Server store why) = tt
 fault_is_fault Locked = tt
 fault_is_fault (Refused number step) = tt

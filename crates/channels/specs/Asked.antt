@@ -64,7 +64,7 @@ names_of answer = option_map (λ names. names.items) (result_ok answer)
 
 -- a fault that a store does not open, and any other one
 abbrev pub outcome_of_fault : StoreFault → Outcome
-outcome_of_fault (CannotOpen path) = Unopened
+outcome_of_fault (CannotOpen path reason) = Unopened
 outcome_of_fault (Server store why) = Unopened
 outcome_of_fault Locked = Failed
 outcome_of_fault (Box fault) = Failed

@@ -25,7 +25,7 @@ use Rattle.channels.specs.declared.verdict.Verdict.TheVariants.{Clean, Faulty, O
 abbrev pub outcome_of_box_fault : BoxFault → Outcome
 outcome_of_box_fault (Absent side) = Failed
 outcome_of_box_fault (Removed side) = Failed
-outcome_of_box_fault (CannotOpen path) = Unopened
+outcome_of_box_fault (CannotOpen path reason) = Unopened
 outcome_of_box_fault (Server store why) = Unopened
 outcome_of_box_fault Locked = Failed
 outcome_of_box_fault (Refused number step) = Failed
@@ -91,7 +91,7 @@ is_stale_run fault.NoMemory = false
 abbrev pub is_stale : BoxFault → Bool
 is_stale (Absent side) = false
 is_stale (Removed side) = false
-is_stale (CannotOpen path) = false
+is_stale (CannotOpen path reason) = false
 is_stale (Server store why) = false
 is_stale Locked = false
 is_stale (Refused number step) = false

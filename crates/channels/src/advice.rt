@@ -46,7 +46,7 @@ fn advise_on<E: Write>(err: &mut E, fault: &BoxFault) -> io::Result<()> {
     match fault {
         BoxFault::Absent(side) => advise_create(err, *side),
         BoxFault::Removed(side) => advise_removed(err, *side),
-        BoxFault::CannotOpen(_) => Ok(()),
+        BoxFault::CannotOpen(_, reason) => writeln!(err, "  {reason}"),
         BoxFault::Server(store, why) => advise_server(err, store.as_str(), *why),
         BoxFault::Locked => writeln!(
             err,

@@ -18,7 +18,7 @@ pub(crate) enum BoxFault {
     /// It is absent on this side, and the near folder has the state of a former run: it was there.
     Removed(Side),
     /// The file or the folder of this path does not open.
-    CannotOpen(String),
+    CannotOpen(String, &'static str),
     /// The server of the IMAP store of this name does not open.
     Server(String, ServerFault),
     /// Another process holds its lock.
@@ -69,7 +69,7 @@ impl BoxFault {
             BoxFault::Run(fault) => matches!(fault, RunFault::KeywordsChanged),
             BoxFault::Absent(_)
             | BoxFault::Removed(_)
-            | BoxFault::CannotOpen(_)
+            | BoxFault::CannotOpen(..)
             | BoxFault::Server(..)
             | BoxFault::Locked
             | BoxFault::Refused(..)
@@ -116,7 +116,7 @@ impl BoxFault {
             ),
             BoxFault::Absent(_)
             | BoxFault::Removed(_)
-            | BoxFault::CannotOpen(_)
+            | BoxFault::CannotOpen(..)
             | BoxFault::Locked
             | BoxFault::GivenAgain(..)
             | BoxFault::LeftOut(_) => false,
@@ -139,7 +139,7 @@ impl From<StoreFault> for BoxFault {
 
     fn from(fault: StoreFault) -> BoxFault {
         match fault {
-            StoreFault::CannotOpen(name) => BoxFault::CannotOpen(name),
+            StoreFault::CannotOpen(name, reason) => BoxFault::CannotOpen(name, reason),
             StoreFault::Server(store, why) => BoxFault::Server(store, why),
             StoreFault::Locked => BoxFault::Locked,
             StoreFault::Box(fault) => BoxFault::Run(fault),

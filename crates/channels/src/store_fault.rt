@@ -28,9 +28,10 @@ pub enum ServerFault {
 /// Why the mailboxes of a store are not listed.
 #[derive(Debug, Drop, Error)]
 pub enum ListFault {
-    /// The store does not open, or stops before all are listed. What is told: the path of a file.
+    /// The store does not open, or stops before all are listed. The path of a file, and
+    /// why it does not open, as a text without an end of line.
     #[error("cannot open {0}")]
-    CannotOpen(String),
+    CannotOpen(String, &'static str),
     /// The same of the server of the IMAP store of this name.
     #[error("cannot open {0}")]
     Server(String, ServerFault),
@@ -42,9 +43,10 @@ pub enum ListFault {
 /// Why a side of a mailbox is not made, or the mailbox not lent to be synchronised.
 #[derive(Debug, Drop, Error)]
 pub enum StoreFault {
-    /// A store does not open, and so no other mailbox of the channel is tried. What is told: the path of a file.
+    /// A store does not open, and so no other mailbox of the channel is tried. The path of a file, and
+    /// why it does not open, as a text without an end of line.
     #[error("cannot open {0}")]
-    CannotOpen(String),
+    CannotOpen(String, &'static str),
     /// The same of the server of the IMAP store of this name.
     #[error("cannot open {0}")]
     Server(String, ServerFault),

@@ -60,8 +60,10 @@ pub(crate) fn tell_list<E: Write>(
     ensures over { IfOk result (λ verdict. verdict ≡ Over) }
 {
     writeln!(err, "mbsync: {fault}")?;
-    if let ListFault::Server(store, why) = fault {
-        advise_server(err, store.as_str(), *why)?;
+    match fault {
+        ListFault::CannotOpen(_, reason) => writeln!(err, "  {reason}")?,
+        ListFault::Server(store, why) => advise_server(err, store.as_str(), *why)?,
+        ListFault::NoMemory => {}
     }
     tell_words(err, words)?;
     Ok(Verdict::Over)
@@ -99,7 +101,7 @@ fn tell_fault<E: Write>(err: &mut E, place: ChannelBox<'_>, fault: &BoxFault) ->
     ensures told { IfOk result IsTold }
     ensures verdict { IfOk result (λ verdict. verdict ≡ verdict_of (outcome_of_box_fault fault.now)) }
 {
-    if let BoxFault::CannotOpen(name) | BoxFault::Server(name, _) = fault {
+    if let BoxFault::CannotOpen(name, _) | BoxFault::Server(name, _) = fault {
         writeln!(err, "mbsync: cannot open {name}")?;
         return Ok(Verdict::Over);
     }
@@ -124,7 +126,7 @@ impl fmt::Display for BoxFaultText<'_> {
     fn fmt<W: fmt::Write>(&self, f: &mut fmt::Formatter<W>) -> fmt::Result {
         match self.0 {
             BoxFault::Absent(side) | BoxFault::Removed(side) => write!(f, "absent {side}"),
-            BoxFault::CannotOpen(name) | BoxFault::Server(name, _) => {
+            BoxFault::CannotOpen(name, _) | BoxFault::Server(name, _) => {
                 write!(f, "cannot open {name}")
             }
             BoxFault::Locked => f.write_str("locked"),

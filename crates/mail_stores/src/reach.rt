@@ -18,7 +18,7 @@ use near_places::boxes::{NearBoxes, near_boxes, near_folder};
 use near_places::home::Home;
 use near_places::lock::LockFault;
 use near_places::names::has_own_part;
-use near_places::refusal::Refusal;
+use near_places::refusal::{OWN_PART, Refusal};
 use std::alloc::AllocError;
 use std::fs;
 use std::fs::File;
@@ -26,6 +26,14 @@ use std::io::ErrorKind;
 use std::net::Net;
 use std::num::NonZeroU32;
 use std::rt::{Clock, Files};
+
+/// Why a near folder was not made.
+const NOT_MADE: &str =
+    "it could not be made. Let yourself write in the folder above it, and run again";
+
+/// Why nobody can log in.
+const UNSENDABLE: &str =
+    "User, Pass or the mailbox has more than 1024 bytes, or characters that cannot be sent";
 
 /// What is open of a mailbox at a server and of one in a folder, whose book lies in that folder too. A look into the folder says whether a
 /// run is to go on.
@@ -103,7 +111,7 @@ impl<R: Net + Files<File = File> + Clock + AllocGlobal + Clone + Drop, W: Waits 
             Ok(_) => Ok(()),
             Err(DeviceFault::NoMemory) => Err(LockFault::Refused(Refusal::NoMemory)),
             Err(DeviceFault::Stopped) => {
-                let refusal = Refusal::cannot_open(self.rt.alloc(), path);
+                let refusal = Refusal::cannot_open(self.rt.alloc(), path, NOT_MADE);
                 Err(LockFault::Refused(refusal))
             }
         }
@@ -113,7 +121,7 @@ impl<R: Net + Files<File = File> + Clock + AllocGlobal + Clone + Drop, W: Waits 
     /// can be no near mailbox of its name (`near_folder`).
     pub(crate) fn folder_of(&self, place: ChannelBox<'_>) -> Result<String, LockFault> {
         if has_own_part(place.far.as_str()) {
-            let refusal = Refusal::cannot_open(self.rt.alloc(), place.far.as_str());
+            let refusal = Refusal::cannot_open(self.rt.alloc(), place.far.as_str(), OWN_PART);
             return Err(LockFault::Refused(refusal));
         }
         near_folder(&self.rt, &self.home, place.of.near_store, place.near).map_err(
@@ -132,7 +140,7 @@ impl<R: Net + Files<File = File> + Clock + AllocGlobal + Clone + Drop, W: Waits 
         let store = place.of.far_store;
         match account_of(alloc, store, place.far)? {
             Some(account) => Ok(account),
-            None => Err(Refusal::cannot_open(alloc, store.name.as_str())),
+            None => Err(Refusal::cannot_open(alloc, store.name.as_str(), UNSENDABLE)),
         }
     }
 

@@ -30,7 +30,7 @@ pub(crate) fn ordered(alloc: Global, names: &[MailboxName]) -> Result<Vec<Mailbo
 /// A near store that is not listed.
 pub(crate) fn list_fault(refusal: Refusal) -> ListFault {
     match refusal {
-        Refusal::CannotOpen(name) => ListFault::CannotOpen(name),
+        Refusal::CannotOpen(name, reason) => ListFault::CannotOpen(name, reason),
         Refusal::NoMemory => ListFault::NoMemory,
     }
 }
@@ -38,7 +38,7 @@ pub(crate) fn list_fault(refusal: Refusal) -> ListFault {
 /// A place that does not open.
 fn store_fault(refusal: Refusal) -> StoreFault {
     match refusal {
-        Refusal::CannotOpen(name) => StoreFault::CannotOpen(name),
+        Refusal::CannotOpen(name, reason) => StoreFault::CannotOpen(name, reason),
         Refusal::NoMemory => StoreFault::Box(RunFault::NoMemory),
     }
 }

@@ -7,7 +7,7 @@ use Rattle.near_places.specs.declared.refusal.Refusal.TheVariants.{CannotOpen, N
 
 -- the path is told; want of memory may come in its place
 abbrev pub Tells : (path : List ℕ) → Refusal → Type 0
-Tells path (CannotOpen told) = string_bytes told ≡ path
+Tells path (CannotOpen told reason) = string_bytes told ≡ path
 Tells path NoMemory = ⊤
 
 -- of a lock that another process holds nothing more is told; else the path of its file is
@@ -20,5 +20,5 @@ told_of_memory = Refused NoMemory
 
 -- what is told of a folder: an answer of the system counts as nothing where its name is beyond the limits, and nowhere else
 abbrev pub unless_beyond : (is_within : Bool) → Result (Unit {0}) Refusal → Result (Unit {0}) Refusal
-unless_beyond false (Err (CannotOpen path)) = Ok tt
+unless_beyond false (Err (CannotOpen path reason)) = Ok tt
 unless_beyond is_within answer = answer

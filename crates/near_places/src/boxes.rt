@@ -6,7 +6,7 @@ ghost use Rattle.near_places.specs.Paths.{folder_of};
 
 use crate::home::{Home, INBOX};
 use crate::names::has_own_part;
-use crate::refusal::Refusal;
+use crate::refusal::{OWN_PART, Refusal};
 use crate::tree::{FolderNames, boxes_under, is_mailbox, is_same_folder};
 use config::config::MaildirStore;
 use mailcore::mailbox_name::MailboxName;
@@ -77,11 +77,15 @@ pub fn near_folder<R: Files + AllocGlobal + Clone + Drop>(
     let alloc = rt.alloc();
     let folder = home.folder_of(alloc, store, name)?;
     if has_own_part(name.as_str()) {
-        return Err(Refusal::cannot_open(alloc, folder.as_str()));
+        return Err(Refusal::cannot_open(alloc, folder.as_str(), OWN_PART));
     }
     let inbox = home.place(alloc, &store.inbox)?;
     if name.as_str() != INBOX && is_same_folder(rt, folder.as_str(), inbox.as_str())? {
-        return Err(Refusal::cannot_open(alloc, folder.as_str()));
+        return Err(Refusal::cannot_open(
+            alloc,
+            folder.as_str(),
+            "it is the folder of Inbox, which is the mailbox INBOX alone",
+        ));
     }
     Ok(folder)
 }

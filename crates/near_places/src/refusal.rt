@@ -9,12 +9,16 @@ use std::io;
 use std::io::ErrorKind;
 use thiserror::Error;
 
+/// Why there can be no mailbox of a name, whose part is a folder or a file of a mailbox.
+pub const OWN_PART: &str =
+    "each mailbox has cur, new and tmp, .mbsyncstate.. and .uidvalidity..: no part of a name may be one of these";
+
 /// Why a place does not open.
 #[derive(Debug, Drop, Error)]
 pub enum Refusal {
-    /// The system says no to the file or the folder of this path.
+    /// The system says no to the file or the folder of this path. Why, and what can be done, as a text without an end of line.
     #[error("cannot open {0}")]
-    CannotOpen(String),
+    CannotOpen(String, &'static str),
     /// A growth was refused.
     #[error("no memory")]
     NoMemory,
@@ -29,17 +33,37 @@ impl Refusal {
         if error.kind() == ErrorKind::OutOfMemory {
             return Refusal::NoMemory;
         }
-        Refusal::cannot_open(alloc, path)
+        Refusal::cannot_open(alloc, path, reason_of(error.kind()))
     }
 
-    /// What is named so does not open.
-    pub fn cannot_open(alloc: Global, name: &str) -> Self
+    /// What is named so does not open, for this reason.
+    pub fn cannot_open(alloc: Global, name: &str, reason: &'static str) -> Self
         ensures { Tells name.now result }
     {
         match String::from_str(alloc, name) {
-            Ok(name) => Refusal::CannotOpen(name),
+            Ok(name) => Refusal::CannotOpen(name, reason),
             Err(AllocError) => Refusal::NoMemory,
         }
+    }
+}
+
+/// Why the system does not open a file or a folder, and what can be done.
+fn reason_of(kind: ErrorKind) -> &'static str {
+    match kind {
+        ErrorKind::PermissionDenied =>
+            "no permission. Let yourself read and write it, and run again",
+        ErrorKind::NotFound => "it is not there. Make it, or name another path, and run again",
+        ErrorKind::NotADirectory => "a part of this path is a file, not a folder",
+        ErrorKind::IsADirectory | ErrorKind::InvalidInput => {
+            "this is not a file. Move it elsewhere, and run again"
+        }
+        ErrorKind::FilesystemLoop => "symlinks lead in a circle",
+        ErrorKind::ReadOnlyFilesystem => "the file system is read-only",
+        ErrorKind::StorageFull | ErrorKind::QuotaExceeded => {
+            "the disk is full. Make room, and run again"
+        }
+        ErrorKind::InvalidFilename => "a name in it is too long",
+        _ => "the system refused",
     }
 }
 

@@ -80,7 +80,7 @@ fn unless_beyond(is_within: bool, answer: Result<(), Refusal>) -> Result<(), Ref
     ensures { result ≡ unless_beyond is_within answer }
 {
     match answer {
-        Err(Refusal::CannotOpen(_)) if !is_within => Ok(()),
+        Err(Refusal::CannotOpen(..)) if !is_within => Ok(()),
         answer => answer,
     }
 }

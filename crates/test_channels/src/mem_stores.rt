@@ -201,7 +201,7 @@ fn server_list_fault(alloc: Global, store: &str, why: ServerFault) -> ListFault 
 /// That what has this name does not open.
 fn shut_list_fault(alloc: Global, name: &str) -> ListFault {
     match String::from_str(alloc, name) {
-        Ok(name) => ListFault::CannotOpen(name),
+        Ok(name) => ListFault::CannotOpen(name, "the system refused"),
         Err(AllocError) => ListFault::NoMemory,
     }
 }
@@ -217,7 +217,7 @@ fn server_store_fault(alloc: Global, store: &str, why: ServerFault) -> StoreFaul
 /// That what has this name does not open where a mailbox is to be lent.
 fn shut_store_fault(alloc: Global, name: &str) -> StoreFault {
     match String::from_str(alloc, name) {
-        Ok(name) => StoreFault::CannotOpen(name),
+        Ok(name) => StoreFault::CannotOpen(name, "the system refused"),
         Err(AllocError) => StoreFault::Box(RunFault::NoMemory),
     }
 }
