@@ -77,7 +77,7 @@ misplaced_taken misplaced k section keyword text s fault is misplaces =
     by KeywordTwice misplaces = nothing_entered None None s refl refl
     by f misplaces = absurd misplaces
 
--- what is met and then read behind it is what the line says
+-- what is met and then read after it is what the line says
 pub placed : (within : Bool) (k : Keyword) (section : Option Place) (misplaced : Option FaultKind) (keyword : Option mail.Keyword) (text : List ℕ)
     (old mid new : Standing) (result : Result (Unit {0}) FaultKind) → IsMet within k section old mid misplaced
     → (IsSome section → keyword ≡ None) → ((fault : FaultKind) → IsMisplaced old.at k fault → StaysAt old.at keyword old)

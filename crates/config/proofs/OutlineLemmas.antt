@@ -1,4 +1,4 @@
--- The lines of a text, what is known behind some of them, and which fault is told of several.
+-- The lines of a text, what is known after some of them, and which fault is reported of several.
 use Rattle.std.proofs.Common.{◌≡◌, ◌≢◌, ℕ, ◌+◌, ◌<◌, Bool, true, false, cond, List, [], ◌∷◌, ◌++◌, length, take, drop, get_or, refl, ap, subst, sym, ◌∙◌, arith, add-one, length-drop, suc}
 use Rattle.std.specs.Prelude.{All, Option, Some, None, fold, nat_lt, nat_le, ◌==◌, ◌||◌, ◌&&◌, if◌then◌else◌}
 use Rattle.std.proofs.lemmas.Bool.{ne_eqb}

@@ -119,7 +119,7 @@ all_accepted text taken rest reading so none first =
     so.whole first
     (subst (λ (l : List (List ℕ)). AcceptsAll (fold parted no_parts (take taken (lines_of text))) l) (sym (so.left ∙ none)) tt)
 
--- behind a line of words, which may have begun a section
+-- after a line of words, which may have begun a section
 pub words_known : (q : Parts) (mid new : Reading) → (mid.first ≡ None → IsDrawn q mid.draft) → new.draft ≡ mid.draft → new.first ≡ mid.first
     → (is_section (place_of new.draft.section) ≡ true → IsSome new.begun) → Knows q new
 words_known q mid new known draft first begins = λ none.

@@ -17,7 +17,7 @@ use Rattle.config.proofs.OutlineLemmas.{all_taken, one_left, outlined_more, tell
 
 -- ---- what a line's words leave
 
--- the standing is that behind the line
+-- the standing is that after the line
 pub stands : (kind : FaultKind) (again : Option FaultKind) (behind found : Standing) → IsTaken again behind found (Err kind) → (kind ≡ NoMemory → ⊥) → found ≡ behind
 stands UnknownKeyword again behind found taken memory = taken.1
 stands WrongArguments again behind found taken memory = taken.1
@@ -46,7 +46,7 @@ says_again CellTwice again behind found taken memory = taken.0
 says_again NoMemory again behind found taken memory = absurd (memory refl)
 says_again KeywordGiven again behind found taken memory = taken.0
 
--- and the first fault is told of the lines that say something again, this one among them
+-- and the first fault is reported of the lines that say something again, this one among them
 pub tells : (kind : FaultKind) (again : Option FaultKind) (behind found : Standing) (faults : List ConfigFault) (first : Option ConfigFault) (line : ℕ)
     → IsTaken again behind found (Err kind) → (kind ≡ NoMemory → ⊥) → Tells faults first
     → Tells (with_fault faults line again) (Some (earlier first (record { line = line; kind = kind })))

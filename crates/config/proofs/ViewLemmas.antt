@@ -360,7 +360,7 @@ at_drawn p d is =
     place_sketched d.section
     ∙ (ap (λ (v : View). place_in v.section) is.view ∙ place_parted (imap_names (meaning_of p)) (maildir_names (meaning_of p)) p.current.kind p.current.says)
 
--- ---- a draft behind a line of words, and behind a section
+-- ---- a draft after a line of words, and after a section
 
 pub drawn_words : (p : Parts) (words : List ℕ × List ℕ) (old new : Draft) → IsDrawn p old
     → view new ≡ view_said (line_said (place_of old.section) words) (begun_view (opened (place_of old.section) words.0) (view old))

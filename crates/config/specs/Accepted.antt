@@ -20,7 +20,7 @@ IsClear None = ⊥
 IsClear (Some (SyncIs None)) = ⊥
 IsClear (Some _) = Unit {0}
 
--- a line of words is taken at a place: its keyword may stand there, the text behind it is plain with its quotes closed, and the
+-- a line of words is taken at a place: its keyword may stand there, the text after it is plain with its quotes closed, and the
 -- keyword takes these arguments
 pub record IsAccepted (at : Place) (words : List ℕ × List ℕ) : Type 0 where
   pub fits : fits_named at (keyword_named words.0) ≡ true
@@ -37,7 +37,7 @@ AcceptsWords at (Some words) = IsAccepted at words
 abbrev pub AcceptsLine : Place → List ℕ → Type 0
 AcceptsLine at line = is_blank line ≡ false → AcceptsWords at (words_of line)
 
--- each of these lines is taken, where it stands behind those before it
+-- each of these lines is taken, where it stands after those before it
 abbrev pub AcceptsAll : Parts → List (List ℕ) → Type 0
 AcceptsAll p [] = Unit {0}
 AcceptsAll p (line ∷ lines) = AcceptsLine p.current.kind line × AcceptsAll (parted p line) lines

@@ -21,7 +21,7 @@ pub record Part : Type 0 where
   pub name : List ℕ
   pub says : List Said
 
--- behind some lines: what those before any section say, the sections that have ended, and the one that is open, which is
+-- after some lines: what those before any section say, the sections that have ended, and the one that is open, which is
 -- none at the places Start and Between
 pub record Parts : Type 0 where
   pub before : List Said

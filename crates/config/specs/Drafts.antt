@@ -37,7 +37,7 @@ standing_of d = record {
   own = own_of d.section;
 }
 
--- a line is taken, or refused: as one that says something again exactly where it does, and always with this behind it; where memory
+-- a line is taken, or refused: as one that says something again exactly where it does, and always with this after it; where memory
 -- ran out nothing is said
 abbrev pub IsTaken : {A : Type 0} (again : Option FaultKind) (behind found : A) → Result (Unit {0}) FaultKind → Type 0
 IsTaken again behind found (Ok done) = (again ≡ None) × (found ≡ behind)
@@ -52,7 +52,7 @@ IsMisplaced at k OutsideSection = fits_at at k ≡ false
 IsMisplaced at k KeywordTwice = adds_up k ≡ false
 IsMisplaced at k _ = ⊥
 
--- a keyword is met where no section is open: one that it begins is open behind it
+-- a keyword is met where no section is open: one that it begins is open after it
 abbrev pub IsMetOutside : Keyword → Option Place → (old new : Standing) → Option FaultKind → Type 0
 IsMetOutside k None old new None = new ≡ old
 IsMetOutside k None old new (Some fault) = IsMisplaced old.at k fault × (new ≡ old)
@@ -81,7 +81,7 @@ abbrev pub unless_misplaced : Option FaultKind → Option mail.Keyword → Optio
 unless_misplaced (Some fault) keyword = None
 unless_misplaced None keyword = keyword
 
--- behind a line that names its section, or else gives a keyword
+-- after a line that names its section, or else gives a keyword
 abbrev pub entered : (name : Option (List ℕ)) → Option mail.Keyword → Standing → Standing
 entered (Some name) keyword s = named (Some name) s
 entered None keyword s = with_keyword_at s.at keyword s

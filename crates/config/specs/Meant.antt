@@ -30,6 +30,6 @@ Knows p reading = reading.first ≡ None → IsMeant p reading
 abbrev pub Took : Place → List ℕ × List ℕ → (old new : Reading) → Type 0
 Took at words old new = new.first ≡ None → (old.first ≡ None) × IsAccepted at words
 
--- no line was faulty before, and this line was not, behind these sections
+-- no line was faulty before, and this line was not, after these sections
 abbrev pub TookLine : Parts → List ℕ → (old new : Reading) → Type 0
 TookLine p line old new = new.first ≡ None → (old.first ≡ None) × AcceptsLine p.current.kind line

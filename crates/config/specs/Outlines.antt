@@ -1,4 +1,4 @@
--- What a reading has told so far of lines that say again what stands above them.
+-- What a reading has reported so far of lines that say again what stands above them.
 use Rattle.std.specs.Prelude.{ℕ, ◌≡◌, ◌≢◌, Bool, true, false, List, [], All, Contains, Option, Some, None, if◌then◌else◌}
 use Rattle.config_words.specs.declared.fault.ConfigFault.{ConfigFault}
 use Rattle.config_words.specs.declared.fault.FaultKind.{FaultKind}
@@ -18,7 +18,7 @@ is_repeat DefinedTwice = true
 is_repeat KeywordGiven = true
 is_repeat _ = false
 
--- the fault that is told where these are the faults of lines that say something again: one of them, or one that comes before them all
+-- the fault that is reported where these are the faults of lines that say something again: one of them, or one that comes before them all
 pub record IsToldOf (again : List ConfigFault) (fault : ConfigFault) : Type 0 where
   pub known : is_repeat fault.kind ≡ true → Contains again fault
   pub first : All (λ other. precedes fault other ≡ true) again
@@ -33,7 +33,7 @@ pub record IsOutlined (o : Outline) (reading : Reading) : Type 0 where
   pub standing : standing_of reading.draft ≡ o.standing
   pub told : Tells o.again reading.first
 
--- and behind one more line of words
+-- and after one more line of words
 pub record IsBehindWords (o : Outline) (words : List ℕ × List ℕ) (number : ℕ) (reading : Reading) : Type 0 where
   pub standing : standing_of reading.draft ≡ behind_words (Some words) o.standing
   pub told : Tells (with_fault o.again number (words_again (Some words) o.standing)) reading.first

@@ -1,4 +1,4 @@
--- What is known behind some lines of a configuration: where the next line stands, the names of the sections so far, and the keywords
+-- What is known after some lines of a configuration: where the next line stands, the names of the sections so far, and the keywords
 -- that were given.
 use Rattle.std.specs.Prelude.{ℕ, ◌+◌, fold, not, ◌&&◌, List, [], ◌∷◌, ◌++◌, Option, Some, None, option_and_then, if◌then◌else◌}
 use Rattle.mailcore.specs.declared.keywords.Keyword as mail
@@ -46,7 +46,7 @@ with_name ImapStore name s = record s { imap_stores = s.imap_stores ++ name ∷ 
 with_name MaildirStore name s = record s { maildir_stores = s.maildir_stores ++ name ∷ [] }
 with_name _ name s = record s { channels_and_groups = s.channels_and_groups ++ name ∷ [] }
 
--- behind a section's first line that gives this name, or none
+-- after a section's first line that gives this name, or none
 abbrev pub named : Option (List ℕ) → Standing → Standing
 named None s = s
 named (Some name) s = if is_taken name (names_at s.at s) then s else with_name s.at name s
@@ -56,7 +56,7 @@ abbrev pub name_again : Option (List ℕ) → Standing → Option FaultKind
 name_again None s = None
 name_again (Some name) s = if is_taken name (names_at s.at s) then Some DefinedTwice else None
 
--- the name that the text behind a section's keyword gives; a faulty one gives none
+-- the name that the text after a section's keyword gives; a faulty one gives none
 abbrev pub name_of : Place → List ℕ → Option (List ℕ)
 name_of place text =
     if is_plain text && not (arguments_of text).quoted then name_given (Some place) (arguments_of text).list else None
@@ -81,7 +81,7 @@ abbrev pub joined_again : Option mail.Keyword → List mail.Keyword → Option F
 joined_again None keywords = None
 joined_again (Some k) keywords = if_repeated (keyword_refused k.letter k.name keywords)
 
--- behind a line at this place that gives this keyword, or none: keywords of other places are others
+-- after a line at this place that gives this keyword, or none: keywords of other places are others
 abbrev pub with_keyword_at : Place → Option mail.Keyword → Standing → Standing
 with_keyword_at Start keyword s = record s { before = joined keyword s.before }
 with_keyword_at Channel keyword s = record s { own = joined keyword s.own }
@@ -101,7 +101,7 @@ keyword_at place words = keyword_from (line_said place words) words.1
 
 -- ---- lines
 
--- a section that begins with this text behind its keyword, or else a keyword that is given
+-- a section that begins with this text after its keyword, or else a keyword that is given
 abbrev pub begun : Option Place → Option mail.Keyword → List ℕ → Standing → Standing
 begun None keyword text s = with_keyword_at s.at keyword s
 begun (Some place) keyword text s = named (name_of place text) (standing_at place s)
@@ -128,7 +128,7 @@ line_again line s = if is_blank line then None else words_again (words_of line) 
 
 -- ---- a whole text
 
--- how many lines there are so far, what is known behind them, and the faults of those that say again what stands above them
+-- how many lines there are so far, what is known after them, and the faults of those that say again what stands above them
 pub record Outline : Type 0 where
   pub count : ℕ
   pub standing : Standing

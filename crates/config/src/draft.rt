@@ -26,7 +26,7 @@ use config_words::words::{Arguments, is_plain};
 use std::alloc::{AllocError, Global};
 use std::mem;
 
-/// What the lines so far say. A faulty line is taken as far as it can be, so that what stands behind it is read in the
+/// What the lines so far say. A faulty line is taken as far as it can be, so that what stands after it is read in the
 /// section that was meant.
 #[derive(Drop)]
 pub(crate) struct Draft {
@@ -125,7 +125,7 @@ impl Draft {
         self.read_arguments(keyword, misplaced, line, arguments)
     }
 
-    /// Reads what stands behind a keyword, which may be misplaced.
+    /// Reads what stands after a keyword, which may be misplaced.
     fn read_arguments(
         &mut self,
         keyword: Keyword,
@@ -161,7 +161,7 @@ impl Draft {
         }
     }
 
-    /// Notes that a keyword stands here, and opens the section that it begins. It tells whether the keyword may not.
+    /// Notes that a keyword stands here, and opens the section that it begins. It reports whether the keyword may not.
     fn meet(&mut self, keyword: Keyword) -> Result<Option<FaultKind>, AllocError>
         ensures standing { IfOk result (λ misplaced.
             IsMet (is_section (standing_of self.old).at) keyword (section_of keyword) (standing_of self.old) (standing_of self.new) misplaced) }
@@ -319,7 +319,7 @@ impl Draft {
         }
     }
 
-    /// Ends the section, if one is open, and tells whether it is kept: one that lacks a keyword, or has a faulty one, goes.
+    /// Ends the section, if one is open, and reports whether it is kept: one that lacks a keyword, or has a faulty one, goes.
     pub fn end_section(&mut self) -> Result<bool, AllocError>
         ensures standing { standing_of self.new ≡ standing_at (closed (standing_of self.old).at) (standing_of self.old) }
         ensures view { IfOk result (λ kept. IsTrue kept → view self.new ≡ ended_view (is_section (standing_of self.old).at) (view self.old)) }
@@ -334,7 +334,7 @@ impl Draft {
         self.put(section, name)
     }
 
-    /// Puts a section to those that have ended, and tells whether it is kept.
+    /// Puts a section to those that have ended, and reports whether it is kept.
     fn put(&mut self, section: Section, name: String) -> Result<bool, AllocError>
         ensures standing { standing_of self.new ≡ standing_of self.old }
         ensures view { IfOk result (λ kept. IsTrue kept → view self.new ≡ put_view (sketch section) (string_bytes name) (view self.old)) }

@@ -1,4 +1,4 @@
-//! Which fault of several is told.
+//! Which fault of several is reported.
 
 ghost use Rattle.std.specs.Prelude.{◌≡◌, ℕ, List, IfSome, Some};
 ghost use Rattle.config.specs.Lines.{IsUpTo};
@@ -7,7 +7,7 @@ ghost use Rattle.config.specs.Readings.{IsLine};
 
 use config_words::fault::{ConfigFault, FaultKind};
 
-/// Which of two faults is told: that of the lower line, and on one line the one with the lower number.
+/// Which of two faults is reported: that of the lower line, and on one line the one with the lower number.
 pub(crate) fn first_of(first: Option<ConfigFault>, fault: ConfigFault) -> ConfigFault
     ensures lines { (last : ℕ) → IfSome first (IsUpTo last) → IsUpTo last fault → IsUpTo last result }
     ensures earlier { result ≡ earlier first fault }

@@ -17,10 +17,10 @@ use texts::lines::Lines;
 /// The configuration that a text gives. The fault names the first faulty line and what is wrong with it, and of several
 /// faults of that line the one with the lowest number. `NoMemory` comes in place of any answer where memory ran out.
 ///
-/// A line that begins a section under a name that is taken is never passed over, nor is one that gives a letter or the name of
-/// a keyword that a line above gives in the same place: it is told as `DefinedTwice` or as `KeywordGiven`, unless a fault that
-/// comes before it is told. A configuration has just the stores, the channels and the groups that the lines say, and each
-/// group just its channels; and no line is passed over but empty ones and comments.
+/// A line that begins a section under a name that is taken is never skipped, nor is one that gives a letter or the name of
+/// a keyword that a line above gives in the same place: it is reported as `DefinedTwice` or as `KeywordGiven`, unless a fault that
+/// comes before it is reported. A configuration has just the stores, the channels and the groups that the lines say, and each
+/// group just its channels; and no line is skipped but empty ones and comments.
 pub fn read_config(alloc: Global, text: &[u8]) -> Result<Config, ConfigFault>
     ensures lines { IfErr result (IsUpTo (length (lines_of text.now))) }
     ensures again { MatchResult result (λ config. faults_again text.now ≡ [])

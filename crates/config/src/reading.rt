@@ -120,7 +120,7 @@ impl Reading {
         }
     }
 
-    /// Keeps a fault, unless one that was met before is told before it.
+    /// Keeps a fault, unless one that was met before is reported before it.
     fn note(&mut self, line: usize, kind: FaultKind)
         ensures read { (last : ℕ) → IsRead last self.old → IsLine last line → IsRead last self.new }
         ensures first { self.new.first ≡ Some (earlier self.old.first (record { line = line; kind = kind })) }
@@ -155,7 +155,7 @@ impl Reading {
         !is_whole || (!is_kept && self.first.is_none())
     }
 
-    /// The configuration behind the last line, or the first faulty line.
+    /// The configuration after the last line, or the first faulty line.
     pub fn finish(mut self) -> Result<Result<Config, ConfigFault>, AllocError>
         ensures lines { (last : ℕ) → IsRead last self → IfOk result (λ told. IfErr told (IsUpTo last)) }
         ensures again { (again : List ConfigFault) → Tells again self.first →

@@ -8,7 +8,7 @@ abbrev pub begins_with_slash : List ℕ → Bool
 begins_with_slash [] = false
 begins_with_slash (b ∷ bs) = b == 47
 
--- a path with the home folder in place of a leading `~` (126), where a slash stands behind it
+-- a path with the home folder instead of a leading `~` (126), where a slash stands after it
 abbrev pub placed : (home : Option (List ℕ)) (path : List ℕ) → List ℕ
 placed None path = path
 placed (Some home) [] = []

@@ -63,8 +63,8 @@ pub fn near_boxes<R: Files + AllocGlobal + Clone + Drop>(
 
 /// The folder of the near mailbox of this name.
 ///
-/// `CannotOpen`: it is the folder of Inbox, and the name is another than INBOX; or a part of the name is a mailbox's own; or the system does
-/// not say what stands there. The path is told.
+/// `CannotOpen`: it is the folder of Inbox, and the name is another than INBOX; or a part of the name is a mailbox's own; or the system
+/// does not say what stands there. The path is reported.
 pub fn near_folder<R: Files + AllocGlobal + Clone + Drop>(
     rt: &R,
     home: &Home,

@@ -35,7 +35,7 @@ impl Home {
         Home { path }
     }
 
-    /// A path with the home folder in place of a leading `~`, where a slash stands behind it. Without a home folder the path stays as it
+    /// A path with the home folder instead of a leading `~`, where a slash stands after it. Without a home folder the path stays as it
     /// is.
     pub fn place(&self, alloc: Global, path: &str) -> Result<String, AllocError>
         ensures { IfOk result (λ text. string_bytes text ≡ placed self.now path.now) }

@@ -46,7 +46,7 @@ impl<T: Drop> From<AllocFailed<T>> for LockFault {
 }
 
 /// The lock of a near mailbox. It is held until the value is dropped, and not longer than the process lives: a file that a killed
-/// process left behind is no lock.
+/// process has left is no lock.
 #[derive(Drop)]
 pub struct Lock {
     _file: File,
@@ -55,7 +55,7 @@ pub struct Lock {
 impl Lock {
     /// Takes the lock of the mailbox in this folder, without waiting.
     ///
-    /// `Held`: another process has it. `Refused`: the file of the lock cannot be opened or locked; its path is told.
+    /// `Held`: another process has it. `Refused`: the file of the lock cannot be opened or locked; its path is reported.
     pub fn take<R: Files<File = File> + AllocGlobal>(
         rt: &R,
         folder: &str,

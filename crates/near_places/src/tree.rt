@@ -95,7 +95,7 @@ struct Identity {
 /// A folder that is to be read.
 #[derive(Drop)]
 struct Folder {
-    /// The way to it from the root, with a slash behind each part.
+    /// The way to it from the root, with a slash after each part.
     way: String,
     /// The folders on this way, and itself.
     above: Vec<Identity>,
