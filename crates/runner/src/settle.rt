@@ -7,7 +7,8 @@ ghost use Rattle.runner.specs.AttemptStages.{Attempt};
 ghost use Rattle.runner.specs.Attempts.{AtOpening, FromOpening, HasNoNext, HasReached, IsReached, AttemptAt, found_by};
 ghost use Rattle.runner.specs.Faults.{TellsLastRun, TellsUnread, or_greatest, or_unread};
 ghost use Rattle.runner.specs.Finding.{FindsSame};
-ghost use Rattle.runner.specs.Parts.{IsStuck, PartOr, Never};
+ghost use Rattle.runner.specs.PassStages.{Frame};
+ghost use Rattle.runner.specs.Parts.{IsStuck, Never, PartOr};
 ghost use Rattle.runner.specs.Results.{HasResults};
 ghost use Rattle.runner.specs.Settled.{CountsAttempts, HasReason, IsSettled, IsUnsettled};
 ghost use Rattle.runner.specs.Validities.{IsKept};
@@ -24,8 +25,7 @@ use std::alloc::Global;
 /// The number of the run: the state's and 1. `BadState(2)`: the state's is the greatest.
 fn next_run<O: Outside>(outside: &mut O) -> Result<u64, RunFault>
     ghost opening: { Opening O.ours O.alone }
-    ensures was_honest { O.honest outside.new → O.honest outside.old }
-    ensures keywords { O.keywords outside.new ≡ O.keywords outside.old }
+    ensures frame { Frame O.Outside outside.old outside.new }
     ensures number { IfOk result (λ number. O.honest outside.new → HasReached number (O.seen outside.new).device.files) }
     ensures kept { OnOk result (O.honest outside.new → IsKept O.alone (O.seen outside.old).device (O.seen outside.new).device) }
     ensures greatest { HasNoNext (O.honest outside.new) O.alone (O.seen outside.old).device (O.seen outside.new).device result }
@@ -53,8 +53,7 @@ fn next_run<O: Outside>(outside: &mut O) -> Result<u64, RunFault>
 fn fix_run<O: Outside>(outside: &mut O, run: &mut Option<u64>) -> Result<u64, RunFault>
     ghost opening: { Opening O.ours O.alone }
     requires whole { (number : ℕ) → run.old ≡ Some number → (O.seen outside.old).is_broken ≡ false }
-    ensures was_honest { O.honest outside.new → O.honest outside.old }
-    ensures keywords { O.keywords outside.new ≡ O.keywords outside.old }
+    ensures frame { Frame O.Outside outside.old outside.new }
     ensures unfixed { OnErr result ((run.old ≡ None) × (run.new ≡ None)) }
     ensures fixed { IfOk result (λ number. run.new ≡ Some number) }
     ensures number { IfOk result (λ number. O.honest outside.new → IsReached run.old (O.seen outside.old).device.files
@@ -97,8 +96,7 @@ fn attempt<O: Outside, R: Rng, P: Progress>(
 
 /// Opens all again, but for the first attempt.
 fn again<O: Outside>(outside: &mut O, tried: u32)
-    ensures was_honest { O.honest outside.new → O.honest outside.old }
-    ensures keywords { O.keywords outside.new ≡ O.keywords outside.old }
+    ensures frame { Frame O.Outside outside.old outside.new }
     ensures seen { O.seen outside.new ≡ found_by tried (O.seen outside.old) }
 {
     if tried == 0 {

@@ -27,12 +27,6 @@ returns-in-Err-clause-part g c =
           (λ x t. end_underway g.opening s1.device (ended_at g.opening opened seek _ m s1.device c.requires.1.0 c.requires.1.1.1 a at t)),
     )))
 
-pub returns-in-Ok-clause-frame : goal.returns-in-Ok-clause-frame
-returns-in-Ok-clause-frame g c = record { was_honest = c.in-Ok.ensures.was_honest; keywords = c.in-Ok.ensures.keywords }
-
-pub returns-in-Err-clause-frame : goal.returns-in-Err-clause-frame
-returns-in-Err-clause-frame g c = record { was_honest = c.in-Err.ensures.was_honest; keywords = c.in-Err.ensures.keywords }
-
 pub returns-in-Ok-clause-concluded : goal.returns-in-Ok-clause-concluded
 returns-in-Ok-clause-concluded g c =
     let opened = g.O.Outside.opened c.args.outside.now in

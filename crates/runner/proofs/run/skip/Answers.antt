@@ -11,11 +11,5 @@ returns-clause-part g c =
     let same = run_same old new c.in_ok-forget.ensures.state in
     passed_weaker _ _ _ _ (PassEnd g.opening (run_of old)) _ _ _ _ refl (λ d k. k) (λ d k. known_reaches g.opening new (run_of old) d (omega (arith, same)) k) c.in_ok-forget.ensures.part
 
-pub returns-in_err-forget-clause-frame : goal.returns-in_err-forget-clause-frame
-returns-in_err-forget-clause-frame g c = record { was_honest = c.in_err-forget.ensures.was_honest; keywords = c.in_err-forget.ensures.keywords }
-
-pub returns-clause-frame : goal.returns-clause-frame
-returns-clause-frame g c = record { was_honest = c.in_ok-forget.ensures.was_honest; keywords = c.in_ok-forget.ensures.keywords }
-
 pub returns-clause-made : goal.returns-clause-made
 returns-clause-made g c = record { stores = c.in_ok-forget.ensures.stores; emptied = c.in_ok-forget.ensures.emptied }

@@ -23,7 +23,7 @@ returns-in_err-number g c =
     let none = fixed.unfixed.1 in
     rw (e.1, e.2) (record {
       attempt = record {
-        frame = frame_of g.O.Outside _ _ fixed.was_honest fixed.keywords;
+        frame = fixed.frame;
         answer = tt;
         number = record {
           reached = λ h at. none_reached c.fix_run.new.run _ none;
@@ -61,7 +61,7 @@ returns g c =
     let leads : g.O.Outside.honest c.pass.new.outside → AttemptStart g.opening options old c.args.run.now s0.device → PassStart g.opening n options old s1.device = (λ h at. (ready.reaches (honest h) at).1) in
     record {
       attempt = record {
-        frame = frame_then g.O.Outside _ _ _ (frame_of g.O.Outside _ _ number.was_honest number.keywords) (frame_of g.O.Outside _ _ honest passed.keywords);
+        frame = frame_then g.O.Outside _ _ _ number.frame (frame_of g.O.Outside _ _ honest passed.keywords);
         answer = attempt_answer g.O.Outside g.opening options old c.args.run.now c.args.outside.now c.pass.new.outside result
             (attempt_answers g.opening _ _ options _ run n s0.device s1.device c.args.run.now result fixed honest number.kept part.reaches passed.answers)
             passed.results

@@ -50,21 +50,21 @@ loop-tried-preserved g c =
     let n = part.no_less in
     let appends = ap (λ (s : Seen). s.appends) e in
     record {
-      was_honest = λ h. i.was_honest (c.again.ensures.was_honest (c.attempt.ensures.attempt.frame.was_honest h));
-      keywords = c.attempt.ensures.attempt.frame.keywords ∙ c.again.ensures.keywords ∙ i.keywords;
+      was_honest = λ h. i.was_honest (c.again.ensures.frame.was_honest (c.attempt.ensures.attempt.frame.was_honest h));
+      keywords = c.attempt.ensures.attempt.frame.keywords ∙ c.again.ensures.frame.keywords ∙ i.keywords;
       moved = moved_twice _ _ _ i.moved c.attempt.ensures.attempt.moved;
       stops = stops_more _ _ _ tried s0 now s1 s2 _ i.stops i.first e c.attempt.ensures.attempt.stuck part;
       told = more_after s0 s1 s2 (more_found tried s0 now s1 i.told e) n.told;
       appends = let k = i.appends in let m = n.appends in omega (arith, k, appends, m);
-      reopened = attempted_more g.opening _ _ tried run s0 now s1 s2 (λ f. (c.again.ensures.was_honest (c.attempt.ensures.attempt.frame.was_honest f.0), f.1, f.2)) i.first e i.reopened (λ f. (i.left f.0 f.1 f.2).tried) (λ f. part.goes_on f.0) n.reopened;
+      reopened = attempted_more g.opening _ _ tried run s0 now s1 s2 (λ f. (c.again.ensures.frame.was_honest (c.attempt.ensures.attempt.frame.was_honest f.0), f.1, f.2)) i.first e i.reopened (λ f. (i.left f.0 f.1 f.2).tried) (λ f. part.goes_on f.0) n.reopened;
       first = λ z. absurd (omega (arith, z));
       unfixed = λ z. absurd (omega (arith, z));
-      reached = λ h. c.attempt.ensures.attempt.number.reached h (subst (λ (d : Device). IsReached run d.files) (sym device) (i.reached (c.again.ensures.was_honest (c.attempt.ensures.attempt.frame.was_honest h))));
+      reached = λ h. c.attempt.ensures.attempt.number.reached h (subst (λ (d : Device). IsReached run d.files) (sym device) (i.reached (c.again.ensures.frame.was_honest (c.attempt.ensures.attempt.frame.was_honest h))));
       undrawn = λ z. absurd (omega (arith, z));
       stuck = stuck_more tried s0 now s1 s2 _ i.first e c.attempt.ensures.attempt.stuck;
-      left = λ h asked at. part.left h (subst before (sym device) (i.left (c.again.ensures.was_honest (c.attempt.ensures.attempt.frame.was_honest h)) asked at));
+      left = λ h asked at. part.left h (subst before (sym device) (i.left (c.again.ensures.frame.was_honest (c.attempt.ensures.attempt.frame.was_honest h)) asked at));
       greatest = λ h s p held is.
-          let k = i.greatest (c.again.ensures.was_honest (c.attempt.ensures.attempt.frame.was_honest h)) s p held is in
+          let k = i.greatest (c.again.ensures.frame.was_honest (c.attempt.ensures.attempt.frame.was_honest h)) s p held is in
           let r = greatest_since alone _ s0.device now.device s1.device s2.device _ run c.attempt.new.run k device s p held is c.attempt.ensures.attempt.number.greatest c.attempt.ensures.attempt.number.unfixed h in
           (r.0, r.1.1);
     }
@@ -85,7 +85,7 @@ returns-in-Ok-clause-done g c = λ h asked at.
     let attempt = c.in-Ok.ensures.attempt in
     let said = attempt.answer in
     let part = attempt.part in
-    let before = c.again.ensures.was_honest (c.attempt.ensures.attempt.frame.was_honest h) in
+    let before = c.again.ensures.frame.was_honest (c.attempt.ensures.attempt.frame.was_honest h) in
     let t = i.left before asked at in
     let here = subst (AttemptStart g.opening c.args.options.now drawn c.loop-tried.run) (sym (found_device tried now s1 c.again.ensures.seen)) t in
     let began = began_at g.opening _ tried c.loop-tried.run s0 now s1 s2 stream drawn i.first i.undrawn i.moved c.again.ensures.seen i.reopened (before, asked, at) t.tried (part.goes_on h) part.reopened in
@@ -98,7 +98,7 @@ returns-in-Ok-clause-greatest g c = λ h s p held is.
     let now = g.O.Outside.seen c.loop-tried.outside in
     let s1 = g.O.Outside.seen c.again.new.outside in
     let s2 = g.O.Outside.seen c.attempt.new.outside in
-    let k = i.greatest (c.again.ensures.was_honest (c.attempt.ensures.attempt.frame.was_honest h)) s p held is in
+    let k = i.greatest (c.again.ensures.frame.was_honest (c.attempt.ensures.attempt.frame.was_honest h)) s p held is in
     let r = greatest_since g.O.Outside.alone _ s0.device now.device s1.device s2.device (Ok c.in-Ok.last) c.loop-tried.run c.attempt.new.run k (found_device c.loop-tried.tried now s1 c.again.ensures.seen) s p held is c.in-Ok.ensures.attempt.number.greatest c.in-Ok.ensures.attempt.number.unfixed h in
     absurd r.1.0
 
@@ -147,7 +147,7 @@ returns-in-Err-clause-left g c = λ h asked at.
     let drawn = g.R.Rng.stream c.loop-tried.rng in
     let fault = c.in-Err.fault in
     let part = c.in-Err.ensures.attempt.part in
-    let before = c.again.ensures.was_honest (c.attempt.ensures.attempt.frame.was_honest h) in
+    let before = c.again.ensures.frame.was_honest (c.attempt.ensures.attempt.frame.was_honest h) in
     let t = i.left before asked at in
     let here = subst (AttemptStart g.opening options drawn c.loop-tried.run) (sym (found_device tried now s1 e)) t in
     let after = AttemptStart g.opening options (g.R.Rng.stream c.attempt.new.rng) c.attempt.new.run in
@@ -177,8 +177,8 @@ returns-in-Err-clause-caused g c = λ other.
     (more_found c.loop-tried.tried s0 now s1 i.told e) appends other c.in-Err.ensures.attempt.part (record {
       changed = λ side t. t.1;
       keywords = λ t. (t.0, λ h. (t.1 h).0);
-      repeats = λ k. record { drawn = g.R.Rng.stream c.loop-tried.rng; moved = i.moved; on = c.attempt.ensures.attempt.moved; count = k.count; repeats = k.repeats; wanted = λ h asked at. k.wanted h (subst before (sym device) (i.left (c.again.ensures.was_honest (c.attempt.ensures.attempt.frame.was_honest h)) asked at)) };
-      beyond = λ b. (b.0, λ h. b.1 h (subst (λ (d : Device). IsReached c.loop-tried.run d.files) (sym device) (i.reached (c.again.ensures.was_honest (c.attempt.ensures.attempt.frame.was_honest h)))));
+      repeats = λ k. record { drawn = g.R.Rng.stream c.loop-tried.rng; moved = i.moved; on = c.attempt.ensures.attempt.moved; count = k.count; repeats = k.repeats; wanted = λ h asked at. k.wanted h (subst before (sym device) (i.left (c.again.ensures.frame.was_honest (c.attempt.ensures.attempt.frame.was_honest h)) asked at)) };
+      beyond = λ b. (b.0, λ h. b.1 h (subst (λ (d : Device). IsReached c.loop-tried.run d.files) (sym device) (i.reached (c.again.ensures.frame.was_honest (c.attempt.ensures.attempt.frame.was_honest h)))));
       greatest = λ n. n;
       unread = λ e t. t;
       refused = λ step t. t.0;
@@ -208,7 +208,7 @@ returns-in-Err-clause-greatest g c = λ h s p held is.
     let now = g.O.Outside.seen c.loop-tried.outside in
     let s1 = g.O.Outside.seen c.again.new.outside in
     let s2 = g.O.Outside.seen c.attempt.new.outside in
-    let k = i.greatest (c.again.ensures.was_honest (c.attempt.ensures.attempt.frame.was_honest h)) s p held is in
+    let k = i.greatest (c.again.ensures.frame.was_honest (c.attempt.ensures.attempt.frame.was_honest h)) s p held is in
     let r = greatest_since {T = Pass} g.O.Outside.alone _ s0.device now.device s1.device s2.device (Err c.in-Err.fault) c.loop-tried.run c.attempt.new.run k (found_device c.loop-tried.tried now s1 c.again.ensures.seen) s p held is c.in-Err.ensures.attempt.number.greatest c.in-Err.ensures.attempt.number.unfixed h in
     r.1
 
