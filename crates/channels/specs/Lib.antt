@@ -8,6 +8,7 @@ pub mod Streams
 pub mod Refusals
 pub mod Openings
 pub mod Lines
+pub mod Steps
 pub mod Founds
 pub mod Asks
 pub mod Outcomes

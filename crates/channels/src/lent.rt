@@ -1,12 +1,14 @@
 //! One run over a mailbox that was lent.
 
-ghost use Rattle.std.specs.Prelude.{◌≡◌, Err, OnOk};
+ghost use Rattle.std.specs.Prelude.{◌≡◌, ◌+◌, Err, IfErr, IfSome, OnOk, Some};
+ghost use Rattle.outside.specs.Opened.{journal_of};
 ghost use Rattle.run_states.specs.Conditions.{IsOver};
 ghost use Rattle.run_states.specs.Openings.{Opening};
 ghost use Rattle.runner.specs.Answers.{Inputs};
 ghost use Rattle.runner.specs.Attempts.{AtOpening, FromOpening, MetStops};
 ghost use Rattle.channels.specs.Asks.{run_attempts};
 ghost use Rattle.channels.specs.Openings.{first_on};
+ghost use Rattle.channels.specs.Steps.{NamesItsStep, NamesNext, logged_in, step_at};
 
 use crate::fault::BoxFault;
 use crate::stores::Work;
@@ -77,6 +79,7 @@ fn settle_lent<O: Outside, R: Rng, P: Progress>(
     requires map { O.keywords outside.old ≡ options.now.keywords }
     ensures done { OnOk result (O.honest outside.new → Inputs opening options.now (R.stream rng.old)
         → AtOpening opening (O.seen outside.old).device → IsOver opening (O.seen outside.new).device) }
+    ensures names { IfErr result (NamesItsStep (journal_of (O.opened outside.new))) }
     ensures stopped { result ≡ Err (BoxFault.Run RunFault.Stopped) → MetStops run_attempts (O.seen outside.old) (O.seen outside.new) }
 {
     match settle(alloc, outside, options, TRIES, rng, progress) {
@@ -92,7 +95,8 @@ fn settle_lent<O: Outside, R: Rng, P: Progress>(
 
 /// A fault of the run, and the first step that is not logged of the plan that is pending, if one is.
 fn at_step<O: Outside>(outside: &mut O, fault: RunFault) -> BoxFault
-    ensures { result ≡ BoxFault.Run RunFault.Stopped → fault ≡ RunFault.Stopped }
+    ensures stopped { result ≡ BoxFault.Run RunFault.Stopped → fault ≡ RunFault.Stopped }
+    ensures names { NamesNext (journal_of (O.opened outside.new)) fault result }
 {
     match next_step(outside) {
         Some((number, step)) => BoxFault::AtStep(fault, number, step),
@@ -101,7 +105,10 @@ fn at_step<O: Outside>(outside: &mut O, fault: RunFault) -> BoxFault
 }
 
 /// The first step that is not logged of the plan that is pending: its number, counted from 1, and the step.
-fn next_step<O: Outside>(outside: &mut O) -> Option<(usize, Step)> {
+fn next_step<O: Outside>(outside: &mut O) -> Option<(usize, Step)>
+    ensures step { IfSome result (λ next. step_at next.0 (journal_of (O.opened outside.new)) ≡ Some next.1) }
+    ensures first { IfSome result (λ next. next.0 ≡ logged_in (journal_of (O.opened outside.new)) + 1) }
+{
     outside.reopen();
     outside.open_book().ok()?;
     let journal = outside.pending()?;
@@ -111,14 +118,12 @@ fn next_step<O: Outside>(outside: &mut O) -> Option<(usize, Step)> {
 }
 
 /// The step of this number, counted from 1, of the plan that is pending.
-fn step_of<O: Outside>(outside: &mut O, number: usize) -> Option<Step> {
+fn step_of<O: Outside>(outside: &mut O, number: usize) -> Option<Step>
+    ensures { IfSome result (λ step. step_at number (journal_of (O.opened outside.new)) ≡ Some step) }
+{
     outside.reopen();
     outside.open_book().ok()?;
     let journal = outside.pending()?;
-    journal
-        .plan
-        .steps
-        .as_slice()
-        .get(number.checked_sub(1)?)
-        .copied()
+    let place = number.checked_sub(1)?;
+    journal.plan.steps.as_slice().get(place).copied()
 }

@@ -1,0 +1,30 @@
+-- Which step of a plan that is pending a number names.
+use Rattle.std.specs.Prelude.{◌≡◌, ◌+◌, ℕ, zero, suc, length, slice_get, Option, None, Some}
+use Rattle.rules.specs.declared.plan.Step.{Step}
+use Rattle.runner.specs.declared.fault.RunFault.{RunFault}
+use Rattle.sync_state.specs.declared.journal.Journal.{Journal}
+use Rattle.channels.specs.declared.fault.BoxFault.{BoxFault}
+use Rattle.channels.specs.declared.fault.BoxFault.TheVariants.{AtStep, Refused, Run}
+
+-- counted from 1
+abbrev pub step_at : ℕ → Option Journal → Option Step
+step_at number None = None
+step_at zero (Some journal) = None
+step_at (suc place) (Some journal) = slice_get journal.plan.steps place
+
+-- how many steps are logged
+abbrev pub logged_in : Option Journal → ℕ
+logged_in None = 0
+logged_in (Some journal) = length journal.log
+
+-- a fault of the run is reported as it is, with the first step that is not logged if there is one
+abbrev pub NamesNext : Option Journal → RunFault → BoxFault → Type 0
+NamesNext journal fault (AtStep told number step) = (told ≡ fault) × (number ≡ logged_in journal + 1) × (step_at number journal ≡ Some step)
+NamesNext journal fault (Run told) = told ≡ fault
+NamesNext journal fault _ = ⊥
+
+-- the step that is named beside a number is the one of this number
+abbrev pub NamesItsStep : Option Journal → BoxFault → Type 0
+NamesItsStep journal (AtStep fault number step) = step_at number journal ≡ Some step
+NamesItsStep journal (Refused number (Some step)) = step_at number journal ≡ Some step
+NamesItsStep journal _ = Unit {0}
