@@ -19,7 +19,7 @@ README_WORDS, DOCS_WORDS, CONTENTS_FROM = 900, 22_000, 150
 UNUSUAL = re.compile(r"\b(?:behind|told|tells?(?! you\b)|taken\s+up|takes\s+up|kept\s+alike|passed\s+over|keeps\s+its\s+word)\b", re.I)
 # The crates and pages that still have such words. One that has none any more leaves this list, which is to become empty.
 NOT_SWEPT = """
-    channels run_trial test_trials test_wanting
+    run_trial test_trials test_wanting
 """.split()
 # The comment of a line, by the ending of its file: what follows the first mark that stands in no literal.
 COMMENT = {

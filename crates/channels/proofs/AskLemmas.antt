@@ -1,4 +1,4 @@
--- What stores are asked for, one thing behind another.
+-- What stores are asked for, one thing after another.
 use Rattle.std.proofs.Common.{◌≡◌, ℕ, ◌+◌, ◌<◌, true, false, List, [], ◌∷◌, ◌++◌, Result, Ok, Err, IfOk, get_or, take, length, refl, ap, sym, ◌∙◌, subst, arith}
 use Rattle.std.proofs.lemmas.Grind.{common_steps, fold-append}
 use Rattle.std.proofs.lemmas.List.{take_more}
@@ -15,7 +15,7 @@ use Rattle.channels.specs.Founds.{absent_in}
 use Rattle.channels.specs.Verdicts.{both}
 use Rattle.channels.proofs.StreamLemmas.{told_is_told}
 
--- no fault was told of both only where none was told of either
+-- no fault was reported of both only where none was reported of either
 pub both_clean : (verdict later : Verdict) → both verdict later ≡ Clean → (verdict ≡ Clean) × (later ≡ Clean)
 both_clean verdict Clean e = (e, refl)
 both_clean verdict Faulty e = absurd (told_is_told Faulty tt e)

@@ -13,7 +13,7 @@ pub put_names-append : (names xs ys : List (List ℕ)) → put_names names (xs +
 put_names-append names [] ys = refl
 put_names-append names (x ∷ xs) ys = put_names-append (put_name x names) xs ys
 
--- the names of both lists, one list behind the other
+-- the names of both lists, one list after the other
 pub put_names-both : (is_chosen : List ℕ → Bool) (names far near : List (List ℕ))
     → put_names (put_names names (filter is_chosen far)) (filter is_chosen near) ≡ put_names names (filter is_chosen (far ++ near))
 put_names-both is_chosen names far near =
@@ -98,7 +98,7 @@ put_names-passed is_chosen boxes names i d h e =
     put_names-more is_chosen boxes names i d h
     ∙ ap (λ b. cond b (put_name (get_or names i d) (put_names boxes (filter is_chosen (take i names)))) (put_names boxes (filter is_chosen (take i names)))) e
 
--- ---- names that rise still rise behind a put
+-- ---- names that rise still rise after a put
 
 below_first-at : (a name n : List ℕ) (ns : List (List ℕ)) (order : Ordering) → slice_cmp nat_cmp a n ≡ Less → slice_cmp nat_cmp a name ≡ Less
     → IsBelowFirst a (match_ordering order (n ∷ put_name name ns) (n ∷ ns) (name ∷ n ∷ ns))

@@ -1,4 +1,4 @@
--- What was asked, one thing behind another, and how it ended.
+-- What was asked, one thing after another, and how it ended.
 use Rattle.std.proofs.Common.{◌≡◌, Bool, true, false, None, is_some, ◌||◌, List, [], ◌∷◌, ◌++◌, Result, Ok, Err, OnOk, refl, ap, sym, ◌∙◌, subst, append-nil, inl, inr, if◌then◌else◌}
 use Rattle.std.proofs.lemmas.Grind.{fold-append}
 use Rattle.std.specs.List.{fold}
@@ -40,7 +40,7 @@ IsGoingOn Clean = Unit {0}
 IsGoingOn Faulty = Unit {0}
 IsGoingOn Over = ⊥
 
--- what is told of a fault is told of how it ended
+-- what is reported of a fault is reported of how it ended
 pub IsToldOf-verdict : (outcome : Outcome) → IsToldOf outcome (verdict_of outcome)
 IsToldOf-verdict Done = λ e. subst IsGoingOn e tt
 IsToldOf-verdict Failed = refl
@@ -55,7 +55,7 @@ IsToldOf-both verdict Clean all e h k = λ over. h (sym e ∙ over)
 IsToldOf-both verdict Faulty all e h k = λ over. is_not_over Faulty tt (sym e ∙ over)
 IsToldOf-both verdict Over all e h k = λ over. k refl
 
--- of a run, and of what is told behind it
+-- of a run, and of what is reported after it
 pub IsToldOf-behind : (has_void : Bool) (verdict later all : Verdict) → all ≡ both verdict later → IsToldOf (if has_void then Failed else Done) verdict
     → IsToldOf Done later → IsToldOf (if has_void then Failed else Done) all
 IsToldOf-behind false verdict later all e h k = IsToldOf-both verdict later all e h k
@@ -68,7 +68,7 @@ IsClean Clean = Unit {0}
 IsClean Faulty = ⊥
 IsClean Over = ⊥
 
--- a run of which no fault was told was done
+-- a run of which no fault was reported was done
 pub was_done : (has_void : Bool) (verdict : Verdict) → IsToldOf (if has_void then Failed else Done) verdict → verdict ≡ Clean
     → (if has_void then Failed else Done) ≡ Done
 was_done false verdict h e = refl
@@ -80,14 +80,14 @@ pub fold_behind : {L : Type 0} (noted : L → Asked → L) (old middle new : L) 
     → middle ≡ fold noted old first → new ≡ fold noted middle next → new ≡ fold noted old (first ++ next)
 fold_behind noted old middle new first next h k = k ∙ ap (λ l. fold noted l next) h ∙ sym (fold-append noted old first next)
 
--- what was done, and what came behind it
+-- what was done, and what came after it
 pub Follows-onward : {L : Type 0} (noted : L → Asked → L) (old middle new : L) (outcome : Outcome) (first next : Course)
     → Follows noted old middle Done first → Follows noted middle new outcome next → Follows noted old new outcome (onward first next)
 Follows-onward noted old middle new outcome first next h k =
     subst (λ o. Follows noted old new outcome (onward_by o first.asked next)) h.ended
     (record { grown = fold_behind noted old middle new first.asked next.asked h.grown k.grown; ended = k.ended })
 
--- what was not done, and so nothing behind it
+-- what was not done, and so nothing after it
 pub Follows-ends : {L : Type 0} (noted : L → Asked → L) (old new : L) (outcome : Outcome) (first next : Course)
     → IsFault outcome → Follows noted old new outcome first → Follows noted old new outcome (onward first next)
 Follows-ends noted old new Done first next n h = absurd n

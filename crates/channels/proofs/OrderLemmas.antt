@@ -1,4 +1,4 @@
--- What was asked of several, one behind another, and how far it came.
+-- What was asked of several, one after another, and how far it came.
 use Rattle.std.proofs.Common.{◌≡◌, ℕ, suc, ◌+◌, ◌<◌, Bool, true, false, List, [], ◌∷◌, ◌++◌, length, get_or, drop, Option, None, Result, Ok, Err, IfOk, refl, ap, sym, ◌∙◌, subst, append_assoc, append-nil, drop-cons, arith}
 use Rattle.std.specs.List.{fold}
 use Rattle.rules.specs.declared.options.Options.{Options}
@@ -98,7 +98,7 @@ both-clean Clean = refl
 both-clean Faulty = refl
 both-clean Over = refl
 
--- so much was asked and told of those before what is left: whatever comes of that makes the whole
+-- so much was asked and reported of those before what is left: whatever comes of that makes the whole
 abbrev pub Ahead : {X : Type 0} → (stops : Verdict → Bool) → (one : X → Verdict → List Asked → Type 0) → (xs left : List X) → Verdict → List Asked → Type 0
 Ahead stops one xs left verdict asked = (later : Verdict) (rest : List Asked)
     → InOrder stops one left later rest → InOrder stops one xs (both verdict later) (asked ++ rest)
@@ -142,7 +142,7 @@ Ahead-stops stops one xs left x verdict told asked first h k e =
       together = refl;
     } in h told first last
 
--- what can be asked and told
+-- what can be asked and reported
 pub record Possible (is_such : Verdict → List Asked → Type 0) : Type 0 where
   pub verdict : Verdict
   pub asked : List Asked
@@ -258,7 +258,7 @@ Goes-all noted old new stops one xs left verdict e h = record {
   grown = h.grown;
 }
 
--- what is told of one stops the others if all is over with it
+-- what is reported of one stops the others if all is over with it
 pub is_over-last : (verdict told all : Verdict) → all ≡ both verdict told → (verdict ≡ Over → ⊥) → all ≡ Over → is_over told ≡ true
 is_over-last verdict Clean all e n h = absurd (n (sym e ∙ h))
 is_over-last verdict Faulty all e n h = absurd (is_not_over Faulty tt (sym e ∙ h))
@@ -271,7 +271,7 @@ is_over-not verdict Over all e n = absurd (n e)
 
 -- ---- of a run
 
--- a write failed before it, or behind it
+-- a write failed before it, or after it
 pub Begun-unrun : {L : Type 0} (noted : L → Asked → L) (options : Options) (place : Place) (old new : L) → new ≡ old
     → Goes noted old new (Begun (IsRunAsked options place))
 Begun-unrun noted options place old new e = record {
@@ -304,7 +304,7 @@ Goes-run noted options place ran gave_up verdict old new e h = record {
   grown = e;
 }
 
--- its fault was told
+-- its fault was reported
 pub SoFar-fault : {L E : Type 0} (noted : L → Asked → L) (options : Options) (place : Place) (fault : BoxFault) (gave_up : Option Outcome) (result : Result Verdict E) (old new : L)
     → new ≡ fold noted old (run_course options place (outcome_of_box_fault fault) gave_up).asked
     → IfOk result (λ verdict. verdict ≡ verdict_of (outcome_of_box_fault fault)) → Goes noted old new (SoFar result (IsRunAsked options place))

@@ -79,7 +79,7 @@ there from name (n ∷ ns) (suc i) r l h =
     at_order from name n ns Less (below_alike n (slice_index_or ns i n) name (h n) (below_each n ns r.0 r.1 i n (omega (arith, l))))
     ∙ there (from + 1) name ns i r.1 (omega (arith, l)) h
 
--- what a search tells of where a name goes
+-- what a search reports of where a name goes
 pub placed : (name : List ℕ) (ns : List (List ℕ)) (r : Result ℕ ℕ) → Rises ns → IsSearchInRange r (length ns)
     → IsBinarySearchResult (λ n. slice_cmp nat_cmp n name) ns r
     → MatchResult r (λ i. place_from 0 name ns ≡ None) (λ i. place_from 0 name ns ≡ Some i)
@@ -114,7 +114,7 @@ in_gap name (n ∷ ns) (suc i) p q =
     ap (λ b. b || stands_in ns name) (same_by n name Less (p 0 n (omega arith) (omega arith)))
     ∙ in_gap name ns i (λ k d a b. p (suc k) d (omega arith) (omega (arith, b))) (λ k d a b. q (suc k) d (omega (arith, a)) (omega (arith, b)))
 
--- what a search tells of whether a name is there
+-- what a search reports of whether a name is there
 pub standing : (name : List ℕ) (ns : List (List ℕ)) (r : Result ℕ ℕ) → Rises ns → IsSearchInRange r (length ns)
     → IsBinarySearchResult (λ n. slice_cmp nat_cmp n name) ns r → stands_in ns name ≡ is_ok r
 standing name ns (Ok i) r l h = in_there name ns i l h

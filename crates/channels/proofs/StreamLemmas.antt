@@ -81,7 +81,7 @@ pub IsQuiet-both : (first then last : Option (List ℕ)) (verdict later all : Ve
 IsQuiet-both first then last verdict later all e h k =
     subst (λ v. IsQuiet first last v) (sym e) (IsQuiet-more first then last verdict later h k)
 
--- notices before what was told
+-- notices before what was reported
 IsQuiet-before : (first then last : Option (List ℕ)) (verdict : Verdict) → HasNotices first then → IsQuiet then last verdict → IsQuiet first last verdict
 IsQuiet-before first then last verdict h k = λ e. HasNotices-more first then last h (k e)
 
@@ -90,7 +90,7 @@ pub IfOk-before : {E : Type 0} (first then last : Option (List ℕ)) (result : R
 IfOk-before first then last (Ok v) h k = IsQuiet-before first then last v h k
 IfOk-before first then last (Err e) h k = tt
 
--- notices behind what was told
+-- notices after what was reported
 pub IsQuiet-behind : (first then last : Option (List ℕ)) (verdict : Verdict) → IsQuiet first then verdict → HasNotices then last → IsQuiet first last verdict
 IsQuiet-behind first then last verdict h k = λ e. HasNotices-more first then last (h e) k
 
@@ -107,5 +107,5 @@ pub ruleset stream_steps = (Extends-same, Extends-more)
 -- the lines of notices, several times
 pub ruleset notice_steps = (HasNotices-same, HasNotices-one, HasNotices-more)
 
--- what is told several times
+-- what is reported several times
 pub ruleset quiet_steps = (HasNotices-same, IsQuiet-more)

@@ -56,7 +56,7 @@ lists_asked of fars nears = FarListed of.far_store (Some fars) ∷ NearListed of
 abbrev pub Asks : {S L : Type 0} → (L → Asked → L) → (S → L) → (old new : MutBor S) → List Asked → Type 0
 Asks noted asked old new more = (new.ghost_name ≡ old.ghost_name) × (asked new.now ≡ fold noted (asked old.now) more)
 
--- so much was asked, unless a fault was told
+-- so much was asked, unless a fault was reported
 abbrev pub AsksIfClean : {L : Type 0} → (L → Asked → L) → (old new : L) → List Asked → Verdict → Type 0
 AsksIfClean noted old new more verdict = verdict ≡ Clean → new ≡ fold noted old more
 

@@ -26,7 +26,7 @@ abbrev pub Rises : List (List ℕ) → Type 0
 Rises [] = ⊤
 Rises (n ∷ ns) = IsBelowFirst n ns × Rises ns
 
--- a test that tells which names the patterns choose
+-- a test that reports which names the patterns choose
 abbrev pub Tells : (List ℕ → Bool) → (patterns : List (List ℕ)) → Type 0
 Tells is_chosen patterns = (name : List ℕ) → Decides (is_chosen name) (IsChosen patterns name)
 

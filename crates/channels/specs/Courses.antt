@@ -29,7 +29,7 @@ use Rattle.channels.specs.Verdicts.{both, status_of}
 
 -- ---- of a mailbox
 
--- what is asked, one thing behind another, and how it ends
+-- what is asked, one thing after another, and how it ends
 pub record Course : Type 0 where
   pub asked : List Asked
   pub outcome : Outcome
@@ -39,7 +39,7 @@ abbrev pub asking_if : Bool → (Outcome → Asked) → Outcome → Course
 asking_if is_due question outcome =
     if is_due then record { asked = question outcome ∷ []; outcome = outcome } else record { asked = []; outcome = Done }
 
--- behind one thing the next, where it is done
+-- after one thing the next, where it is done
 abbrev pub onward_by : Outcome → List Asked → Course → Course
 onward_by Done asked next = record { asked = asked ++ next.asked; outcome = next.outcome }
 onward_by Failed asked next = record { asked = asked; outcome = Failed }
@@ -62,8 +62,8 @@ making_course place absent ends = onward (asking_if (absent.far || absent.near) 
     (onward (asking_if absent.far (Made Far place) ends.made_far) (asking_if absent.near (Made Near place) ends.made_near))
 
 -- what was asked of a mailbox that is not made on each side on which it is absent: whether it is a new one, and nothing more, since Create
--- does not cover one of them; or whether it is a new one, which it is not, or is not known; or that it is made far, which it is not; or that it is made near, which it is not, and
--- then it is made far, where it was absent there, and nothing takes that back
+-- does not cover one of them; or whether it is a new one, which it is not, or is not known; or that it is made far, which it is not; or
+-- that it is made near, which it is not, and then it is made far, where it was absent there, and nothing takes that back
 abbrev pub IsMadeUpTo : (fault : Outcome) → Place → (absent : Sides) → List Asked → Type 0
 IsMadeUpTo fault place absent asked =
     (IsSome (uncovered absent place.of.channel.create) × ((found : Outcome) × (asked ≡ FoundNew place found ∷ [])))
@@ -82,7 +82,7 @@ abbrev pub covered_course : Place → (absent : Sides) → BoxEnds → Course
 covered_course place absent ends =
     if is_some (uncovered absent place.of.channel.create) then record { asked = FoundNew place ends.found_new ∷ []; outcome = Failed } else making_course place absent ends
 
--- so that is asked, and this is told of it
+-- so that is asked, and this is reported of it
 pub record FindsAbsence {L : Type 0} (noted : L → Asked → L) (place : Place) (side : Side) (fault : BoxFault) (old new : L) : Type 0 where
   pub answer : Result Bool StoreFault
   pub grown : new ≡ fold noted old (FoundNew place (outcome_of_state answer) ∷ [])
@@ -107,14 +107,14 @@ settled_asked options place result = (run_course options place (outcome_of_settl
 abbrev pub box_course : Options → Place → (absent : Sides) → BoxEnds → Course
 box_course options place absent ends = onward (covered_course place absent ends) (run_course options place ends.ran ends.gave_up)
 
--- it is run, its plan given up where the run failed, or not, and this is told of the run
+-- it is run, its plan given up where the run failed, or not, and this is reported of the run
 pub record IsRunAsked (options : Options) (place : Place) (verdict : Verdict) (asked : List Asked) : Type 0 where
   pub ran : Outcome
   pub gave_up : Option Outcome
   pub all : asked ≡ (run_course options place ran gave_up).asked
   pub told : IsToldOf ran verdict
 
--- so much is asked of a mailbox, and this is told of it
+-- so much is asked of a mailbox, and this is reported of it
 pub record IsBoxAsked (options : Options) (place : Place) (absent : Sides) (verdict : Verdict) (asked : List Asked) : Type 0 where
   pub ends : BoxEnds
   pub all : asked ≡ (box_course options place absent ends).asked
@@ -122,7 +122,7 @@ pub record IsBoxAsked (options : Options) (place : Place) (absent : Sides) (verd
 
 -- ---- of several
 
--- so much is asked and told of one, and so much behind it, unless what is told of it stops them
+-- so much is asked and reported of one, and so much after it, unless what is reported of it stops them
 abbrev pub NextOf : (stops : Bool) → (next : Verdict → List Asked → Type 0) → Verdict → List Asked → Type 0
 NextOf true next verdict asked = (verdict ≡ Clean) × (asked ≡ [])
 NextOf false next verdict asked = next verdict asked
@@ -137,7 +137,7 @@ pub record Behind (stops : Verdict → Bool) (one next : Verdict → List Asked 
   pub all : asked ≡ first ++ rest
   pub together : verdict ≡ both told later
 
--- each of these, one behind another
+-- each of these, one after another
 abbrev pub InOrder : {X : Type 0} → (stops : Verdict → Bool) → (one : X → Verdict → List Asked → Type 0) → List X → Verdict → List Asked → Type 0
 InOrder stops one [] verdict asked = (verdict ≡ Clean) × (asked ≡ [])
 InOrder stops one (x ∷ xs) verdict asked = Behind stops (one x) (InOrder stops one xs) verdict asked
@@ -166,18 +166,18 @@ IsFoundAsked options of fars nears (Pair far near) verdict asked =
 IsFoundAsked options of fars nears (Matching patterns) verdict asked = IsOver verdict asked ⊎ ((is_chosen : List ℕ → Bool) → Tells is_chosen patterns
     → InOrder is_over (IsNamedAsked options of fars nears) (boxes_among is_chosen fars nears) verdict asked)
 
--- the mailboxes of both stores are listed, those of the near one only if the far one told its own
+-- the mailboxes of both stores are listed, those of the near one only if the far one reported its own
 abbrev pub listing_asked : Joined → (fars nears : Option (List (List ℕ))) → List Asked
 listing_asked of None nears = FarListed of.far_store None ∷ []
 listing_asked of (Some fars) nears = FarListed of.far_store (Some fars) ∷ NearListed of.near_store nears ∷ []
 
--- where both told them, this follows
+-- where both reported them, this follows
 abbrev pub IfListed : (fars nears : Option (List (List ℕ))) → (next : (fars nears : List (List ℕ)) → Verdict → List Asked → Type 0) → Verdict → List Asked → Type 0
 IfListed None nears next verdict asked = IsOver verdict asked
 IfListed (Some fars) None next verdict asked = IsOver verdict asked
 IfListed (Some fars) (Some nears) next verdict asked = next fars nears verdict asked
 
--- one of them did not tell its own
+-- one of them did not report its own
 abbrev pub IsUnlisted : Joined → List Asked → Type 0
 IsUnlisted of asked = (asked ≡ FarListed of.far_store None ∷ [])
     ⊎ ((fars : List (List ℕ)) × (asked ≡ FarListed of.far_store (Some fars) ∷ NearListed of.near_store None ∷ []))
@@ -193,7 +193,7 @@ pub record IsListedAsked (of : Joined) (next : (fars nears : List (List ℕ)) �
 abbrev pub IsChannelAsked : Options → Joined → Verdict → List Asked → Type 0
 IsChannelAsked options of verdict asked = IsListedAsked of (λ fars nears. IsFoundAsked options of fars nears of.channel.boxes) verdict asked
 
--- nothing but its mailboxes is told, or that there is no memory for their names
+-- nothing but its mailboxes is reported, or that there is no memory for their names
 abbrev pub IsListedAlone : (fars nears : List (List ℕ)) → Verdict → List Asked → Type 0
 IsListedAlone fars nears verdict asked = (verdict ≡ Faulty → ⊥) × (asked ≡ [])
 
@@ -223,7 +223,7 @@ pub record IsJoinedAsked (config : Config) (ways : Ways) (place : ℕ) (verdict 
 abbrev pub IsPlaceAsked : Config → Ways → (place : ℕ) → Verdict → List Asked → Type 0
 IsPlaceAsked config ways place verdict asked = (IsUnjoined config place × IsOver verdict asked) ⊎ IsJoinedAsked config ways place verdict asked
 
--- each of these channels, one behind another, whatever is told of those before
+-- each of these channels, one after another, whatever is reported of those before
 abbrev pub IsLineAsked : Config → Ways → (places : List ℕ) → Verdict → List Asked → Type 0
 IsLineAsked config ways places verdict asked = InOrder (λ _. false) (IsPlaceAsked config ways) places verdict asked
 
@@ -280,7 +280,7 @@ GoesUntil noted true is_such status old new = (status ≡ 1) × Goes noted old n
 abbrev pub GoesUnwritten : {L : Type 0} → (L → Asked → L) → Config → Request → (old new : L) → Type 0
 GoesUnwritten noted config request old new = (IsUndone config request × (new ≡ old)) ⊎ Goes noted old new (Begun (IsRequestAsked config request))
 
--- nothing was asked, and why is told on standard error; or all that the line names was asked; or, at status 1, a write failed
+-- nothing was asked, and why is reported on standard error; or all that the line names was asked; or, at status 1, a write failed
 abbrev pub GoesAsFar : {L : Type 0} → (L → Asked → L) → Config → Request → (status : ℕ) → (told_before told : Option (List ℕ)) → (old new : L) → Type 0
 GoesAsFar noted config request status told_before told old new =
     (IsToldUndone config request status told_before told × (new ≡ old))

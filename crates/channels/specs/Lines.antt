@@ -1,4 +1,4 @@
--- The lines that tell which mailbox is listed, or synchronised from now on, and those that tell what is no fault.
+-- The lines that report which mailbox is listed, or synchronised from now on, and those that report what is no fault.
 use Rattle.std.specs.Prelude.{ℕ, List, [], ◌∷◌, ◌++◌, codes, string_bytes}
 use Rattle.channels.specs.declared.notice.Notice.{Notice}
 use Rattle.channels.specs.declared.notice.Notice.TheVariants.{Skipped, Unnamed, Alert}

@@ -1,4 +1,4 @@
--- How what is asked of the stores ends, and what is told of it.
+-- How what is asked of the stores ends, and what is reported of it.
 use Rattle.std.specs.Prelude.{◌≡◌, ◌⊎◌, Bool, true, false, Option, None, option_map, Result, Ok, Err, if◌then◌else◌}
 use Rattle.std.specs.List.{list_any}
 use Rattle.runner.specs.declared.pass.Pass.{Pass}
@@ -134,15 +134,16 @@ abbrev pub IsAbsenceOf : {T : Type 0} → Side → Result T BoxFault → Type 0
 IsAbsenceOf side (Ok answer) = ⊥
 IsAbsenceOf side (Err fault) = IsAbsence side fault
 
--- ---- what is told
+-- ---- what is reported
 
--- what is told of a fault
+-- what is reported of a fault
 abbrev pub verdict_of : Outcome → Verdict
 verdict_of Done = Clean
 verdict_of Failed = Faulty
 verdict_of Unopened = Over
 
--- what may be told of a mailbox: of one that was run, also files that its run left out, or that there is no memory to tell what it did
+-- what may be reported of a mailbox: of one that was run, also files that its run left out, or that there is no memory to report what it
+-- did
 abbrev pub IsToldOf : Outcome → Verdict → Type 0
 IsToldOf Done verdict = verdict ≡ Over → ⊥
 IsToldOf Failed verdict = verdict ≡ Faulty

@@ -2,7 +2,7 @@
 use Rattle.std.specs.Prelude.{ℕ, ◌==◌, List, [], ◌∷◌, ◌++◌, if◌then◌else◌}
 use Rattle.std.specs.List.{list_any}
 
--- a place behind the others, if it is not there yet
+-- a place after the others, if it is not there yet
 abbrev pub with_place : List ℕ → ℕ → List ℕ
 with_place places p = if list_any (λ q. q == p) places then places else places ++ p ∷ []
 

@@ -12,7 +12,7 @@ use Rattle.channels.specs.declared.course.Refusal.TheVariants.{Unknown, SyncWord
 abbrev pub IsRefused : Config → Request → Type 0
 IsRefused config request = IsSome (unknown_among config request.chosen) ⊎ IsErr (line_cells request.sync_words.items)
 
--- this name is told
+-- this name is reported
 abbrev pub Tells : Refusal → List ℕ → Type 0
 Tells (Unknown text) name = text.now ≡ name
 Tells SyncWords name = ⊥
@@ -47,7 +47,7 @@ pub record IsUndone (config : Config) (request : Request) : Type 0 where
   pub refusal : Refusal
   pub reason : IsReason config request refusal
 
--- nothing is done, and its reason is told, on a line of its own, and by the status
+-- nothing is done, and its reason is reported, on a line of its own, and by the status
 pub record IsToldUndone (config : Config) (request : Request) (status : ℕ) (old new : Option (List ℕ)) : Type 0 where
   pub refusal : Refusal
   pub reason : IsReason config request refusal

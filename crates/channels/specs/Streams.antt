@@ -7,13 +7,13 @@ use Rattle.channels.specs.declared.verdict.Verdict.{Verdict}
 use Rattle.channels.specs.declared.verdict.Verdict.TheVariants.{Clean}
 use Rattle.channels.specs.Lines.{notice_line}
 
--- all that was to be written stands behind what was there: so it is only where no write failed
+-- all that was to be written stands after what was there: so it is only where no write failed
 abbrev pub Extends : Option (List ℕ) → Option (List ℕ) → Type 0
 Extends None new = ⊤
 Extends (Some xs) None = ⊥
 Extends (Some xs) (Some ys) = take (length xs) ys ≡ xs
 
--- a fault was told
+-- a fault was reported
 abbrev pub IsTold : Verdict → Type 0
 IsTold verdict = verdict ≡ Clean → ⊥
 
@@ -22,10 +22,10 @@ pub record HasNotices (old new : Option (List ℕ)) : Type 0 where
   pub notices : List Notice
   pub lines : Appends old new (flat_map notice_line notices)
 
--- nothing but notices was written to standard error, unless a fault was told
+-- nothing but notices was written to standard error, unless a fault was reported
 abbrev pub IsQuiet : (old new : Option (List ℕ)) → Verdict → Type 0
 IsQuiet old new verdict = verdict ≡ Clean → HasNotices old new
 
--- whether a write has failed so far, before a write and behind it
+-- whether a write has failed so far, before a write and after it
 abbrev pub Notes : {T E : Type 0} → (before after : Bool) → Result T E → Type 0
 Notes before after result = MatchResult result (λ _. after ≡ before) (λ _. after ≡ true)

@@ -1,9 +1,9 @@
--- Whether faults were told.
+-- Whether faults were reported.
 use Rattle.std.specs.Prelude.{ℕ}
 use Rattle.channels.specs.declared.verdict.Verdict.{Verdict}
 use Rattle.channels.specs.declared.verdict.Verdict.TheVariants.{Clean, Faulty, Over}
 
--- a fault that was told stays told
+-- a fault that was reported stays reported
 abbrev pub both : Verdict → Verdict → Verdict
 both verdict Clean = verdict
 both verdict Faulty = Faulty

@@ -56,7 +56,7 @@ impl<'a> ChannelStores<'a> {
 pub struct ChannelBox<'a> {
     /// The channel and its stores.
     pub of: ChannelStores<'a>,
-    /// The mailbox's name on the far side, by which it is told of.
+    /// The mailbox's name on the far side, which printed lines name it by.
     pub far: &'a MailboxName,
     /// Its name on the near side. It is another one only where the channel has no patterns.
     pub near: &'a MailboxName,

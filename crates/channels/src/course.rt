@@ -22,7 +22,7 @@ pub(crate) struct Course {
     pub(crate) cells: Option<Cells>,
 }
 
-/// Why nothing of a command line is done, as it is told.
+/// Why nothing of a command line is done, as it is reported.
 #[derive(Clone, Copy, Debug, PartialEq, Eq)]
 pub(crate) enum Refusal<'a> {
     /// This name is neither a channel nor a group.
@@ -70,7 +70,7 @@ impl Refusal<'_> {
     }
 }
 
-/// What a command line comes to. The first name that is unknown is told before words of Sync that are refused.
+/// What a command line comes to. The first name that is unknown is reported before words of Sync that are refused.
 pub(crate) fn course_of<'a>(
     alloc: Global,
     config: &Config,

@@ -23,7 +23,7 @@ use runner::progress::Progress;
 use runner::settle::settle;
 use std::alloc::Global;
 
-/// How many attempts a run has, each but the first behind one that met a stop.
+/// How many attempts a run has, each but the first after one that met a stop.
 const TRIES: u32 = 3;
 
 /// One run over a mailbox.
@@ -66,8 +66,8 @@ impl<R: Rng> Work for RunOnce<'_, R> {
     }
 }
 
-/// Makes one run over an outside. From an opening, the run is over where it answers. It is told as stopped only where each attempt met a
-/// stop.
+/// Makes one run over an outside. From an opening, the run is over where it answers. It is reported as stopped only where each attempt met
+/// a stop.
 fn settle_lent<O: Outside, R: Rng, P: Progress>(
     alloc: Global,
     outside: &mut O,

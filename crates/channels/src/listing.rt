@@ -74,7 +74,7 @@ fn matching<S: BoxLists, O: Write, E: Write>(
     found.matching(alloc, patterns)
 }
 
-/// Prints these mailboxes of a channel, behind what its stores tell beside.
+/// Prints these mailboxes of a channel, after what its stores report beside.
 #[tactic(auto, using(crate::proofs::StreamLemmas::stream_steps, crate::proofs::StreamLemmas::quiet_steps))]
 fn list_boxes<S: BoxLists, O: Write, E: Write>(
     stores: &mut ToldStores<'_, S, O, E>,

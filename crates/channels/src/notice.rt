@@ -1,6 +1,6 @@
-//! What is told beside faults.
+//! What is reported beside faults.
 
-/// What is told beside faults, on a line of standard error. It is no fault: the exit status stays.
+/// What is reported beside faults, on a line of standard error. It is no fault: the exit status stays.
 ///
 /// In a name or a text of a server or a disk, a byte that is no plain character stands as a backslash and two digits.
 #[derive(Drop)]

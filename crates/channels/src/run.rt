@@ -33,10 +33,10 @@ struct LineWork<'a> {
     request: &'a Request,
 }
 
-/// Does what a command line asks for: lists the mailboxes of the channels that it names, or synchronises them one after another, and
-/// prints to `out` what it does (docs/FORMATS.md, "Lines of `mbsync`"). Faults are told on `err`, and the next mailbox follows. It gives
-/// the exit status: 0 where no fault was told, else 1; notices leave it as it is. After a failed write nothing more is done, and the
-/// status is 1.
+/// Does what a command line asks for: lists the mailboxes of the channels that it names, or synchronises them one after another, and prints
+/// to `out` what it does (docs/FORMATS.md, "Lines of `mbsync`"). Faults are reported on `err`, and the next mailbox follows. It gives the
+/// exit status: 0 where no fault was reported, else 1; notices leave it as it is. After a failed write nothing more is done, and the status
+/// is 1.
 ///
 /// Status 2: a name is neither a channel nor a group, or the words of Sync are refused; then no store was opened.
 pub fn run_config<S: Stores, R: Rng, O: Write, E: Write>(
@@ -72,7 +72,7 @@ pub fn run_config<S: Stores, R: Rng, O: Write, E: Write>(
 }
 
 /// Lists or synchronises the mailboxes of these channels, and gives the exit status. Where a write failed, nothing was asked of the stores
-/// behind it (`ToldStores`), and the status is 1.
+/// after it (`ToldStores`), and the status is 1.
 fn run_told<S: Stores, R: Rng, O: Write, E: Write>(
     work: LineWork<'_>,
     course: &Course,
@@ -129,8 +129,8 @@ fn run_course<S: Stores, R: Rng, O: Write, E: Write>(
     Ok(verdict)
 }
 
-/// Lists or synchronises the mailboxes of the channel of this place. Where memory for the options of its runs is wanting, that is told, and
-/// nothing is asked of its stores.
+/// Lists or synchronises the mailboxes of the channel of this place. Where memory for the options of its runs is wanting, that is reported,
+/// and nothing is asked of its stores.
 fn run_place<S: Stores, R: Rng, O: Write, E: Write>(
     work: LineWork<'_>,
     cells: Option<Cells>,

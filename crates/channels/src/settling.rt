@@ -147,7 +147,7 @@ fn settle_boxes<S: Stores, R: Rng, O: Write, E: Write>(
     Ok(verdict)
 }
 
-/// Synchronises a mailbox, and tells then what the stores have to tell beside.
+/// Synchronises a mailbox, and reports then what the stores have to report beside.
 fn settle_box<S: Stores, R: Rng, O: Write, E: Write>(
     work: ChannelWork<'_>,
     place: ChannelBox<'_>,
@@ -331,7 +331,7 @@ fn first_of(sides: Sides) -> Option<Side>
     }
 }
 
-/// Tells which near files a run left out.
+/// Reports which near files a run left out.
 #[tactic(auto, using(crate::proofs::StreamLemmas::stream_steps, crate::proofs::StreamLemmas::quiet_steps))]
 fn tell_left_out<S: Stores, O: Write, E: Write>(
     place: ChannelBox<'_>,
@@ -352,7 +352,7 @@ fn tell_left_out<S: Stores, O: Write, E: Write>(
     Ok(verdict)
 }
 
-/// Prints the answer of a run. A step that was void is a fault that the answer tells.
+/// Prints the answer of a run. A step that was void is a fault that the answer reports.
 #[tactic(auto, using(crate::proofs::StreamLemmas::stream_steps, crate::proofs::StreamLemmas::quiet_steps))]
 fn print_answer<S: Stores, O: Write, E: Write>(
     alloc: Global,

@@ -19,7 +19,7 @@ pub enum ServerFault {
     NoRev2,
     /// It says no to the user and the password.
     LoginRefused,
-    /// It says no to what was asked behind the login.
+    /// It says no to what was asked after the login.
     Refused,
     /// User or password cannot be sent: more than 1024 bytes, or others than 32 to 126.
     Unsendable,
@@ -53,7 +53,7 @@ pub enum StoreFault {
     /// Another process holds the lock of the near mailbox.
     #[error("locked")]
     Locked,
-    /// A call has this fault, told as that of a run: `Stopped`; `StoreFault` with the side and the number of a box's fault, as 2 of the
+    /// A call has this fault, reported as that of a run: `Stopped`; `StoreFault` with the side and the number of a box's fault, as 2 of the
     /// far side where the server says no; `NoMemory`.
     #[error("{0}")]
     Box(RunFault),

@@ -75,7 +75,7 @@ pub trait Work {
     fn keywords(&self) -> &Keywords
         ensures { result.now ≡ (options self.now).keywords };
 
-    /// Does it, over both sides of the mailbox and its state, and tells how far it is. Both sides go by its map of keywords.
+    /// Does it, over both sides of the mailbox and its state, and reports how far it is. Both sides go by its map of keywords.
     fn over<O: Outside, P: Progress>(self, outside: &mut O, progress: &P) -> Self::Answer
         requires map { O.keywords outside.old ≡ (options self).keywords };
 }

@@ -1,4 +1,4 @@
-//! What is printed of a channel's mailboxes, and what is told of faults (docs/FORMATS.md, "Lines of `mbsync`").
+//! What is printed of a channel's mailboxes, and what is reported of faults (docs/FORMATS.md, "Lines of `mbsync`").
 
 ghost use Rattle.std.specs.Prelude.{◌≡◌, IfOk, OnOk, string_bytes};
 ghost use Rattle.std.specs.Io.KnownBytes.{Appends};
@@ -42,14 +42,14 @@ pub(crate) fn print_text<O: Write>(out: &mut O, text: &str) -> io::Result<()>
     out.flush()
 }
 
-/// Tells what is no fault.
+/// Reports what is no fault.
 pub(crate) fn tell_notice<E: Write>(err: &mut E, notice: &Notice) -> io::Result<()>
     ensures { OnOk result (Appends (E.contents err.old) (E.contents err.new) (notice_line notice.now)) }
 {
     writeln!(err, "{}", NoticeText(notice))
 }
 
-/// Tells why the mailboxes of a channel are not listed; on a second line what can be done, where that is known; and then what the server
+/// Reports why the mailboxes of a channel are not listed; on a second line what can be done, where that is known; and then what the server
 /// said, if it said something.
 pub(crate) fn tell_list<E: Write>(
     err: &mut E,
@@ -69,7 +69,7 @@ pub(crate) fn tell_list<E: Write>(
     Ok(Verdict::Over)
 }
 
-/// Tells that a channel or a store of it is not in the configuration. This does not come where the configuration was read from a file.
+/// Reports that a channel or a store of it is not in the configuration. This does not come where the configuration was read from a file.
 pub(crate) fn tell_no_channel<E: Write>(err: &mut E) -> io::Result<Verdict>
     ensures told { IfOk result IsTold }
     ensures over { IfOk result (λ verdict. verdict ≡ Over) }
@@ -78,7 +78,7 @@ pub(crate) fn tell_no_channel<E: Write>(err: &mut E) -> io::Result<Verdict>
     Ok(Verdict::Over)
 }
 
-/// Tells why a mailbox was not synchronised; on the next lines what was found, how giving up its unfinished run ended, and what can be
+/// Reports why a mailbox was not synchronised; on the next lines what was found, how giving up its unfinished run ended, and what can be
 /// done, where that is known; and then what the server said, if it said something.
 pub(crate) fn tell<E: Write>(
     err: &mut E,
@@ -96,7 +96,7 @@ pub(crate) fn tell<E: Write>(
     Ok(verdict)
 }
 
-/// Tells why a mailbox was not synchronised, on one line.
+/// Reports why a mailbox was not synchronised, on one line.
 fn tell_fault<E: Write>(err: &mut E, place: ChannelBox<'_>, fault: &BoxFault) -> io::Result<Verdict>
     ensures told { IfOk result IsTold }
     ensures verdict { IfOk result (λ verdict. verdict ≡ verdict_of (outcome_of_box_fault fault.now)) }
@@ -110,7 +110,7 @@ fn tell_fault<E: Write>(err: &mut E, place: ChannelBox<'_>, fault: &BoxFault) ->
     Ok(Verdict::Faulty)
 }
 
-/// Tells what a server said, if it said something.
+/// Reports what a server said, if it said something.
 fn tell_words<E: Write>(err: &mut E, words: Option<&str>) -> io::Result<()> {
     match words {
         Some(words) => writeln!(err, "  the server said: {words}"),

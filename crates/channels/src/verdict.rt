@@ -1,9 +1,9 @@
-//! Whether faults were told.
+//! Whether faults were reported.
 
 ghost use Rattle.std.specs.Prelude.{◌≡◌};
 ghost use Rattle.channels.specs.Verdicts.{both, status_of};
 
-/// What was told of what was asked for.
+/// What was reported of what was asked for.
 #[derive(Clone, Copy, PartialEq, Eq)]
 pub(crate) enum Verdict {
     /// No fault.
@@ -15,7 +15,7 @@ pub(crate) enum Verdict {
 }
 
 impl Verdict {
-    /// What was told of both, of which the other came later.
+    /// What was reported of both, of which the other came later.
     pub(crate) fn and(self, later: Verdict) -> Verdict
         ensures { result ≡ both self later }
     {

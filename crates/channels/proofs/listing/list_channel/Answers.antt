@@ -24,7 +24,7 @@ returns-in_ok-print_box-in-Pair-clause-asked g c =
     Goes-pair_listed g.S.BoxLists.noted (joined_of c.args.of) c.args.of.channel.now.boxes c.in-Pair.far c.in-Pair.near
     (g.S.BoxLists.asked c.args.stores.now.stores.now) (g.S.BoxLists.asked c.print_box.new.self.stores.now) c.in-Pair.is same
 
--- its stores were listed, and it was told what they have
+-- its stores were listed, and it was reported what they have
 pub returns-in-Ok-clause-asked : goal.returns-in-Ok-clause-asked
 returns-in-Ok-clause-asked g c =
     SoFar-lists g.S.BoxLists.noted (joined_of c.args.of) c.args.of.channel.now.boxes c.in-Matching.patterns (g.S.BoxLists.asked c.args.stores.now.stores.now)

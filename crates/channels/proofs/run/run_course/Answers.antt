@@ -9,7 +9,7 @@ use Rattle.channels.proofs.OrderLemmas.{Goes-all, Goes-begun, Goes-next, Goes-no
 use Rattle.channels.proofs.AskLemmas.{GoesOver-next, both_clean}
 use Rattle.channels.proofs.run.run_course.Goals as goal
 
--- what was told of one more channel
+-- what was reported of one more channel
 pub loop-place-preserved : goal.loop-place-preserved
 loop-place-preserved g c = record {
   stores = grind (arith, common_steps);

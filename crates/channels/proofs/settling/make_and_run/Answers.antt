@@ -8,7 +8,7 @@ use Rattle.channels.proofs.CourseLemmas.{Makes-same}
 use Rattle.channels.proofs.OrderLemmas.{Begun-unrun, SoFar-ran, SoFar-unmade}
 use Rattle.channels.proofs.settling.make_and_run.Goals as goal
 
--- what the stores told of the making, and then the run
+-- what the stores reported of the making, and then the run
 pub returns-in_ok-tell_notices-in-Ok-clause-quiet : goal.returns-in_ok-tell_notices-in-Ok-clause-quiet
 returns-in_ok-tell_notices-in-Ok-clause-quiet g c =
     let same : g.E.Write.contents c.make_absent.new.stores.err.now ≡ g.E.Write.contents c.args.stores.now.err.now = grind (arith, common_steps) in

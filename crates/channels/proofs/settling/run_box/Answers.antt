@@ -11,7 +11,7 @@ use Rattle.channels.proofs.CourseLemmas.{IsToldOf-behind, was_done}
 use Rattle.channels.proofs.OrderLemmas.{Begun-run, Begun-unrun, Goes-run, SoFar-fault}
 use Rattle.channels.proofs.settling.run_box.Goals as goal
 
--- the answer and what was left out were told, over what the run left as it was
+-- the answer and what was left out were reported, over what the run left as it was
 pub returns-in_ok-tell_left_out-in-Ok-clause-quiet : goal.returns-in_ok-tell_left_out-in-Ok-clause-quiet
 returns-in_ok-tell_left_out-in-Ok-clause-quiet g c =
     let same : g.E.Write.contents c.settle.new.self.err.now ≡ g.E.Write.contents c.args.stores.now.err.now = grind (arith, common_steps) in
@@ -29,7 +29,7 @@ returns-in_err-print_box-clause-asked g c =
     rw p.1 (Begun-unrun g.S.BoxLists.noted c.args.work.options.now (place_of c.args.place) (g.S.BoxLists.asked c.args.stores.now.stores.now)
     (g.S.BoxLists.asked c.print_box.new.self.stores.now) same)
 
--- or behind it
+-- or after it
 pub returns-in_err-verdict-in-Ok-clause-asked : goal.returns-in_err-verdict-in-Ok-clause-asked
 returns-in_err-verdict-in-Ok-clause-asked g c =
     let ran : Asked = Ran (place_of c.args.place) c.args.work.options.now run_attempts (outcome_of_pass c.in-Ok.pass) in

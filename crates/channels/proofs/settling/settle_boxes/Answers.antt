@@ -10,7 +10,7 @@ use Rattle.channels.proofs.OrderLemmas.{Goes-all, Goes-begun, Goes-next, Goes-no
 use Rattle.channels.proofs.AskLemmas.{boxes_asked-next, both_clean}
 use Rattle.channels.proofs.settling.settle_boxes.Goals as goal
 
--- what was told of one more mailbox
+-- what was reported of one more mailbox
 pub loop-name-preserved : goal.loop-name-preserved
 loop-name-preserved g c = let over : c.and-verdict.result ≡ Over → ⊥ = grind (arith, common_steps) in record {
   stores = grind (arith, common_steps);

@@ -7,13 +7,13 @@ use Rattle.channels.specs.Courses.{IsFoundAsked}
 use Rattle.channels.proofs.ChannelLemmas.{Begun-possible, IsFoundAsked-possible, SoFar-listed, SoFar-unlisted}
 use Rattle.channels.proofs.settling.settle_channel.Goals as goal
 
--- what the stores told of the listing, and then the mailboxes
+-- what the stores reported of the listing, and then the mailboxes
 pub returns-in_ok-tell_notices-in-Ok-clause-quiet : goal.returns-in_ok-tell_notices-in-Ok-clause-quiet
 returns-in_ok-tell_notices-in-Ok-clause-quiet g c =
     let same : g.E.Write.contents c.of.new.stores.err.now ≡ g.E.Write.contents c.args.stores.now.err.now = grind (arith, common_steps) in
     IfOk-before _ _ _ c.settle_found.result (HasNotices-from _ _ _ same c.in_ok-tell_notices-in-Ok.ensures.notices) c.settle_found.ensures.quiet
 
--- a write failed behind the lists
+-- a write failed after the lists
 pub returns-in_err-tell_notices-in-Ok-clause-asked : goal.returns-in_err-tell_notices-in-Ok-clause-asked
 returns-in_err-tell_notices-in-Ok-clause-asked g c =
     let p = err_from_is_err_and c.from_residual.result c.from_residual.ensures.1 in
