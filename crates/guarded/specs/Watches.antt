@@ -1,10 +1,16 @@
 -- What is watched of a plan that is pending, and when a look finds nothing.
-use Rattle.std.specs.Prelude.{◌≡◌, Bool, true, false, not, ◌&&◌, List, [], ◌∷◌, length, Option, None, Some, Result, Ok, Err}
+use Rattle.std.specs.Prelude.{◌≡◌, Bool, true, false, not, ◌&&◌, List, [], ◌∷◌, length, Option, None, Some, Result, Ok, Err, map, filter, ℕ}
 use Rattle.mailcore.specs.declared.side.Side.TheVariants.{Near}
+use Rattle.maildir.specs.declared.standing.Stale.{Stale}
+use Rattle.maildir.specs.declared.standing.Stale.TheVariants.{There, Unmarked}
 use Rattle.sync_state.specs.declared.journal.Journal.{Journal}
 use Rattle.guarded.specs.declared.guard.Change.{Change}
 use Rattle.guarded.specs.declared.guard.Change.TheVariants.{Expunge}
 use Rattle.guarded.specs.declared.near_look.Watch.{Watch}
+use Rattle.guarded.specs.declared.due.Due.{Due}
+use Rattle.guarded.specs.declared.objection.Objection.{Objection}
+use Rattle.guarded.specs.declared.objection.Objection.TheVariants.{Kept, Standing}
+use Rattle.guarded.specs.Dues.{is_due}
 use Rattle.guarded.specs.declared.removals.Removals.{Removals}
 use Rattle.guarded.specs.Removals.{AreRemovals}
 
@@ -31,3 +37,12 @@ is_empty (x ∷ xs) = false
 abbrev pub asks_far : Watch → Change → Bool
 asks_far watch (Expunge Near) = not watch.has_listed && not (is_empty watch.removals.expunged)
 asks_far watch change = false
+
+-- the UIDs of those that are asked about when so many steps are logged, in their order
+abbrev pub uids_due : ℕ → List Due → List ℕ
+uids_due logged dues = map (λ due. due.uid) (filter (is_due logged) dues)
+
+-- a message that is there counts as removed, or one that was kept as marked as deleted
+abbrev pub objection_to : Stale → Objection
+objection_to (There uid file) = Standing uid file
+objection_to (Unmarked uid file) = Kept uid file

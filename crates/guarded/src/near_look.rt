@@ -2,7 +2,7 @@
 //! and the far mailbox may not give UIDs a second time.
 
 ghost use Rattle.std.specs.Prelude.{◌≡◌, ◌&&◌, true, false, IfOk, IsErr, IsOk};
-ghost use Rattle.guarded.specs.Watches.{finds_nothing};
+ghost use Rattle.guarded.specs.Watches.{finds_nothing, objection_to, uids_due};
 
 use crate::due::due_of;
 use crate::given::Given;
@@ -17,7 +17,7 @@ use mailcore::uid::Uid;
 use maildir::standing::{Sought, Stale, first_stale};
 use rules::plan::Plan;
 use rules::state::SyncState;
-use std::alloc::AllocError;
+use std::alloc::{AllocError, Global};
 use std::cell::Cell;
 use std::io;
 use std::rt::{Clock, Files};
@@ -51,6 +51,20 @@ impl Watch {
             is_clear: false,
             has_listed: false,
         }
+    }
+
+    /// The near messages that the steps which are left take to be removed.
+    fn gone_now(&self, alloc: Global) -> Result<Vec<Uid>, AllocError>
+        ensures { IfOk result (λ uids. uids.items ≡ uids_due self.now.logged self.now.removals.gone) }
+    {
+        due_of(alloc, self.removals.gone.as_slice(), self.logged)
+    }
+
+    /// The near messages that the steps which are left take to be marked as deleted.
+    fn marked_now(&self, alloc: Global) -> Result<Vec<Uid>, AllocError>
+        ensures { IfOk result (λ uids. uids.items ≡ uids_due self.now.logged self.now.removals.marked) }
+    {
+        due_of(alloc, self.removals.marked.as_slice(), self.logged)
     }
 }
 
@@ -145,13 +159,8 @@ impl<R: Files + AllocGlobal + Clone + Drop> NearLook<R> {
     /// The first near message that is not as the steps that are left take it to be. Where they remove nothing, the folder is not read.
     fn stale(&self) -> io::Result<Option<Objection>> {
         let alloc = self.rt.alloc();
-        let Watch {
-            removals,
-            logged,
-            ..
-        } = &self.watch;
-        let gone = due_of(alloc, removals.gone.as_slice(), *logged)?;
-        let marked = due_of(alloc, removals.marked.as_slice(), *logged)?;
+        let gone = self.watch.gone_now(alloc)?;
+        let marked = self.watch.marked_now(alloc)?;
         if gone.is_empty() && marked.is_empty() {
             return Ok(None);
         }
@@ -165,7 +174,9 @@ impl<R: Files + AllocGlobal + Clone + Drop> NearLook<R> {
 }
 
 /// Why a run is not to go on that would change this message.
-fn objection_to(stale: Stale) -> Objection {
+fn objection_to(stale: Stale) -> Objection
+    ensures { result ≡ objection_to stale }
+{
     match stale {
         Stale::There(uid, file) => Objection::Standing(uid.get(), file),
         Stale::Unmarked(uid, file) => Objection::Kept(uid.get(), file),
