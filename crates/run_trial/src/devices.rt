@@ -2,6 +2,7 @@
 
 ghost use Rattle.std.specs.Prelude.{◌≡◌, IfErr, IfOk, IsErrOf, OnOk, true};
 ghost use Rattle.std.proofs.Props.{props};
+ghost use Rattle.rules.specs.Opening.{IsOpening};
 ghost use Rattle.rules.specs.World.{World};
 ghost use Rattle.book.specs.MemShelves.{files_of};
 ghost use Rattle.imap_client.specs.Seen.{HasMap};
@@ -9,10 +10,12 @@ ghost use Rattle.run_pair.specs.Pairs.{seen_of};
 ghost use Rattle.run_pair.specs.Tallies.{seen_with, untouched};
 ghost use Rattle.run_states.specs.Conditions.{IsOver, Underway};
 ghost use Rattle.run_states.specs.Endings.{IsDone};
+ghost use Rattle.run_states.specs.Openings.{Opening};
 ghost use Rattle.law_alike.specs.Beginnings.{Begins, opening_of};
+ghost use Rattle.law_alike.specs.Others.{HasOrder, OthersLeft};
 ghost use Rattle.runner.specs.Attempts.{HasNoNext, MetStops};
 ghost use Rattle.runner.specs.Faults.{LeavesRun};
-ghost use Rattle.run_trial.specs.Openings.{AreOurs};
+ghost use Rattle.run_trial.specs.Openings.{AreOurs, StandsAt};
 ghost use Rattle.run_trial.specs.Settings.{device_at};
 
 use crate::attempts::settle_trial;
@@ -43,8 +46,8 @@ use written_worlds::write::{WrittenMailbox, WrittenWorld, write_parts};
 ///
 /// Where the outside has kept its word: from a world that a run may begin with, where nobody else adds messages, an answer leaves both
 /// mailboxes and the state alike to the outcome that the rules name for it. Where others add messages under no mark of the run, it is
-/// over (docs/GUARANTEES.md). A fault leaves it underway. Behind the greatest run number there is no other run. It is told as stopped
-/// only where each attempt met a stop.
+/// over, and what they added is left to the next run (docs/GUARANTEES.md). A fault leaves it underway. Behind the greatest run number
+/// there is no other run. It is told as stopped only where each attempt met a stop.
 pub fn settle_all<O: Outside>(
     alloc: Global,
     outside: O,
@@ -57,17 +60,19 @@ pub fn settle_all<O: Outside>(
         → Begins start (O.seen outside).device → OnOk result.1 (IsDone start options.now (O.seen result.0).device) }
     ensures over { (start : World) → start.state ≡ state.now → O.honest result.0 → AreOurs O.ours → Begins start (O.seen outside).device
         → OnOk result.1 (IsOver (opening_of O.ours O.alone start options.now) (O.seen result.0).device) }
+    ensures others { (start : World) → start.state ≡ state.now → O.honest result.0 → AreOurs O.ours → Begins start (O.seen outside).device
+        → OnOk result.1 (OthersLeft (opening_of O.ours O.alone start options.now) (O.seen result.0).device) }
     ensures left { (start : World) → start.state ≡ state.now → O.honest result.0 → AreOurs O.ours → Begins start (O.seen outside).device
         → IfErr result.1 (λ fault. LeavesRun (Underway (opening_of O.ours O.alone start options.now)) fault (O.seen outside) (O.seen result.0)) }
     ensures keywords { O.keywords result.0 ≡ O.keywords outside }
     ensures greatest { HasNoNext (O.honest result.0) O.alone (O.seen outside).device (O.seen result.0).device result.1 }
     ensures stopped { IsErrOf result.1 RunFault.Stopped → MetStops tries (O.seen outside) (O.seen result.0) }
 {
-    settle_from(alloc, outside, options, tries, state)
+    settle_world(alloc, outside, options, tries, state)
 }
 
 /// The same from one world. The state is there for the contract alone, which names the world by it.
-fn settle_from<O: Outside>(
+fn settle_world<O: Outside>(
     alloc: Global,
     outside: O,
     options: &Options,
@@ -80,8 +85,35 @@ fn settle_from<O: Outside>(
         → OnOk result.1 (IsDone start options.now (O.seen result.0).device) }
     ensures over { O.honest result.0 → AreOurs O.ours → Begins start (O.seen outside).device
         → OnOk result.1 (IsOver (opening_of O.ours O.alone start options.now) (O.seen result.0).device) }
+    ensures others { O.honest result.0 → AreOurs O.ours → Begins start (O.seen outside).device
+        → OnOk result.1 (OthersLeft (opening_of O.ours O.alone start options.now) (O.seen result.0).device) }
     ensures left { O.honest result.0 → AreOurs O.ours → Begins start (O.seen outside).device
         → IfErr result.1 (λ fault. LeavesRun (Underway (opening_of O.ours O.alone start options.now)) fault (O.seen outside) (O.seen result.0)) }
+    ensures keywords { O.keywords result.0 ≡ O.keywords outside }
+    ensures greatest { HasNoNext (O.honest result.0) O.alone (O.seen outside).device (O.seen result.0).device result.1 }
+    ensures stopped { IsErrOf result.1 RunFault.Stopped → MetStops tries (O.seen outside) (O.seen result.0) }
+{
+    settle_from(alloc, outside, options, tries)
+}
+
+/// Makes one run from an opening, and gives its outside back beside what the run came to, as `settle_all`. So it resumes a run, too,
+/// whose plan is pending: from an earlier run that was interrupted, or from a journal that was there.
+pub fn settle_from<O: Outside>(
+    alloc: Global,
+    outside: O,
+    options: &Options,
+    tries: u32,
+) -> (O, Result<Settled, RunFault>)
+    ghost opening: { Opening O.ours O.alone }
+    requires map { O.keywords outside ≡ options.now.keywords }
+    ensures done { O.honest result.0 → O.alone ≡ true → AreOurs O.ours → StandsAt opening options.now (O.seen outside).device
+        → IsOpening opening.world → OnOk result.1 (IsDone opening.world opening.options (O.seen result.0).device) }
+    ensures over { O.honest result.0 → AreOurs O.ours → StandsAt opening options.now (O.seen outside).device
+        → OnOk result.1 (IsOver opening (O.seen result.0).device) }
+    ensures others { O.honest result.0 → AreOurs O.ours → StandsAt opening options.now (O.seen outside).device
+        → HasOrder (O.seen outside).device → OnOk result.1 (OthersLeft opening (O.seen result.0).device) }
+    ensures left { O.honest result.0 → AreOurs O.ours → StandsAt opening options.now (O.seen outside).device
+        → IfErr result.1 (λ fault. LeavesRun (Underway opening) fault (O.seen outside) (O.seen result.0)) }
     ensures keywords { O.keywords result.0 ≡ O.keywords outside }
     ensures greatest { HasNoNext (O.honest result.0) O.alone (O.seen outside).device (O.seen result.0).device result.1 }
     ensures stopped { IsErrOf result.1 RunFault.Stopped → MetStops tries (O.seen outside) (O.seen result.0) }
