@@ -1,5 +1,5 @@
 -- Devices on which a run is underway stand at its opening in another run, whose outside has named no message yet.
-use Rattle.std.proofs.Common.{◌≡◌, ◌⊎◌, ◌+◌, ◌<◌, ◌^◌, ℕ, Bool, false, List, [], ◌∷◌, ◌++◌, inl, inr, refl, sym}
+use Rattle.std.proofs.Common.{◌≡◌, ◌⊎◌, ◌+◌, ◌<◌, ◌^◌, ℕ, Bool, false, List, [], ◌∷◌, ◌++◌, inl, inr, refl, subst, sym, ⊎_elim}
 use Rattle.std.specs.Prelude.{Contains, flat_map}
 use Rattle.std.proofs.lemmas.List.Elements.{All-nil}
 use Rattle.mailcore.specs.declared.side.Side.{Side}
@@ -13,11 +13,14 @@ use Rattle.sync_state.specs.declared.journal.Logged.{Logged}
 use Rattle.law_steps.specs.Steps.{Rises}
 use Rattle.law_outcome.specs.CommitLaws.{results_of}
 use Rattle.outside.specs.Devices.{Device, Named, box}
-use Rattle.run_states.specs.Conditions.{IsPending, Underway}
+use Rattle.run_states.specs.Conditions.{IsOver, IsPending, Underway}
 use Rattle.run_states.specs.Moments.{Midway, Stands}
 use Rattle.run_states.specs.Openings.{Opening, Unplanned}
 use Rattle.run_states.specs.Plans.{NamedBy, names_of}
+use Rattle.maildir.specs.Gains.{nobody}
 use Rattle.run_trial.specs.Laws.{StandAgain}
+use Rattle.run_trial.specs.Memory.{Interrupted}
+use Rattle.run_trial.specs.Openings.{StandsAt}
 
 -- with no message named
 abbrev forgetful : Device → Device
@@ -87,3 +90,9 @@ pub stand_again : StandAgain
 stand_again ours alone opening d none room (inl u) = inl (record { called = refl; at_opening = record { room = room; open_run = inl (unplanned opening d none u) } })
 stand_again ours alone opening d none room (inr (inl p)) = inl (record { called = refl; at_opening = record { room = room; open_run = inr (pending opening d none p) } })
 stand_again ours alone opening d none room (inr (inr over)) = inr over
+
+-- where the first run was interrupted
+pub stands_interrupted : (opening : Opening nobody.ours nobody.alone) (options : Options) (left d : Device) → Interrupted opening options left d → StandsAt opening options d ⊎ IsOver opening left
+stands_interrupted opening options left d i =
+    ⊎_elim (λ at. inl (subst (λ (o : Options). StandsAt opening o d) i.called (subst (StandsAt opening opening.called) (sym i.forgotten) at))) (λ over. inr over)
+    (stand_again nobody.ours nobody.alone opening left i.unnamed i.room i.underway)

@@ -6,6 +6,7 @@ pub mod WorldLemmas
 pub mod PutFiles
 pub mod UnmarkedLemmas
 pub mod RunLemmas
+pub mod Picks
 pub mod MemoryLemmas
 pub mod AmongLemmas
 pub mod AgainLemmas

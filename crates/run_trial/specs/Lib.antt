@@ -9,3 +9,4 @@ pub mod Statuses
 pub mod Settings
 pub mod Among
 pub mod Memory
+pub mod Trials

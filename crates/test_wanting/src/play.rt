@@ -1,14 +1,9 @@
 //! How the lines of a case are played.
 
-ghost use Rattle.std.specs.Prelude.{◌≡◌};
-
 use mem_link::mem_link::MemLink;
-use outside::outside::Outside;
-use rules::options::Options;
-use run_trial::attempts::settle_trial;
 use run_trial::devices::Devices;
 use run_trial::failure::Failure as TrialFailure;
-use run_trial::memory::run_in_memory;
+use run_trial::memory::{run_again, run_in_memory};
 use run_trial::read::read_trial;
 use run_trial::report::Ending;
 use runner::fault::RunFault;
@@ -85,23 +80,8 @@ fn settle(alloc: Global, text: &[u8], told: &mut Told) -> Result<(), TrialFailur
         return Ok(());
     }
     told.answer("again");
-    let outside = devices.again(alloc)?;
-    let (outside, settled) = settle_over(alloc, outside, &options, tries);
+    let (outside, settled) = run_again(alloc, devices, options, tries)?;
     tell(alloc, &Devices::of(outside), settled, told)
-}
-
-/// Makes a run over an outside, and gives it back beside what the run came to.
-fn settle_over<O: Outside>(
-    alloc: Global,
-    outside: O,
-    options: &Options,
-    tries: u32,
-) -> (O, Result<Settled, RunFault>)
-    requires map { O.keywords outside ≡ options.now.keywords }
-{
-    let mut outside = outside;
-    let settled = settle_trial(alloc, &mut outside, options, tries);
-    (outside, settled)
 }
 
 /// Tells what a run came to and what stands in the devices, as `mbtrial` prints it. Stops are counted from the first run on.

@@ -29,7 +29,7 @@ returns-clause-over g c = λ zero none opening named room.
     let fits : FitsWords start = c.in_ok-setting.ensures.fits in
     let there = device_kept setting among.options among.far.server.server (stored_in among.near.folder.folder) (files_of among.near.shelf)
     c.in_ok-among.ensures.options (ap (λ (f : FarSetting). f.server.server) c.in_ok-among.ensures.far) c.in_ok-among.ensures.near.0 c.in_ok-among.ensures.kept.0 in
-    let same = there ∙ stands c.args.trial setting start refl c.in_ok-setting.ensures.holds none opening fits named in
+    let same = there ∙ stands c.args.trial setting start refl c.in_ok-setting.ensures.holds (record { none = none; opening = opening; named = named }) fits in
     subst (λ (o : Options). IfOk c.run_visited.result (λ run. OnOk run.1 (IsOverAmong start o (seen_of run.0).device))) (c.in_ok-among.ensures.options ∙ c.in_ok-setting.ensures.holds.options)
     (c.run_visited.ensures.over zero start (sym (c.in_ok-among.ensures.kept.1 ∙ c.in_ok-setting.ensures.holds.state))
     (record { held = holds_world start _ opening fits same; sound = opening; room = room }))
@@ -42,7 +42,7 @@ returns-clause-left g c = λ zero none opening named room.
     let fits : FitsWords start = c.in_ok-setting.ensures.fits in
     let there = device_kept setting among.options among.far.server.server (stored_in among.near.folder.folder) (files_of among.near.shelf)
     c.in_ok-among.ensures.options (ap (λ (f : FarSetting). f.server.server) c.in_ok-among.ensures.far) c.in_ok-among.ensures.near.0 c.in_ok-among.ensures.kept.0 in
-    let same = there ∙ stands c.args.trial setting start refl c.in_ok-setting.ensures.holds none opening fits named in
+    let same = there ∙ stands c.args.trial setting start refl c.in_ok-setting.ensures.holds (record { none = none; opening = opening; named = named }) fits in
     subst (λ (o : Options). IfOk c.run_visited.result (λ run. IfErr run.1 (λ fault. LeavesAmong start o (device_of start) fault (seen_of run.0)))) (c.in_ok-among.ensures.options ∙ c.in_ok-setting.ensures.holds.options)
     (subst (λ (d : Device). IfOk c.run_visited.result (λ run. IfErr run.1 (λ fault. LeavesAmong start among.options d fault (seen_of run.0)))) same
     (c.run_visited.ensures.left zero start (sym (c.in_ok-among.ensures.kept.1 ∙ c.in_ok-setting.ensures.holds.state))

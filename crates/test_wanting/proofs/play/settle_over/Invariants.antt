@@ -1,5 +1,0 @@
-use Rattle.run_trial.specs.Openings.{no_opening}
-use Rattle.test_wanting.proofs.play.settle_over.Given as goal
-
-abbrev pub ghost-settle_trial : goal.ghost-settle_trial
-ghost-settle_trial g a = no_opening a.options.now
