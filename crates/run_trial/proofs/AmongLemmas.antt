@@ -1,11 +1,12 @@
 -- What is left where others write no mark, by how many marks theirs bear.
 use Rattle.std.proofs.Common.{◌≡◌, ◌∙◌, ℕ, Bool, List, map, true, false, None, refl, sym, ap, subst}
-use Rattle.std.specs.Prelude.{All, Result, IfErr, OnOk}
+use Rattle.std.specs.Prelude.{◌+◌, ◌^◌, All, Result, Ok, Err, IfErr, IfOk, IsErrAnd, OnOk}
 use Rattle.std.proofs.lemmas.List.Elements.{All-map}
 use Rattle.mailcore.specs.Content.{mark_of}
 use Rattle.imap_session.specs.Servers.{Server}
 use Rattle.maildir.specs.Folders.{Stored}
 use Rattle.maildir.specs.MemFolders.{stored_in}
+use Rattle.book.specs.declared.book.Pending.TheVariants.{Missing}
 use Rattle.book.specs.MemShelves.{files_of}
 use Rattle.book.specs.Shelves.{Files}
 use Rattle.mem_link.specs.declared.arrivals.Arrival.{Arrival}
@@ -20,11 +21,15 @@ use Rattle.outside.specs.Calls.{Seen}
 use Rattle.outside.specs.Devices.{Device}
 use Rattle.run_pair.specs.Parts.{both}
 use Rattle.run_states.specs.Conditions.{IsOver, Underway}
-use Rattle.law_alike.specs.Beginnings.{opening_of}
+use Rattle.law_alike.specs.Beginnings.{HoldsWorld, opening_of}
+use Rattle.law_alike.specs.Others.{OthersLeft}
 use Rattle.runner.specs.declared.fault.RunFault.{RunFault}
+use Rattle.runner.specs.Attempts.{HasNoNext, TellsNoNext}
 use Rattle.runner.specs.Faults.{LeavesRun}
+use Rattle.runner.specs.Validities.{IsKept}
 use Rattle.run_trial.specs.Openings.{AreOurs}
-use Rattle.run_trial.specs.Among.{IsOverAmong, arrival_of}
+use Rattle.run_trial.specs.Among.{IsOverAmong, OthersLeftAmong, arrival_of}
+use Rattle.run_trial.specs.Worlds.{device_of}
 use Rattle.imap_link.specs.Sending.{anybody}
 
 module _ (marks : ℕ) (none : marks ≡ 0) where
@@ -37,9 +42,19 @@ module _ (marks : ℕ) (none : marks ≡ 0) where
   pub over_among : {T : Type 0} (w : World) (options : Options) (d : Device) (r : Result T RunFault) → OnOk r (IsOver (opening_of (ours marks) false w options) d) → OnOk r (IsOverAmong w options d)
   over_among w options d r = subst (λ (n : ℕ). OnOk r (IsOver (opening_of (ours n) false w options) d)) none
 
+  pub others_among : {T : Type 0} (w : World) (options : Options) (d : Device) (r : Result T RunFault) → OnOk r (OthersLeft (opening_of (ours marks) false w options) d) → OnOk r (OthersLeftAmong w options d)
+  others_among w options d r = subst (λ (n : ℕ). OnOk r (OthersLeft (opening_of (ours n) false w options) d)) none
+
   pub left_among : {T : Type 0} (w : World) (options : Options) (old new : Seen) (r : Result T RunFault) → IfErr r (λ fault. LeavesRun (Underway (opening_of (ours marks) false w options)) fault old new)
       → IfErr r (λ fault. LeavesRun (Underway (opening_of anybody.ours anybody.alone w options)) fault old new)
   left_among w options old new r = subst (λ (n : ℕ). IfErr r (λ fault. LeavesRun (Underway (opening_of (ours n) false w options)) fault old new)) none
+
+-- after the greatest number
+module _ {A T E : Type 0} (device : A → Device) (w : World) (d : Device) where
+  pub greatest_among : (r : Result (A × Result T RunFault) E) → IfOk r (λ run. HasNoNext (Unit {0}) false d (device run.0) run.1) → HoldsWorld w d → w.state.run + 1 ≡ 2 ^ 64
+      → d ≡ device_of w → IfOk r (λ run. IsErrAnd run.1 TellsNoNext × IsKept false (device_of w) (device run.0))
+  greatest_among (Ok run) none held last same = let parts = none tt w.state Missing held.files last in (parts.0, subst (λ (x : Device). IsKept false x (device run.0)) same parts.1)
+  greatest_among (Err failure) none held last same = tt
 
 -- ---- what is taken over of a setting
 

@@ -14,6 +14,7 @@ use Rattle.outside.specs.Devices.{Device}
 use Rattle.run_pair.specs.Tallies.{seen_with, untouched}
 use Rattle.run_states.specs.Conditions.{IsOver, Underway}
 use Rattle.law_alike.specs.Beginnings.{opening_of}
+use Rattle.law_alike.specs.Others.{OthersLeft}
 use Rattle.runner.specs.declared.fault.RunFault.{RunFault}
 use Rattle.runner.specs.Faults.{LeavesRun}
 use Rattle.run_trial.specs.declared.arrival.FarArrival.{FarArrival}
@@ -47,6 +48,10 @@ AreKept setting shelf state = (files_of shelf ≡ files_of setting.shelf) × (st
 -- the run that began with this world is over, whatever others added under no mark
 abbrev pub IsOverAmong : World → Options → Device → Type 0
 IsOverAmong w options d = IsOver (opening_of anybody.ours anybody.alone w options) d
+
+-- once it is over, each message that others added after the listings is left to the next run
+abbrev pub OthersLeftAmong : World → Options → Device → Type 0
+OthersLeftAmong w options d = OthersLeft (opening_of anybody.ours anybody.alone w options) d
 
 -- the run that began with this world, on this device, is underway still
 abbrev pub LeavesAmong : World → Options → Device → RunFault → Seen → Type 0

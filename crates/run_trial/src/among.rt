@@ -1,9 +1,8 @@
 //! A run over a server, a folder and a shelf in memory, to which others add messages: what it leaves of a world, with no word of a
 //! device to rely on.
 
-ghost use Rattle.std.specs.Prelude.{◌≡◌, ◌+◌, ◌<◌, ◌^◌, All, IfErr, IfOk, IsErrOf, None, OnOk};
+ghost use Rattle.std.specs.Prelude.{◌≡◌, All, IfErr, IfOk, IsErrAnd, IsErrOf, None, OnOk, false};
 ghost use Rattle.mailcore.specs.Content.{mark_of};
-ghost use Rattle.rules.specs.Opening.{IsOpening};
 ghost use Rattle.rules.specs.World.{World};
 ghost use Rattle.imap_client.specs.Seen.{HasMap};
 ghost use Rattle.imap_server.specs.Boxes.{AreServed};
@@ -12,8 +11,11 @@ ghost use Rattle.maildir.specs.MemFolders.{stored_in};
 ghost use Rattle.book.specs.MemShelves.{files_of};
 ghost use Rattle.run_pair.specs.Pairs.{seen_of};
 ghost use Rattle.law_alike.specs.Beginnings.{Begins};
-ghost use Rattle.run_trial.specs.Worlds.{IsNamed, device_of, world_of};
-ghost use Rattle.run_trial.specs.Among.{IsOverAmong, LeavesAmong};
+ghost use Rattle.runner.specs.Attempts.{HasNoNext, TellsNoNext};
+ghost use Rattle.runner.specs.Validities.{IsKept};
+ghost use Rattle.run_trial.specs.Trials.{HasNext, IsLast, IsStart};
+ghost use Rattle.run_trial.specs.Worlds.{device_of, world_of};
+ghost use Rattle.run_trial.specs.Among.{IsOverAmong, LeavesAmong, OthersLeftAmong};
 ghost use Rattle.run_trial.specs.Settings.{device_at};
 
 use crate::devices::{Run, settle_all, together};
@@ -29,19 +31,23 @@ use std::alloc::Global;
 
 /// Makes the run of a trial to which others add messages, and gives its outside beside what it came to.
 ///
-/// Where their messages bear 0 `MARKS`, the trial has no journal, and its world is one that a run may begin with, whose flags have
-/// names, behind whose number another one comes: an answer leaves the run over, and a fault leaves it underway (docs/GUARANTEES.md),
-/// whatever the attempts, the stops and the arrivals. It is told as stopped only where as many calls stopped as there were attempts.
+/// From the start, with no journal, where their messages bear 0 `MARKS`: an answer leaves the run over, and each message that others added
+/// after the listings to the next run (docs/GUARANTEES.md); a fault leaves it underway, whatever the attempts, the stops and the arrivals.
+/// After the greatest run number there is no other run: a fault says so, or a call stopped before, and the run has changed nothing. It is
+/// told as stopped only where as many calls stopped as there were attempts.
 pub(crate) fn run_among<const MARKS: u32>(
     alloc: Global,
     trial: Trial,
 ) -> Result<Run<VisitedLink<MARKS>, VisitedFolder<MARKS>>, Failure>
     requires said { MARKS ≡ 0 → All (λ a. mark_of a.bytes ≡ None) trial.course.arrivals.far.items }
-    ensures over { MARKS ≡ 0 → trial.course.journal ≡ None → IsOpening (world_of trial.world) → IsNamed trial.world.options.keywords (world_of trial.world) → trial.world.state.run + 1 < 2 ^ 64
+    ensures over { MARKS ≡ 0 → IsStart trial → HasNext trial
         → IfOk result (λ run. OnOk run.1 (IsOverAmong (world_of trial.world) trial.world.options (seen_of run.0).device)) }
-    ensures left { MARKS ≡ 0 → trial.course.journal ≡ None → IsOpening (world_of trial.world) → IsNamed trial.world.options.keywords (world_of trial.world) → trial.world.state.run + 1 < 2 ^ 64
-        → IfOk result (λ run. IfErr run.1 (λ fault.
-        LeavesAmong (world_of trial.world) trial.world.options (device_of (world_of trial.world)) fault (seen_of run.0))) }
+    ensures others { MARKS ≡ 0 → IsStart trial → HasNext trial
+        → IfOk result (λ run. OnOk run.1 (OthersLeftAmong (world_of trial.world) trial.world.options (seen_of run.0).device)) }
+    ensures left { MARKS ≡ 0 → IsStart trial → HasNext trial → (let w = world_of trial.world in
+        IfOk result (λ run. IfErr run.1 (λ fault. LeavesAmong w trial.world.options (device_of w) fault (seen_of run.0)))) }
+    ensures greatest { IsStart trial → IsLast trial
+        → IfOk result (λ run. IsErrAnd run.1 TellsNoNext × IsKept false (device_of (world_of trial.world)) (seen_of run.0).device) }
     ensures stopped { IfOk result (λ run. IsErrOf run.1 RunFault.Stopped → (seen_of run.0).stops ≡ trial.course.tries) }
     ensures map { IfOk result (λ run. run.0.far.far.keywords ≡ trial.world.options.keywords) }
 {
@@ -60,13 +66,25 @@ fn run_visited<const MARKS: u32>(
     requires served { AreServed setting.far.server.server.mailboxes }
     requires letters { HasMap setting.options.keywords setting.far.server.server }
     requires said { BearAsSaid MARKS setting.arrivals.list.items }
-    ensures over { MARKS ≡ 0 → (start : World) → start.state ≡ setting.entry.near.state
-        → Begins start (device_at setting.entry.options.keywords setting.entry.far.server.server (stored_in setting.entry.near.folder.folder) (files_of setting.entry.near.shelf))
-        → IfOk result (λ run. OnOk run.1 (IsOverAmong start setting.entry.options (seen_of run.0).device)) }
-    ensures left { MARKS ≡ 0 → (start : World) → start.state ≡ setting.entry.near.state
-        → Begins start (device_at setting.entry.options.keywords setting.entry.far.server.server (stored_in setting.entry.near.folder.folder) (files_of setting.entry.near.shelf))
-        → IfOk result (λ run. IfErr run.1 (λ fault. LeavesAmong start setting.entry.options
-        (device_at setting.entry.options.keywords setting.entry.far.server.server (stored_in setting.entry.near.folder.folder) (files_of setting.entry.near.shelf)) fault (seen_of run.0))) }
+    ensures over { MARKS ≡ 0 → (start : World) → (let near = setting.entry.near in
+        let map = setting.entry.options.keywords in
+        let d = device_at map setting.entry.far.server.server (stored_in near.folder.folder) (files_of near.shelf) in
+        start.state ≡ near.state → Begins start d
+        → IfOk result (λ run. OnOk run.1 (IsOverAmong start setting.entry.options (seen_of run.0).device))) }
+    ensures others { MARKS ≡ 0 → (start : World) → (let near = setting.entry.near in
+        let map = setting.entry.options.keywords in
+        let d = device_at map setting.entry.far.server.server (stored_in near.folder.folder) (files_of near.shelf) in
+        start.state ≡ near.state → Begins start d
+        → IfOk result (λ run. OnOk run.1 (OthersLeftAmong start setting.entry.options (seen_of run.0).device))) }
+    ensures left { MARKS ≡ 0 → (start : World) → (let near = setting.entry.near in
+        let map = setting.entry.options.keywords in
+        let d = device_at map setting.entry.far.server.server (stored_in near.folder.folder) (files_of near.shelf) in
+        start.state ≡ near.state → Begins start d
+        → IfOk result (λ run. IfErr run.1 (λ fault. LeavesAmong start setting.entry.options d fault (seen_of run.0)))) }
+    ensures greatest { (let near = setting.entry.near in
+        let map = setting.entry.options.keywords in
+        let d = device_at map setting.entry.far.server.server (stored_in near.folder.folder) (files_of near.shelf) in
+        IfOk result (λ run. HasNoNext (Unit {0}) false d (seen_of run.0).device run.1)) }
     ensures stopped { IfOk result (λ run. IsErrOf run.1 RunFault.Stopped → (seen_of run.0).stops ≡ tries) }
     ensures map { IfOk result (λ run. run.0.far.far.keywords ≡ setting.entry.options.keywords) }
 {

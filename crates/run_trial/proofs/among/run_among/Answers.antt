@@ -9,8 +9,8 @@ use Rattle.rules.specs.World.{World}
 use Rattle.run_trial.specs.declared.arrival.Arrivals.{Arrivals}
 use Rattle.run_trial.specs.Worlds.{FitsWords, device_of, world_of}
 use Rattle.run_trial.specs.declared.setting.FarSetting.{FarSetting}
-use Rattle.run_trial.specs.Among.{IsOverAmong, LeavesAmong}
-use Rattle.run_trial.proofs.AmongLemmas.{bear_none, device_kept}
+use Rattle.run_trial.specs.Among.{IsOverAmong, LeavesAmong, OthersLeftAmong}
+use Rattle.run_trial.proofs.AmongLemmas.{bear_none, device_kept, greatest_among}
 use Rattle.run_trial.proofs.MemoryLemmas.{holds_world, stands}
 use Rattle.run_trial.proofs.among.run_among.Goals as goal
 
@@ -22,31 +22,55 @@ run_visited-requires g c =
     (omega arith, (omega arith, (omega arith, (c.in_ok-among.ensures.served, (c.in_ok-among.ensures.letters ∙ c.in_ok-setting.ensures.letters ∙ ap (λ (o : Options). o.keywords) (sym c.in_ok-among.ensures.options), said)))))
 
 pub returns-clause-over : goal.returns-clause-over
-returns-clause-over g c = λ zero none opening named room.
+returns-clause-over g c = λ zero from room.
     let start : World = world_of c.args.trial.world in
     let setting = c.in_ok-setting.setting in
     let among = c.in_ok-among.among in
     let fits : FitsWords start = c.in_ok-setting.ensures.fits in
     let there = device_kept setting among.options among.far.server.server (stored_in among.near.folder.folder) (files_of among.near.shelf)
     c.in_ok-among.ensures.options (ap (λ (f : FarSetting). f.server.server) c.in_ok-among.ensures.far) c.in_ok-among.ensures.near.0 c.in_ok-among.ensures.kept.0 in
-    let same = there ∙ stands c.args.trial setting start refl c.in_ok-setting.ensures.holds (record { none = none; opening = opening; named = named }) fits in
+    let same = there ∙ stands c.args.trial setting start refl c.in_ok-setting.ensures.holds from fits in
     subst (λ (o : Options). IfOk c.run_visited.result (λ run. OnOk run.1 (IsOverAmong start o (seen_of run.0).device))) (c.in_ok-among.ensures.options ∙ c.in_ok-setting.ensures.holds.options)
     (c.run_visited.ensures.over zero start (sym (c.in_ok-among.ensures.kept.1 ∙ c.in_ok-setting.ensures.holds.state))
-    (record { held = holds_world start _ opening fits same; sound = opening; room = room }))
+    (record { held = holds_world start _ from.opening fits same; sound = from.opening; room = room }))
 
-pub returns-clause-left : goal.returns-clause-left
-returns-clause-left g c = λ zero none opening named room.
+pub returns-clause-others : goal.returns-clause-others
+returns-clause-others g c = λ zero from room.
     let start : World = world_of c.args.trial.world in
     let setting = c.in_ok-setting.setting in
     let among = c.in_ok-among.among in
     let fits : FitsWords start = c.in_ok-setting.ensures.fits in
     let there = device_kept setting among.options among.far.server.server (stored_in among.near.folder.folder) (files_of among.near.shelf)
     c.in_ok-among.ensures.options (ap (λ (f : FarSetting). f.server.server) c.in_ok-among.ensures.far) c.in_ok-among.ensures.near.0 c.in_ok-among.ensures.kept.0 in
-    let same = there ∙ stands c.args.trial setting start refl c.in_ok-setting.ensures.holds (record { none = none; opening = opening; named = named }) fits in
+    let same = there ∙ stands c.args.trial setting start refl c.in_ok-setting.ensures.holds from fits in
+    subst (λ (o : Options). IfOk c.run_visited.result (λ run. OnOk run.1 (OthersLeftAmong start o (seen_of run.0).device))) (c.in_ok-among.ensures.options ∙ c.in_ok-setting.ensures.holds.options)
+    (c.run_visited.ensures.others zero start (sym (c.in_ok-among.ensures.kept.1 ∙ c.in_ok-setting.ensures.holds.state))
+    (record { held = holds_world start _ from.opening fits same; sound = from.opening; room = room }))
+
+pub returns-clause-left : goal.returns-clause-left
+returns-clause-left g c = λ zero from room.
+    let start : World = world_of c.args.trial.world in
+    let setting = c.in_ok-setting.setting in
+    let among = c.in_ok-among.among in
+    let fits : FitsWords start = c.in_ok-setting.ensures.fits in
+    let there = device_kept setting among.options among.far.server.server (stored_in among.near.folder.folder) (files_of among.near.shelf)
+    c.in_ok-among.ensures.options (ap (λ (f : FarSetting). f.server.server) c.in_ok-among.ensures.far) c.in_ok-among.ensures.near.0 c.in_ok-among.ensures.kept.0 in
+    let same = there ∙ stands c.args.trial setting start refl c.in_ok-setting.ensures.holds from fits in
     subst (λ (o : Options). IfOk c.run_visited.result (λ run. IfErr run.1 (λ fault. LeavesAmong start o (device_of start) fault (seen_of run.0)))) (c.in_ok-among.ensures.options ∙ c.in_ok-setting.ensures.holds.options)
     (subst (λ (d : Device). IfOk c.run_visited.result (λ run. IfErr run.1 (λ fault. LeavesAmong start among.options d fault (seen_of run.0)))) same
     (c.run_visited.ensures.left zero start (sym (c.in_ok-among.ensures.kept.1 ∙ c.in_ok-setting.ensures.holds.state))
-    (record { held = holds_world start _ opening fits same; sound = opening; room = room })))
+    (record { held = holds_world start _ from.opening fits same; sound = from.opening; room = room })))
+
+pub returns-clause-greatest : goal.returns-clause-greatest
+returns-clause-greatest g c = λ from last.
+    let start : World = world_of c.args.trial.world in
+    let setting = c.in_ok-setting.setting in
+    let among = c.in_ok-among.among in
+    let fits : FitsWords start = c.in_ok-setting.ensures.fits in
+    let there = device_kept setting among.options among.far.server.server (stored_in among.near.folder.folder) (files_of among.near.shelf)
+    c.in_ok-among.ensures.options (ap (λ (f : FarSetting). f.server.server) c.in_ok-among.ensures.far) c.in_ok-among.ensures.near.0 c.in_ok-among.ensures.kept.0 in
+    let same = there ∙ stands c.args.trial setting start refl c.in_ok-setting.ensures.holds from fits in
+    greatest_among (λ both. (seen_of both).device) start _ c.run_visited.result c.run_visited.ensures.greatest (holds_world start _ from.opening fits same) last same
 
 pub returns-clause-stopped : goal.returns-clause-stopped
 returns-clause-stopped g c = c.run_visited.ensures.stopped
