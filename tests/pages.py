@@ -17,10 +17,6 @@ from tests.support.tally import Tally
 README_WORDS, DOCS_WORDS, CONTENTS_FROM = 900, 22_000, 150
 # Words that CONTRIBUTING.md replaces. "Tells you" may stand: it speaks to the reader.
 UNUSUAL = re.compile(r"\b(?:behind|told|tells?(?! you\b)|taken\s+up|takes\s+up|kept\s+alike|passed\s+over|keeps\s+its\s+word)\b", re.I)
-# The crates and pages that still have such words. One that has none any more leaves this list, which is to become empty.
-NOT_SWEPT = """
-    run_trial test_trials test_wanting
-""".split()
 # The comment of a line, by the ending of its file: what follows the first mark that stands in no literal.
 COMMENT = {
     ".rt": re.compile(r"""(?:[^"'/]|"(?:\\.|[^"\\])*"|'(?:\\.|[^'\\])'|'|/(?!/))*//[/!]?(.*)"""),
@@ -139,25 +135,16 @@ def sources(crate):
 
 
 def words(tally):
-    """Pages and comments have no unusual words, but for those that are not swept."""
-    texts = [(page, page, read(os.path.join(TOP, page))) for page in pages() if not page.startswith("crates/")]
+    """Pages and comments have no unusual words."""
+    texts = [(page, read(os.path.join(TOP, page))) for page in pages() if not page.startswith("crates/")]
     for crate in sorted(os.listdir(os.path.join(TOP, "crates"))):
-        texts += [(crate, path, comments(os.path.join(TOP, path))) for path in sources(crate)]
-    unswept = set()
-    for of, path, text in texts:
+        texts += [(path, comments(os.path.join(TOP, path))) for path in sources(crate)]
+    for path, text in texts:
         found = [f"{path}:{line}: {word!r}" for line, word in unusual(text)]
-        if of in NOT_SWEPT:
-            unswept |= {of} if found else set()
-        elif found:
-            for it in found:
-                tally.fails(it)
-        else:
+        for it in found:
+            tally.fails(it)
+        if not found:
             tally.passes()
-    for of in NOT_SWEPT:
-        if of in unswept:
-            tally.passes()
-        else:
-            tally.fails(f"{of} has no unusual words: take it out of NOT_SWEPT")
 
 
 def planted(edit):

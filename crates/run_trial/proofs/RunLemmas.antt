@@ -62,7 +62,7 @@ module _ {ours : List ℕ → Bool} {alone : Bool} (opening : Opening ours alone
   left_from honest tries old new (Ok settled) from kept are at = tt
   left_from honest tries old new (Err fault) from kept are at = (from kept (asked are at.called) at.at_opening).left
 
--- told as stopped
+-- reported as stopped
 pub stopped_from : (tries : ℕ) (old new : Seen) (r : Result Settled RunFault) → CountsAttempts tries old new r → IsErrOf r run.Stopped → MetStops tries old new
 stopped_from tries old new (Ok settled) counts is = absurd (cc)
 stopped_from tries old new (Err fault) counts is = let same : fault ≡ run.Stopped = cc in (counts.stopped same).0

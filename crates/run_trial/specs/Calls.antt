@@ -10,7 +10,7 @@ use Rattle.run_trial.specs.declared.stop.LinkStop.TheVariants as links
 use Rattle.run_trial.specs.declared.stop.DeviceStop.{DeviceStop}
 use Rattle.run_trial.specs.declared.stop.DeviceStop.TheVariants as devices
 
--- the word of a call behind `folder.`; no line of a trial names `sync`
+-- the word of a call after `folder.`; no line of a trial names `sync`
 abbrev pub folder_verb : FolderCall → List ℕ
 folder_verb folder.Names = codes "names"
 folder_verb folder.Read = codes "read"
@@ -23,7 +23,7 @@ folder_verb folder.Sync = codes "sync"
 abbrev pub folder_word : FolderCall → List ℕ
 folder_word call = codes "folder." ++ folder_verb call
 
--- behind `shelf.`
+-- after `shelf.`
 abbrev pub shelf_verb : ShelfCall → List ℕ
 shelf_verb shelf.Read = codes "read"
 shelf_verb shelf.Append = codes "append"

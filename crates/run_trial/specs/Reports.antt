@@ -1,4 +1,4 @@
--- How a run's end is told.
+-- How a run's end is reported.
 use Rattle.std.specs.Prelude.{ℕ, Result, Ok, Err}
 use Rattle.runner.specs.declared.fault.RunFault.{RunFault}
 use Rattle.runner.specs.declared.fault.RunFault.TheVariants.{Stopped, Refused, ValidityChanged, BadState, BadJournal, StoreFault, MarksRepeat, NoMemory, KeywordsChanged}

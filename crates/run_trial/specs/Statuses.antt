@@ -1,4 +1,4 @@
--- The exit statuses of a program that tells nothing.
+-- The exit statuses of a program that reports nothing.
 use Rattle.std.specs.Prelude.{ℕ}
 use Rattle.run_trial.specs.declared.failure.Failure.{Failure}
 use Rattle.run_trial.specs.declared.failure.Failure.TheVariants.{Usage, Input, World, NoWorld, NoMemory}

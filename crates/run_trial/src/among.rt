@@ -34,7 +34,7 @@ use std::alloc::Global;
 /// From the start, with no journal, where their messages bear 0 `MARKS`: an answer leaves the run over, and each message that others added
 /// after the listings to the next run (docs/GUARANTEES.md); a fault leaves it underway, whatever the attempts, the stops and the arrivals.
 /// After the greatest run number there is no other run: a fault says so, or a call stopped before, and the run has changed nothing. It is
-/// told as stopped only where as many calls stopped as there were attempts.
+/// reported as stopped only where as many calls stopped as there were attempts.
 pub(crate) fn run_among<const MARKS: u32>(
     alloc: Global,
     trial: Trial,

@@ -84,7 +84,7 @@ impl Arrivals {
         far && near
     }
 
-    /// Adds what a line says behind its word `arrive`: `far before CALL k FLAGS "BYTES"`, CALL a command, or `near` and a call of the
+    /// Adds what a line says after its word `arrive`: `far before CALL k FLAGS "BYTES"`, CALL a command, or `near` and a call of the
     /// folder. Its flags have a name by this map.
     pub fn add(
         &mut self,

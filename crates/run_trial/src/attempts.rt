@@ -30,7 +30,7 @@ pub fn settle_trial<O: Outside>(
     ensures was_honest { O.honest outside.new → O.honest outside.old }
     ensures keywords { O.keywords outside.new ≡ O.keywords outside.old }
 
-    // From an opening: an answer leaves the run over, and tells what the last attempt answered; a fault leaves the run underway.
+    // From an opening: an answer leaves the run over, and reports what the last attempt answered; a fault leaves the run underway.
     ensures done { IfOk result (λ settled. FromOpening (O.honest outside.new) opening options.now trial_stream
         (O.seen outside.old).device
         (IsSettled opening options.now trial_stream settled (O.seen outside.old) (O.seen outside.new))) }
@@ -39,7 +39,7 @@ pub fn settle_trial<O: Outside>(
         (IsUnsettled opening tries trial_stream fault (O.seen outside.old) (O.seen outside.new))) }
     ensures results { IfOk result (λ settled. O.honest outside.new → HasResults settled.last (O.seen outside.new).device) }
 
-    // A fault that is no stop has its reason, and behind the greatest run number there is no other.
+    // A fault that is no stop has its reason, and after the greatest run number there is no other.
     ensures caused { IfErr result (λ fault. (after : Stream) × HasReason (O.opened outside.new) (O.honest outside.new) opening options.now
         trial_stream after fault (O.seen outside.old) (O.seen outside.new)) }
     ensures greatest { HasNoNext (O.honest outside.new) O.alone (O.seen outside.old).device (O.seen outside.new).device result }

@@ -44,10 +44,10 @@ use written_worlds::write::{WrittenMailbox, WrittenWorld, write_parts};
 
 /// Makes one run over an outside whose shelf holds this state, by the map of its options, and gives it back beside what the run came to.
 ///
-/// Where the outside has kept its word: from a world that a run may begin with, where nobody else adds messages, an answer leaves both
-/// mailboxes and the state alike to the outcome that the rules name for it. Where others add messages under no mark of the run, it is
-/// over, and what they added is left to the next run (docs/GUARANTEES.md). A fault leaves it underway. Behind the greatest run number
-/// there is no other run. It is told as stopped only where each attempt met a stop.
+/// Where the outside has behaved as specified: from a world that a run may begin with, where nobody else adds messages, an answer leaves
+/// both mailboxes and the state alike to the outcome that the rules name for it. Where others add messages under no mark of the run, it is
+/// over, and what they added is left to the next run (docs/GUARANTEES.md). A fault leaves it underway. After the greatest run number there
+/// is no other run. It is reported as stopped only where each attempt met a stop.
 pub fn settle_all<O: Outside>(
     alloc: Global,
     outside: O,

@@ -1,4 +1,4 @@
-//! Why nothing is told of a trial.
+//! Why nothing is reported of a trial.
 
 ghost use Rattle.std.specs.Prelude.{◌≡◌};
 ghost use Rattle.run_trial.specs.Statuses.{failure_status};
@@ -11,7 +11,7 @@ use sync_state::fault::BookFault;
 use thiserror::Error;
 use worlds::fault::WorldFault;
 
-/// Why nothing is told of a trial, as the program tells it.
+/// Why nothing is reported of a trial, as the program reports it.
 #[derive(Clone, Copy, Debug, PartialEq, Eq, Error)]
 pub enum Failure {
     /// The arguments are none that the program takes.

@@ -26,7 +26,7 @@ const DIGITS: u32 = 20;
 /// How many digits the name of a file that others add has.
 const ARRIVAL_DIGITS: u32 = 8;
 
-/// A folder with this mailbox: a message of UID 7 stands in `cur` as `m,U=7:2,LETTERS`, a waiting file behind which nine files stand
+/// A folder with this mailbox: a message of UID 7 stands in `cur` as `m,U=7:2,LETTERS`, a waiting file after which nine files stand
 /// already as `w00000000000000000009:2,LETTERS`, and there is a meta file. Its calls stop as the schedule says.
 pub fn folder_with(
     alloc: Global,

@@ -1,6 +1,6 @@
 //! Trials (docs/FORMATS.md, "Trial"): a world, how often a run of it is tried, and where its calls stop; and the run of one over everything
 //! that a real one has but a network and a disk: a session with a server, a folder and a shelf in memory. How the text of one is read, the
-//! devices that it says, and what is told of it.
+//! devices that it says, and what is reported of it.
 #![tactic(auto)]
 
 mod among;

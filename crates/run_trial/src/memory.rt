@@ -39,7 +39,7 @@ use std::alloc::Global;
 /// With a journal the run is resumed: for each opening at which the devices of the trial stand, an answer leaves the run over that began
 /// there, all alike to the outcome of its world, and a fault leaves it underway.
 ///
-/// It is told as stopped only where as many calls stopped as there were attempts.
+/// It is reported as stopped only where as many calls stopped as there were attempts.
 pub fn run_in_memory(alloc: Global, trial: Trial) -> Result<Run<MemLink, MemFolder>, Failure>
     ghost opening: { Opening nobody.ours nobody.alone }
     ensures done { IsStart trial
@@ -64,7 +64,7 @@ pub fn run_in_memory(alloc: Global, trial: Trial) -> Result<Run<MemLink, MemFold
 ///
 /// Let that run be underway, from an opening where no call had named a message. Then it is over already, or it is resumed: an answer leaves
 /// it over, all alike to the outcome of the world with which the first run began, and a fault leaves it underway. The greatest run number,
-/// and what is told as stopped, are as of `run_in_memory`.
+/// and what is reported as stopped, are as of `run_in_memory`.
 pub fn run_again(
     alloc: Global,
     devices: Devices<MemLink>,

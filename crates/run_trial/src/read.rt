@@ -32,7 +32,7 @@ pub fn read_trial(alloc: Global, text: &[u8]) -> Result<Trial, WorldFault>
     }
 }
 
-/// What the lines behind a world's say, up to the end of the text.
+/// What the lines after a world's say, up to the end of the text.
 fn read_course(
     alloc: Global,
     keywords: &Keywords,

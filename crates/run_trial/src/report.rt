@@ -1,4 +1,4 @@
-//! What is told of a trial.
+//! What is reported of a trial.
 
 ghost use Rattle.std.specs.Prelude.{◌≡◌};
 ghost use Rattle.run_trial.specs.Reports.{fault_number, status_of};
@@ -19,7 +19,7 @@ pub struct Ending {
 }
 
 impl Ending {
-    /// The exit status of a program that tells it.
+    /// The exit status of a program that reports it.
     pub fn status(&self) -> u8
         ensures { result ≡ status_of self.now.settled }
     {
@@ -29,7 +29,7 @@ impl Ending {
         }
     }
 
-    /// Its lines, behind which those of the world stand.
+    /// Its lines, after which those of the world stand.
     pub fn text(&self, alloc: Global) -> Result<String, AllocError> {
         let mut text = String::new(alloc);
         match self.write(&mut text) {
@@ -50,7 +50,7 @@ impl Ending {
     }
 }
 
-/// How an answer is told.
+/// How an answer is reported.
 fn pass_word(pass: &Pass) -> &'static str {
     match pass {
         Pass::Already => "already",

@@ -34,7 +34,7 @@ pub enum Request {
     Memory,
     /// The same, where at most so many bytes are received at once. No argument asks for it.
     Pieces(usize),
-    /// The same as `Memory` behind a face, as `mbsync` hears real servers: `--face`.
+    /// The same as `Memory` after a face, as `mbsync` hears real servers: `--face`.
     Face,
     /// One whose far mailbox is reached over a loopback connection: `--tcp`.
     Loopback,
@@ -45,7 +45,7 @@ pub enum Request {
 /// Reads a trial from `input`, makes its run, and writes to `out` what it came to and what it left (docs/FORMATS.md, "Trial"). It gives
 /// the program's exit status: 0 where the run was settled, and 1 where it ended with a fault.
 ///
-/// Else `err` is told why nothing is told: status 2 for other arguments and for a bad text, status 1 for want of memory, and where
+/// Else `err` gets the reason: status 2 for other arguments and for a bad text, status 1 for lack of memory, and where
 /// reading or writing failed.
 pub fn run_trial<R: Net + AllocGlobal + Clone + Drop, I: Read, O: Write, E: Write>(
     rt: R,
@@ -74,7 +74,7 @@ fn print<O: Write>(out: &mut O, text: &[u8]) -> io::Result<()> {
     out.flush()
 }
 
-/// What is told of the trial that is read, and the exit status.
+/// What is reported of the trial that is read, and the exit status.
 fn told<R: Net + AllocGlobal + Clone + Drop, I: Read>(
     rt: R,
     request: Request,
@@ -93,7 +93,7 @@ fn told<R: Net + AllocGlobal + Clone + Drop, I: Read>(
     told_of_trial(rt, request, trial)
 }
 
-/// What is told of this trial, and the exit status.
+/// What is reported of this trial, and the exit status.
 fn told_of_trial<R: Net + AllocGlobal + Clone + Drop>(
     rt: R,
     request: Request,
@@ -114,7 +114,7 @@ fn told_of_trial<R: Net + AllocGlobal + Clone + Drop>(
     }
 }
 
-/// What is told of this trial, in which others add messages.
+/// What is reported of this trial, in which others add messages.
 fn told_among(alloc: Global, trial: Trial) -> Result<(String, u8), Failure>
     ensures { IfOk result (λ told. told.1 ≤ 1) }
 {
@@ -127,7 +127,7 @@ fn told_among(alloc: Global, trial: Trial) -> Result<(String, u8), Failure>
     }
 }
 
-/// What is told of this trial where at most so many bytes are received at once.
+/// What is reported of this trial where at most so many bytes are received at once.
 fn told_in_pieces(alloc: Global, trial: Trial, piece: usize) -> Result<(String, u8), Failure>
     ensures { IfOk result (λ told. told.1 ≤ 1) }
 {
@@ -143,7 +143,7 @@ fn told_in_pieces(alloc: Global, trial: Trial, piece: usize) -> Result<(String, 
     told_over(alloc, link, near, &options, tries)
 }
 
-/// What is told of this trial behind a face.
+/// What is reported of this trial through a face.
 fn told_over_face(alloc: Global, trial: Trial) -> Result<(String, u8), Failure>
     ensures { IfOk result (λ told. told.1 ≤ 1) }
 {
@@ -165,7 +165,7 @@ fn told_over_face(alloc: Global, trial: Trial) -> Result<(String, u8), Failure>
     )
 }
 
-/// What is told of this trial over a loopback connection.
+/// What is reported of this trial over a loopback connection.
 fn told_over_loopback<R: Net + AllocGlobal + Clone + Drop>(
     rt: R,
     trial: Trial,
@@ -184,7 +184,7 @@ fn told_over_loopback<R: Net + AllocGlobal + Clone + Drop>(
     told_over(alloc, link, near, &options, tries)
 }
 
-/// What is told of a run over this link and what stands near, while others add files to the folder.
+/// What is reported of a run over this link and what stands near, while others add files to the folder.
 fn told_over<L: TrialLink + Drop>(
     alloc: Global,
     link: L,
@@ -205,7 +205,7 @@ fn told_over<L: TrialLink + Drop>(
     told_of(alloc, Devices::among(outside)?, settled)
 }
 
-/// What is told of a run, by what it left, and the exit status.
+/// What is reported of a run, by what it left, and the exit status.
 fn told_of<L: TrialLink + Drop>(
     alloc: Global,
     devices: Devices<L>,

@@ -87,7 +87,7 @@ impl<const MARKS: u32> TrialLink for VisitedLink<MARKS> {
     }
 }
 
-/// Behind a face, as `mbsync` hears real servers. Over this server the face stops by itself nowhere.
+/// Through a face, as `mbsync` hears real servers. Over this server the face stops by itself nowhere.
 impl<L: TrialLink> TrialLink for FaceLink<L> {
     fn stops(&self) -> usize {
         self.link().stops()

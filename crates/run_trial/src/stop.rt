@@ -18,7 +18,7 @@ use maildir::mem_folder::FolderCall;
 use std::alloc::{AllocError, Global};
 use worlds::words::split_word;
 
-/// A command of IMAP that a trial can stop (RFC 9051, sections 6.1 to 6.4). Of the UID commands the name behind `UID` is told.
+/// A command of IMAP that a trial can stop (RFC 9051, sections 6.1 to 6.4). Of the UID commands the name after `UID` is reported.
 #[derive(Clone, Copy, PartialEq, Eq)]
 pub enum Command {
     /// CAPABILITY.
@@ -100,7 +100,7 @@ impl Stops {
         }
     }
 
-    /// Adds a stop behind the others of its device. `AllocError`: memory ran out.
+    /// Adds a stop after the others of its device. `AllocError`: memory ran out.
     pub fn push(&mut self, stop: DeviceStop) -> Result<(), AllocError> {
         match stop {
             DeviceStop::Folder(stop) => self.folder.push(stop)?,
@@ -129,7 +129,7 @@ pub struct Halt<'a> {
 }
 
 impl<'a> Halt<'a> {
-    /// What stands behind the word `stop`: `before CALL k`, `after CALL k` or `part CALL k b`.
+    /// What stands after the word `stop`: `before CALL k`, `after CALL k` or `part CALL k b`.
     pub fn read(text: &'a [u8]) -> Option<Halt<'a>> {
         let (moment, text) = split_word(text)?;
         let (call, text) = split_word(text)?;
@@ -180,12 +180,12 @@ impl<'a> Halt<'a> {
     }
 }
 
-/// The stop of a line of a trial: what stands behind its word `stop`.
+/// The stop of a line of a trial: what stands after its word `stop`.
 pub fn read_stop(text: &[u8]) -> Option<DeviceStop> {
     Halt::read(text)?.device()
 }
 
-/// The stop of a line of a trial: what stands behind its word `cut`, `reply k b` or `send k b`.
+/// The stop of a line of a trial: what stands after its word `cut`, `reply k b` or `send k b`.
 pub fn read_cut(text: &[u8]) -> Option<DeviceStop> {
     let (word, text) = split_word(text)?;
     let (number, bytes) = split_word(text)?;

@@ -98,7 +98,7 @@ impl Trials<'_> {
         Ok(None)
     }
 
-    /// Tells what the trial comes to.
+    /// Reports what the trial comes to.
     fn play_text(&self, request: Request, told: &mut Told) -> Result<(), Failure> {
         let answer = self.answer(request, &self.text)?;
         told.text(answer.as_str());
@@ -166,7 +166,7 @@ impl Trials<'_> {
         self.answer(request, text.as_str().as_bytes())
     }
 
-    /// What a trial comes to: the lines that are printed, those that standard error is told, and the exit status.
+    /// What a trial comes to: the lines that are printed, those of standard error, and the exit status.
     fn answer(&self, request: Request, text: &[u8]) -> Result<Told, Failure> {
         let rt = self.rt.clone()?;
         let (mut out, mut err) = (Vec::new(rt.alloc()), Vec::new(rt.alloc()));
@@ -213,7 +213,7 @@ fn way_of(word: &str, line: &mut Words<'_>) -> Way {
     }
 }
 
-/// An answer for each line of a text, behind a word.
+/// An answer for each line of a text, after a word.
 fn tell_lines(told: &mut Told, word: &str, text: &[u8]) {
     for line in str::from_utf8(text).unwrap_or("(no text)").lines() {
         told.begin();
@@ -223,7 +223,7 @@ fn tell_lines(told: &mut Told, word: &str, text: &[u8]) {
     }
 }
 
-/// The answer of a range of numbers, behind the range.
+/// The answer of a range of numbers, after the range.
 fn tell_range(told: &mut Told, first: u32, last: u32, answer: &Told) {
     told.begin();
     told.number(u64::from(first));

@@ -4,7 +4,7 @@
 //! | Line | Meaning |
 //! |---|---|
 //! | `trial` | the text of a trial up to a line `.` |
-//! | `settle` | its run is made, and told as `mbtrial` prints it; where that is a fault, the same of another run stands behind `again` |
+//! | `settle` | its run is made, and reported as `mbtrial` prints it; where that is a fault, the same of another run stands after `again` |
 //!
 //! The journal that the first run left stands there for the second one.
 #![tactic(auto)]

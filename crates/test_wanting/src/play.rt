@@ -84,7 +84,7 @@ fn settle(alloc: Global, text: &[u8], told: &mut Told) -> Result<(), TrialFailur
     tell(alloc, &Devices::of(outside), settled, told)
 }
 
-/// Tells what a run came to and what stands in the devices, as `mbtrial` prints it. Stops are counted from the first run on.
+/// Reports what a run came to and what stands in the devices, as `mbtrial` prints it. Stops are counted from the first run on.
 fn tell(
     alloc: Global,
     devices: &Devices<MemLink>,
