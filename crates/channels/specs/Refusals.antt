@@ -39,17 +39,23 @@ refusal_text (Unknown name) = codes "unknown " ++ name.now
 refusal_text SyncWords = codes "sync words"
 refusal_text NoMemory = codes "no memory"
 
-abbrev pub refusal_line : Refusal → List ℕ
-refusal_line refusal = codes "mbsync: " ++ refusal_text refusal ++ 10 ∷ []
+-- what to do about it, on a line after a line end
+abbrev pub refusal_advice : Refusal → List ℕ
+refusal_advice (Unknown name) = 10 ∷ codes "  the configuration has no channel or group of this name: mbsync -al lists what it has"
+refusal_advice SyncWords = []
+refusal_advice NoMemory = []
+
+abbrev pub refusal_lines : Refusal → List ℕ
+refusal_lines refusal = codes "mbsync: " ++ refusal_text refusal ++ refusal_advice refusal ++ 10 ∷ []
 
 -- nothing is done, for this reason
 pub record IsUndone (config : Config) (request : Request) : Type 0 where
   pub refusal : Refusal
   pub reason : IsReason config request refusal
 
--- nothing is done, and its reason is reported, on a line of its own, and by the status
+-- nothing is done, and its reason is reported, on a line of its own with what to do after it, and by the status
 pub record IsToldUndone (config : Config) (request : Request) (status : ℕ) (old new : Option (List ℕ)) : Type 0 where
   pub refusal : Refusal
   pub reason : IsReason config request refusal
-  pub line : Appends old new (refusal_line refusal)
+  pub lines : Appends old new (refusal_lines refusal)
   pub tells : status ≡ status_of refusal

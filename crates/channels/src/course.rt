@@ -3,7 +3,7 @@
 ghost use Rattle.std.specs.Prelude.{◌≡◌, IfErr, IfOk, IfSome, IsErr, Ok};
 ghost use Rattle.channels.specs.Chosen.{chosen_among, unknown_among};
 ghost use Rattle.config.specs.Cells.{line_cells};
-ghost use Rattle.channels.specs.Refusals.{IsReason, IsRefused, IsUnknown, status_of};
+ghost use Rattle.channels.specs.Refusals.{IsReason, IsRefused, IsUnknown, refusal_advice, status_of};
 
 use crate::chosen::{chosen_places, unknown_name};
 use config::cells::{CellsFault, cells};
@@ -50,7 +50,9 @@ impl fmt::Display for Refusal<'_> {
 
 impl Refusal<'_> {
     /// What to do, on a line after a line end.
-    pub(crate) fn advice(self) -> &'static str {
+    pub(crate) fn advice(self) -> &'static str
+        ensures { result.now ≡ refusal_advice self.entry }
+    {
         match self {
             Refusal::Unknown(_) => {
                 "\n  the configuration has no channel or group of this name: mbsync -al lists what it has"

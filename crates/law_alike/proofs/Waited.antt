@@ -27,10 +27,10 @@ numbered_file least uids next [] f rise each c = absurd (Contains-none f c)
 numbered_file least [] next (g ∷ fs) f rise each c = absurd (omega arith)
 numbered_file least (u ∷ uids) next (g ∷ fs) f rise each c = elim (Contains-cases g f fs c) [
   | inl same ↦ record {
-      uid = u;
-      least = rise.0;
-      is_there = subst (λ (x : Waiting). Contains (numbered_under (u ∷ uids) (g ∷ fs)) (record { uid = u; flags = x.flags; bytes = x.bytes })) same (Contains-first _ _);
-    }
+    uid = u;
+    least = rise.0;
+    is_there = subst (λ (x : Waiting). Contains (numbered_under (u ∷ uids) (g ∷ fs)) (record { uid = u; flags = x.flags; bytes = x.bytes })) same (Contains-first _ _);
+  }
   | inr rest ↦
       let k = numbered_file (u + 1) uids next fs f rise.1 (omega arith) rest in
       record { uid = k.uid; least = (let a : least ≤ u = rise.0 in let b : u + 1 ≤ k.uid = k.least in omega arith); is_there = Contains-rest _ _ _ k.is_there }

@@ -184,7 +184,7 @@ module _ {F : Type 0} {folders : folder.Ghosts F} (s : NearSide F folders) (new 
   turns change answer ends did = calls false Never (λ _ b b'. b' ≡ change b) Nothing answer ends (λ h. turned false Never Nothing change answer ends (did h) (λ is no. absurd (cc)))
 
   -- all that waits was read
-  some_admitted : Leaves (DoesSome {T = Unit {0}} (λ _ b b'. b' ≡ all_admitted b)) AdmitsSome n n' → Leaves (DoesSome {T = Unit {0}} (λ _. Admits folders.visitors.alone)) (AdmitsPart folders.visitors.alone) n n'
+  some_admitted : Leaves (DoesSome {T = Unit {0}} (λ _ b b'. b' ≡ all_admitted b)) AdmitsSome n n' → Leaves (DoesSome {T = Unit {0}} (λ _. Admits folders.visitors.alone n.waiting)) (AdmitsPart folders.visitors.alone) n n'
   some_admitted (inl same) = inl same
   some_admitted (inr (inl all)) = inr (inl (record { answer = tt; done = admits_all folders.visitors.alone n n' all.done }))
   some_admitted (inr (inr some)) = inr (inr (admits_some folders.visitors.alone n n' some))
