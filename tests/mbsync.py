@@ -184,6 +184,9 @@ def what_does_not_open(tally):
                    [1, "mbsync: cannot open nope", "  there is no such file; see mbsync(1), Configuration, and -c"])
         tally.same("FILE is a folder", scene.run("-c", ".", "c"),
                    [1, "mbsync: cannot open .", "  it is a folder; name a file"])
+        scene.write("empty", b"")
+        none = ["mbsync: the configuration has no channel", "  write a Channel with Far and Near: see mbsync(1), Configuration"]
+        tally.same("FILE has no channel", scene.run("-c", scene.path("empty"), "-a"), [0, *none])
         tally.same("a write that fails", scene.run("-l", "c", out=open("/dev/full", "wb"))[0], 1)
         scene.server.stop()
         tally.same("no server", scene.run("c")[:2], [1, "mbsync: cannot open far"])

@@ -13,7 +13,7 @@ use chacha_generator::generator;
 use channels::run::run_config;
 use channels::stores::Stores;
 use config::config::Config;
-use config::request::Request;
+use config::request::{Chosen, Request};
 use mail_stores::mail_stores::MailStores;
 use mail_stores::notes::Notes;
 use near_places::home::Home;
@@ -80,6 +80,7 @@ pub fn run_mail<
 >(rt: R, request: &Request, terminal: Option<T>, out: &mut O, err: &mut E) -> u8 {
     match start_of(&rt, request) {
         Ok(start) => {
+            say_none(&start.config, request, err);
             let screen = Screen::new(terminal);
             run_start(rt, request, start, &screen, out, err)
         }
@@ -87,6 +88,16 @@ pub fn run_mail<
             let _ = writeln!(err, "mbsync: {failure}");
             1
         }
+    }
+}
+
+/// Says on `err` that the configuration has no channel, if all are asked for. It is no fault: the exit status stays.
+fn say_none<E: Write>(config: &Config, request: &Request, err: &mut E) {
+    if config.channels.is_empty() && matches!(request.chosen, Chosen::All) {
+        let _ = writeln!(
+            err,
+            "mbsync: the configuration has no channel\n  write a Channel with Far and Near: see mbsync(1), Configuration"
+        );
     }
 }
 
