@@ -52,7 +52,7 @@ fn reason_of(kind: ErrorKind) -> &'static str {
     match kind {
         ErrorKind::PermissionDenied =>
             "no permission. Let yourself read and write it, and run again",
-        ErrorKind::NotFound => "it is not there. Make it, or name another path, and run again",
+        ErrorKind::NotFound => "it is gone. Run again",
         ErrorKind::NotADirectory => "a part of this path is a file, not a folder",
         ErrorKind::IsADirectory | ErrorKind::InvalidInput => {
             "this is not a file. Move it elsewhere, and run again"
