@@ -6,7 +6,7 @@ use Rattle.std.specs.Cmp.Lexicographic.{pointwise}
 use Rattle.imap_client.specs.Logins.{is_known}
 use Rattle.std.proofs.lemmas.Bool.{and_parts}
 use Rattle.std.proofs.lemmas.List.{append-nil}
-use Rattle.std.proofs.lemmas.List.Elements.{All-append, All-cons, All-map, All-nil, All-weaker}
+use Rattle.std.proofs.lemmas.List.Elements.{All-append, All-cons, All-head, All-map, All-nil, All-tail, All-weaker}
 use Rattle.std.proofs.lemmas.List.Kept.{AllPairs-cons}
 use Rattle.mailcore.specs.declared.keywords.Keyword.{Keyword}
 use Rattle.mailcore.specs.declared.mailbox.Message.{Message}
@@ -20,7 +20,7 @@ use Rattle.mailcore.specs.Rise.{Rise}
 use Rattle.mailcore.proofs.KnownFlags.{kept-lt}
 use Rattle.mailcore.proofs.RiseLemmas.{rise-ends}
 use Rattle.mailcore.specs.Stores.{Store, IsStore}
-use Rattle.visitors.specs.Visitors.{IsForeign, Visitors}
+use Rattle.visitors.specs.Visitors.{AreOctets, IsForeign, Visitors}
 use Rattle.mailbox.specs.Arrivals.{Arrives, IsFarMessage}
 use Rattle.wire_reader.specs.Literal.{is_octet}
 use Rattle.imap_session.specs.Mailboxes.{FarMailbox, mailbox_at}
@@ -126,18 +126,23 @@ module _ (v : Visitors) where
 
   -- ---- it is what others may do to a mailbox
 
-  positive : (b : ℕ) → is_octet b ≡ true → 0 < b
+  positive : (b : ℕ) → is_octet b ≡ true → 1 ≤ b
   positive zero h = absurd (cc)
   positive (suc n) h = omega arith
 
-  no_nul : (bytes : List ℕ) → list_all is_octet bytes ≡ true → All (λ b. 0 < b) bytes
-  no_nul [] h = All-nil (λ b. 0 < b)
-  no_nul (b ∷ bs) h = let p = and_parts (is_octet b) (list_all is_octet bs) h in All-cons (λ x. 0 < x) b bs (positive b p.0) (no_nul bs p.1)
+  abbrev Stored : ℕ → Type 0
+  Stored b = (1 ≤ b) × (b < 256)
+
+  stored : (bytes : List ℕ) → list_all is_octet bytes ≡ true → AreOctets bytes → All Stored bytes
+  stored [] h octets = All-nil Stored
+  stored (b ∷ bs) h octets =
+      let p = and_parts (is_octet b) (list_all is_octet bs) h in
+      All-cons Stored b bs (positive b p.0, All-head (λ x. x < 256) b bs octets) (stored bs p.1 (All-tail (λ x. x < 256) b bs octets))
 
   come_sound : (keywords : List Keyword) (s t : Store) (g : Gains v s t) → All IsFarMessage (map (seen_message keywords) g.more)
   come_sound keywords s t g = All-map IsFarMessage (seen_message keywords) g.more (λ i d within.
       let m : Message = get_or g.more i d in
-      record { uid = g.range.uids i d within; in_set = kept-lt keywords m.flags; bytes = no_nul m.bytes (g.bodies i d within).each })
+      record { uid = g.range.uids i d within; in_set = kept-lt keywords m.flags; bytes = stored m.bytes (g.bodies i d within).each (g.octets i d within) })
 
   pub arrives_none : (b : Mailbox) → Arrives Far v.ours v.alone b b
   arrives_none b = record {

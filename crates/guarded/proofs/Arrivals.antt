@@ -1,15 +1,15 @@
 -- Others may add nothing, and what they add in two turns they add in one.
-use Rattle.std.proofs.Common.{◌+◌, ◌<◌, ◌^◌, ℕ, Bool, List, [], ◌∷◌, ◌++◌, map, ap, refl, sym, ◌∙◌, subst, arith, append_assoc}
+use Rattle.std.proofs.Common.{◌+◌, ℕ, Bool, List, [], ◌∷◌, ◌++◌, map, ap, refl, sym, ◌∙◌, subst, arith, append_assoc}
 use Rattle.std.proofs.lemmas.List.{append-nil, map-append}
 use Rattle.std.specs.Prelude.{IsPermutation}
 use Rattle.std.proofs.lemmas.List.Elements.{All-append, All-nil}
 use Rattle.std.proofs.lemmas.List.Sorted.{IsPermutation-append_left, IsPermutation-trans}
 use Rattle.mailcore.specs.declared.mailbox.Message.{Message}
 use Rattle.mailcore.specs.Content.{mark_of}
-use Rattle.mailcore.specs.FlagSet.{FLAGS}
 use Rattle.mailcore.specs.Rise.{Rise}
 use Rattle.mailcore.specs.Stores.{Waiting}
 use Rattle.visitors.specs.Visitors.{IsForeign}
+use Rattle.rules.specs.Opening.{IsFile}
 use Rattle.mailbox.specs.Arrivals.{IsFarMessage}
 use Rattle.mailbox.proofs.Quiet.{none_come}
 use Rattle.outside.specs.Arrivals.{Arrives}
@@ -68,7 +68,7 @@ arrives_again ours alone d m e a b =
       rise = subst (λ us. Rise d.far.next us c.next) (sym (map-append uid a.messages c.messages)) (rise_behind d.far.next (map uid a.messages) a.next (map uid c.messages) c.next a.rise c.rise);
       gathered = gathered_again d.near.waiting a.files a.waiting c.files c.waiting a.gathered c.gathered;
       far_sound = All-append IsFarMessage a.messages c.messages a.far_sound c.far_sound;
-      near_sound = All-append (λ (f : Waiting). f.flags < 2 ^ FLAGS) a.files c.files a.near_sound c.near_sound;
+      near_sound = All-append IsFile a.files c.files a.near_sound c.near_sound;
       far_foreign = All-append (λ (x : Message). IsForeign ours (mark_of x.bytes)) a.messages c.messages a.far_foreign c.far_foreign;
       near_foreign = All-append foreign a.files c.files a.near_foreign c.near_foreign;
       now = c.now ∙ ap (λ (ms : List Message). record d { far = record d.far { next = c.next; messages = ms }; near = record d.near { waiting = c.waiting } }) (append_assoc d.far.messages a.messages c.messages);

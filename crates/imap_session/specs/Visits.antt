@@ -7,7 +7,7 @@ use Rattle.mailcore.specs.Ranges.{AreInRange}
 use Rattle.mailcore.specs.Rise.{Rise}
 use Rattle.mailcore.specs.Stores.{Store}
 use Rattle.wire_strings.specs.Literals.{IsLiteral}
-use Rattle.visitors.specs.Visitors.{Visitors, IsForeign}
+use Rattle.visitors.specs.Visitors.{Visitors, AreOctets, IsForeign}
 use Rattle.imap_session.specs.Mailboxes.{FarMailbox}
 use Rattle.imap_session.specs.Servers.{Server}
 
@@ -19,6 +19,7 @@ pub record Gains (v : Visitors) (old new : Store) : Type 0 where
   pub rise : Rise old.next (map (λ m. m.uid) more) new.next
   pub range : AreInRange more
   pub bodies : All (λ m. IsLiteral m.bytes) more
+  pub octets : All (λ m. AreOctets m.bytes) more
   pub foreign : All (λ m. IsForeign v.ours (mark_of m.bytes)) more
 
 -- each mailbox keeps its name and its place

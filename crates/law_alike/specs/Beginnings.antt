@@ -1,10 +1,12 @@
 -- A run that begins with the world that a device holds, in a law that a function of `src/lib.rt` shows.
 use Rattle.std.specs.Prelude.{◌≡◌, ◌<◌, ◌+◌, ◌^◌, ℕ, Bool, List, []}
 use Rattle.rules.specs.declared.options.Options.{Options}
+use Rattle.rules.specs.declared.state.SyncState.{SyncState}
 use Rattle.rules.specs.Opening.{IsOpening}
 use Rattle.rules.specs.World.{World}
 use Rattle.book.specs.declared.book.Pending.TheVariants.{Missing}
 use Rattle.book.specs.Books.{Holds}
+use Rattle.outside.specs.Arrivals.{Arrives}
 use Rattle.outside.specs.Devices.{Device}
 use Rattle.run_states.specs.Openings.{Opening, Unplanned, world_at}
 
@@ -29,3 +31,8 @@ abbrev pub WorldIsUnplanned : Type 0
 WorldIsUnplanned =
     (ours : List ℕ → Bool) (alone : Bool) (w : World) (options : Options) (d : Device) →
     HoldsWorld w d → IsOpening w → Unplanned (opening_of ours alone w options) d
+
+-- whatever others add to a world that a run may begin with, one may begin with it still
+abbrev pub OthersKeepOpening : Type 0
+OthersKeepOpening =
+    (ours : List ℕ → Bool) (alone : Bool) (state : SyncState) (d m : Device) → Arrives ours alone d m → IsOpening (world_at d state) → IsOpening (world_at m state)

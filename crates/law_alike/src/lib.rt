@@ -65,9 +65,11 @@ pub fn done_is_alike_among_others()
     ensures { among.DoneIsAlikeAmong }
 {}
 
-/// Where a device holds a world that a run may begin with, and no journal, that run is underway: it has no plan yet.
+/// Where a device holds a world that a run may begin with, and no journal, that run is underway: it has no plan yet. Whatever others add, a
+/// run may begin with the world still: what they add are messages and files, of bytes that each side stores.
 pub fn world_begins_a_run()
-    ensures { beginning.WorldIsUnplanned }
+    ensures unplanned { beginning.WorldIsUnplanned }
+    ensures others { beginning.OthersKeepOpening }
 {}
 
 /// Where a plan is given up over mailboxes with which a run might begin, a run may begin with them and the state that is left.

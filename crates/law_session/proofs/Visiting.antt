@@ -12,7 +12,7 @@ use Rattle.mailcore.specs.Rise.{Rise}
 use Rattle.mailcore.specs.Stores.{Store}
 use Rattle.mailcore.proofs.KnownFlags.{kept-lt}
 use Rattle.wire_strings.specs.Literals.{IsLiteral}
-use Rattle.visitors.specs.Visitors.{Visitors, IsForeign}
+use Rattle.visitors.specs.Visitors.{Visitors, AreOctets, IsForeign}
 use Rattle.imap_session.specs.Mailboxes.{FarMailbox, same_name, mailbox_at, changed}
 use Rattle.imap_session.specs.Servers.{Server, told}
 use Rattle.imap_session.specs.Arrivals.{ArrivedUnder}
@@ -34,6 +34,9 @@ Set m = m.flags < 2 ^ FLAGS
 abbrev Body : Message → Type 0
 Body m = IsLiteral m.bytes
 
+abbrev Octets : Message → Type 0
+Octets m = AreOctets m.bytes
+
 module _ (v : Visitors) where
   abbrev Foreign : Message → Type 0
   Foreign m = IsForeign v.ours (mark_of m.bytes)
@@ -46,6 +49,7 @@ module _ (v : Visitors) where
     rise = omega arith;
     range = record { uids = All-nil Numbered; last = All-nil Last; flags = All-nil Set };
     bodies = All-nil Body;
+    octets = All-nil Octets;
     foreign = All-nil Foreign;
   }
 
@@ -75,6 +79,7 @@ module _ (v : Visitors) where
       flags = All-append Set h.more k.more h.range.flags k.range.flags;
     };
     bodies = All-append Body h.more k.more h.bodies k.bodies;
+    octets = All-append Octets h.more k.more h.octets k.octets;
     foreign = All-append Foreign h.more k.more h.foreign k.foreign;
   }
 
@@ -103,7 +108,7 @@ module _ (v : Visitors) where
 
   -- ---- an arrival is a visit
 
-  module _ (name : List ℕ) (at flags : ℕ) (message : List ℕ) (literal : IsLiteral message) (some : 0 < at) (below : at < 4294967295) (set : flags < 2 ^ FLAGS) (foreign : IsForeign v.ours (mark_of message)) where
+  module _ (name : List ℕ) (at flags : ℕ) (message : List ℕ) (literal : IsLiteral message) (octets : AreOctets message) (some : 0 < at) (below : at < 4294967295) (set : flags < 2 ^ FLAGS) (foreign : IsForeign v.ours (mark_of message)) where
     gains_one : (s : Store) → at ≡ s.next → Gains v s (added at flags message s)
     gains_one s e =
         let x : Message = record { uid = at; flags = flags; bytes = message } in
@@ -118,6 +123,7 @@ module _ (v : Visitors) where
             flags = All-cons Set x [] set (All-nil Set);
           };
           bodies = All-cons Body x [] literal (All-nil Body);
+          octets = All-cons Octets x [] octets (All-nil Octets);
           foreign = All-cons Foreign x [] foreign (All-nil Foreign);
         }
 
@@ -132,13 +138,13 @@ module _ (v : Visitors) where
     all_gain m (x ∷ xs) e is = by_head m x xs (same_name x.name name) e is (λ later. all_gain m xs later is)
 
   -- a message of others came
-  pub arrival_visits : (at : ℕ) (name : List ℕ) (flags : ℕ) (message : List ℕ) (s t : Server) → 0 < at → IsForeign v.ours (mark_of message) → v.alone ≡ false → ArrivedUnder at name flags message s t → Visits v s t
-  arrival_visits at name flags message s t some foreign others a =
+  pub arrival_visits : (at : ℕ) (name : List ℕ) (flags : ℕ) (message : List ℕ) (s t : Server) → 0 < at → AreOctets message → IsForeign v.ours (mark_of message) → v.alone ≡ false → ArrivedUnder at name flags message s t → Visits v s t
+  arrival_visits at name flags message s t some octets foreign others a =
       subst (Visits v s) (sym a.after) (record {
         user = refl;
         password = refl;
         keywords = refl;
         condition = refl;
-        gains = all_gain name at (kept s.keywords flags) message a.literal some a.below (kept-lt s.keywords flags) foreign a.mailbox s.mailboxes a.there a.uid_is;
+        gains = all_gain name at (kept s.keywords flags) message a.literal octets some a.below (kept-lt s.keywords flags) foreign a.mailbox s.mailboxes a.there a.uid_is;
         nobody = λ alone. absurd (true≢false (sym alone ∙ others));
       })

@@ -1,7 +1,7 @@
 -- What holds of visits, in laws that a function of `src/sessions.rt` shows.
 use Rattle.std.specs.Prelude.{◌≡◌, ◌<◌, ℕ, false, List}
 use Rattle.mailcore.specs.Content.{mark_of}
-use Rattle.visitors.specs.Visitors.{Visitors, IsForeign}
+use Rattle.visitors.specs.Visitors.{Visitors, AreOctets, IsForeign}
 use Rattle.imap_session.specs.Arrivals.{ArrivedUnder}
 use Rattle.imap_session.specs.Servers.{Server, told}
 use Rattle.imap_session.specs.Visits.{Visits}
@@ -19,5 +19,5 @@ VisitsAreTold = (v : Visitors) (s t : Server) → Visits v s t → Visits v s (t
 -- a message that arrives, with no mark of the run, is a visit
 abbrev pub ArrivalsVisit : Type 0
 ArrivalsVisit =
-    (v : Visitors) (at : ℕ) (name : List ℕ) (flags : ℕ) (message : List ℕ) (s t : Server) → 0 < at
+    (v : Visitors) (at : ℕ) (name : List ℕ) (flags : ℕ) (message : List ℕ) (s t : Server) → 0 < at → AreOctets message
     → IsForeign v.ours (mark_of message) → v.alone ≡ false → ArrivedUnder at name flags message s t → Visits v s t

@@ -8,7 +8,7 @@ use Rattle.std.proofs.lemmas.List.Elements.{filter-append, All-append, All-filte
 use Rattle.std.proofs.lemmas.List.Folds.{list_any_at, list_any_none}
 use Rattle.std.proofs.lemmas.List.Sorted.{IsPermutation-refl, IsPermutation-sym, IsPermutation-trans, IsPermutation-map, IsPermutation-append_left, IsPermutation-append_right, IsPermutation-append_comm, All-permutation}
 use Rattle.mailcore.specs.Content.{mark_of}
-use Rattle.visitors.specs.Visitors.{IsForeign, Visitors}
+use Rattle.visitors.specs.Visitors.{AreOctets, IsForeign, Visitors}
 use Rattle.maildir.specs.declared.folder.File.{File}
 use Rattle.maildir.specs.declared.folder.FileName.{FileName}
 use Rattle.maildir.specs.Folders.{Stored, AreApart, is_at, is_left, moved, name_of_file, placed, removed_file, renamed_file, with_copy, with_meta, without}
@@ -93,7 +93,7 @@ module _ (v : Visitors) (s m : Stored) (g : Gains v s m) where
       (passing_in_any_order p (s.files ++ g.more) m.files g.files)
 
   still : (at : FileName) → (y : File) → arrives y → IsArrival v.ours (without at.place at.name s.files) y
-  still at y a = record { waits = a.waits; own = All-filter (is_left None at.place at.name) (λ f. name_of_file f ≢ name_of_file y) s.files a.own; foreign = a.foreign }
+  still at y a = record { waits = a.waits; own = All-filter (is_left None at.place at.name) (λ f. name_of_file f ≢ name_of_file y) s.files a.own; octets = a.octets; foreign = a.foreign }
 
   -- ---- calls
 
@@ -130,6 +130,7 @@ module _ (v : Visitors) (s m : Stored) (g : Gains v s m) where
           waits = a.waits;
           own = All-append (λ f. name_of_file f ≢ name_of_file y) front one (still to y a).own
               (All-cons (λ f. name_of_file f ≢ name_of_file y) file [] (λ e. none y a (sym e)) (All-nil (λ f. name_of_file f ≢ name_of_file y)));
+          octets = a.octets;
           foreign = a.foreign;
         }) g.more g.arrivals;
         apart = g.apart;
@@ -181,6 +182,7 @@ module _ (v : Visitors) (s m : Stored) (g : Gains v s m) where
           own = All-map (λ x. name_of_file x ≢ name_of_file y) mv (filter p s.files)
               (All-weaker (λ x. name_of_file x ≢ name_of_file y) (λ x. name_of_file (mv x) ≢ name_of_file y) (apart_moved y (off_to y a)) (filter p s.files)
               (All-filter p (λ x. name_of_file x ≢ name_of_file y) s.files a.own));
+          octets = a.octets;
           foreign = a.foreign;
         }) g.more g.arrivals;
         apart = g.apart;
@@ -237,6 +239,7 @@ gains_more v s m n g h =
           (All-weaker (IsArrival v.ours m.files) (IsArrival v.ours s.files) (λ y a. record {
             waits = a.waits;
             own = all_front (λ f. name_of_file f ≢ name_of_file y) s.files g.more (at_first y a);
+            octets = a.octets;
             foreign = a.foreign;
           }) h.more h.arrivals);
       apart = pairs_append (λ a b. name_of_file a ≡ name_of_file b → ⊥) g.more h.more g.apart h.apart
@@ -268,12 +271,12 @@ put_behind_all s file none =
     (All-weaker (λ f. name_of_file f ≢ name_of_file file) (λ f. is_left None file.place file.name f ≡ true) (λ f other. ap not (not_at (name_of_file file) f other)) s.files (none_has (name_of_file file) s.files none)) in
     rw others refl
 
-pub one_arrives : (v : Visitors) (s : Stored) (file : File) → v.alone ≡ false → is_waiting file.name ≡ true → IsForeign v.ours (mark_of file.bytes)
+pub one_arrives : (v : Visitors) (s : Stored) (file : File) → v.alone ≡ false → is_waiting file.name ≡ true → AreOctets file.bytes → IsForeign v.ours (mark_of file.bytes)
     → list_any (is_at file.place file.name) s.files ≡ false → Gains v s (with_arrival file s)
-one_arrives v s file others waits foreign none = record {
+one_arrives v s file others waits octets foreign none = record {
   more = file ∷ [];
   files = IsPermutation-refl (s.files ++ file ∷ []);
-  arrivals = All-cons (IsArrival v.ours s.files) file [] (record { waits = waits; own = none_has (name_of_file file) s.files none; foreign = foreign }) (All-nil (IsArrival v.ours s.files));
+  arrivals = All-cons (IsArrival v.ours s.files) file [] (record { waits = waits; own = none_has (name_of_file file) s.files none; octets = octets; foreign = foreign }) (All-nil (IsArrival v.ours s.files));
   apart = λ i j d less below. absurd (omega arith);
   is_there = refl;
   copy = refl;
@@ -281,7 +284,7 @@ one_arrives v s file others waits foreign none = record {
   nobody = λ alone. absurd (false≢true (sym others ∙ alone));
 }
 
-pub one_added : (v : Visitors) (s : Stored) (file : File) → v.alone ≡ false → is_waiting file.name ≡ true → IsForeign v.ours (mark_of file.bytes)
+pub one_added : (v : Visitors) (s : Stored) (file : File) → v.alone ≡ false → is_waiting file.name ≡ true → AreOctets file.bytes → IsForeign v.ours (mark_of file.bytes)
     → list_any (is_at file.place file.name) s.files ≡ false → Adds v s (with_arrival file s)
 unfolding one_arrives
-one_added v s file others waits foreign none = record { gains = one_arrives v s file others waits foreign none; behind = refl }
+one_added v s file others waits octets foreign none = record { gains = one_arrives v s file others waits octets foreign none; behind = refl }

@@ -2,7 +2,7 @@
 use Rattle.std.specs.Prelude.{◌≡◌, ◌≢◌, ◌++◌, ℕ, Bool, true, false, List, All}
 use Rattle.std.specs.List.Sorted.{IsPermutation}
 use Rattle.mailcore.specs.Content.{mark_of}
-use Rattle.visitors.specs.Visitors.{Visitors, IsForeign}
+use Rattle.visitors.specs.Visitors.{Visitors, AreOctets, IsForeign}
 use Rattle.maildir.specs.declared.folder.File.{File}
 use Rattle.maildir.specs.Folders.{Stored, AreApart, name_of_file}
 use Rattle.maildir.specs.Names.{is_waiting}
@@ -11,6 +11,7 @@ use Rattle.maildir.specs.Names.{is_waiting}
 pub record IsArrival (ours : List ℕ → Bool) (files : List File) (file : File) : Type 0 where
   pub waits : is_waiting file.name ≡ true
   pub own : All (λ f. name_of_file f ≢ name_of_file file) files
+  pub octets : AreOctets file.bytes
   pub foreign : IsForeign ours (mark_of file.bytes)
 
 -- Others add files that arrive. In which order the files of a folder stand is not known. Where a run is alone, nothing changes.

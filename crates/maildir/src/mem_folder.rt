@@ -53,7 +53,7 @@ pub struct MemFolder {
 
 impl MemFolder {
     ghost use Rattle.mailcore.specs.Content.{mark_of};
-    ghost use Rattle.visitors.specs.Visitors.{IsForeign, Visitors};
+    ghost use Rattle.visitors.specs.Visitors.{AreOctets, IsForeign, Visitors};
     ghost use Rattle.device.specs.Calls.{Read};
     ghost use Rattle.maildir.specs.Folders.{Lists, is_at, listed, with_meta};
     ghost use Rattle.maildir.specs.Gains.{Adds, Gains};
@@ -98,10 +98,10 @@ impl MemFolder {
         ensures err { OnErr result (seen_of self.new ≡ seen_of self.old) }
         ensures taken { IsErrOf result DeviceFault.Stopped ↔ (list_any (is_at Place.Cur name) (stored_in self.old).files ≡ true) }
         ensures synced { self.new.is_synced ≡ self.old.is_synced }
-        ensures gains { (visitors : Visitors) → visitors.alone ≡ false → is_waiting name ≡ true → IsForeign visitors.ours (mark_of bytes)
-            → Gains visitors (stored_in self.old) (stored_in self.new) }
-        ensures adds { (visitors : Visitors) → visitors.alone ≡ false → is_waiting name ≡ true → IsForeign visitors.ours (mark_of bytes)
-            → OnOk result (Adds visitors (stored_in self.old) (stored_in self.new)) }
+        ensures gains { (visitors : Visitors) → visitors.alone ≡ false → is_waiting name ≡ true → AreOctets bytes
+            → IsForeign visitors.ours (mark_of bytes) → Gains visitors (stored_in self.old) (stored_in self.new) }
+        ensures adds { (visitors : Visitors) → visitors.alone ≡ false → is_waiting name ≡ true → AreOctets bytes
+            → IsForeign visitors.ours (mark_of bytes) → OnOk result (Adds visitors (stored_in self.old) (stored_in self.new)) }
     {
         let file = File {
             place: Place::Cur,

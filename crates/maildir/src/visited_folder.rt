@@ -3,6 +3,7 @@
 ghost use Rattle.std.specs.Prelude.{◌≡◌, true, false, None, IfErr, IfOk};
 ghost use Rattle.mailcore.specs.Content.{mark_of};
 ghost use Rattle.maildir.specs.Names.{is_waiting};
+ghost use Rattle.visitors.specs.Visitors.{AreOctets};
 
 use crate::folder::{FileName, Folder, Location, Origin, Source};
 use crate::found_names::is_waiting;
@@ -212,7 +213,7 @@ impl<const MARKS: u32> Folder for VisitedFolder<MARKS> {
 
 // Whether others may add this file, if theirs are to bear so many marks.
 fn may_come(name: &[u8], bytes: &[u8], marks: u32) -> bool
-    ensures { result ≡ true → (is_waiting name.now ≡ true) × (marks ≡ 0 → mark_of bytes.now ≡ None) }
+    ensures { result ≡ true → (is_waiting name.now ≡ true) × AreOctets bytes.now × (marks ≡ 0 → mark_of bytes.now ≡ None) }
 {
     is_waiting(name) && (marks > 0 || mark_of(bytes).is_none())
 }

@@ -2,7 +2,7 @@
 use Rattle.std.proofs.Common.{◌≡◌, ◌<◌, ◌∙◌, ℕ, List, Option, None, Some, ap, refl, sym, subst}
 use Rattle.std.specs.Prelude.{Result, Ok, Err, OnOk, OnErr, IfSome, length, slice_index_or}
 use Rattle.mailcore.specs.Content.{mark_of}
-use Rattle.visitors.specs.Visitors.{Visitors, others_with}
+use Rattle.visitors.specs.Visitors.{Visitors, AreOctets, others_with}
 use Rattle.visitors.proofs.Bearing.{bears_as_said}
 use Rattle.imap_session.specs.Arrivals.{Arrived}
 use Rattle.imap_session.specs.Visits.{Visits}
@@ -23,9 +23,9 @@ nobody_feeds bytes old new s = record { mid = old.end.server; visits = nobody_vi
 -- ---- others are there
 
 -- a message that bears no mark comes, or there is none
-pub comes : (uid : Option ℕ) (name : List ℕ) (flags : ℕ) (message : List ℕ) (old new : Server) → IfSome uid (λ u. 0 < u) → Arrived name flags message uid old new → (marks : ℕ) → (marks ≡ 0 → mark_of message ≡ None) → Visits (others_with marks) old new
-comes None name flags message old new is_uid a marks none = subst (λ (s : Server). Visits (others_with marks) old s) (sym a.0) (nobody_visits (others_with marks) old)
-comes (Some uid) name flags message old new is_uid a marks none = arrival_visits (others_with marks) uid name flags message old new is_uid (bears_as_said marks (mark_of message) none) refl a
+pub comes : (uid : Option ℕ) (name : List ℕ) (flags : ℕ) (message : List ℕ) (old new : Server) → IfSome uid (λ u. 0 < u) → AreOctets message → Arrived name flags message uid old new → (marks : ℕ) → (marks ≡ 0 → mark_of message ≡ None) → Visits (others_with marks) old new
+comes None name flags message old new is_uid octets a marks none = subst (λ (s : Server). Visits (others_with marks) old s) (sym a.0) (nobody_visits (others_with marks) old)
+comes (Some uid) name flags message old new is_uid octets a marks none = arrival_visits (others_with marks) uid name flags message old new is_uid octets (bears_as_said marks (mark_of message) none) refl a
 
 -- nothing has come
 pub none_comes : (marks : ℕ) (old new : Server) → new ≡ old → Visits (others_with marks) old new

@@ -8,7 +8,7 @@ ghost use Rattle.imap_session.specs.Servers.{Quiet};
 ghost use Rattle.imap_session.specs.Lines.{Sends, Receives, Starts};
 ghost use Rattle.imap_session.specs.Visits.{Visits};
 ghost use Rattle.imap_link.specs.Sending.{visited};
-ghost use Rattle.visitors.specs.Visitors.{others_with};
+ghost use Rattle.visitors.specs.Visitors.{AreOctets, others_with};
 ghost use Rattle.mailcore.specs.Content.{mark_of};
 ghost use Rattle.imap_server.specs.Boxes.{AreServed};
 ghost use Rattle.std.proofs.Props.{props};
@@ -158,6 +158,7 @@ impl MemLink {
         ensures counted { result ≡ Err LinkFault.Stopped → self.old.stops < self.new.stops }
         ensures no_less { self.old.stops ≤ self.new.stops }
     {
+        known_octets(message);
         match self.server.arrive(mailbox, flags, message) {
             Ok(None) => Ok(()),
             Ok(Some(uid)) => {
@@ -316,3 +317,8 @@ impl Link for MemLink {
         Ok(())
     }
 }
+
+/// Bytes are below 256.
+fn known_octets(_bytes: &[u8])
+    ensures { AreOctets _bytes.now }
+{}

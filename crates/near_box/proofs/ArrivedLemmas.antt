@@ -1,16 +1,16 @@
 -- What others add to the folder of a mailbox arrives in the mailbox.
-use Rattle.std.proofs.Common.{◌≡◌, ◌<◌, ◌^◌, ℕ, Bool, true, List, ◌++◌, filter, get_or, map, ap, subst, ◌∙◌}
+use Rattle.std.proofs.Common.{◌≡◌, ◌<◌, ◌≤◌, ℕ, Bool, true, List, ◌++◌, All, filter, map, ap, arith, subst, ◌∙◌}
 use Rattle.std.specs.List.Sorted.{IsPermutation}
 use Rattle.std.proofs.lemmas.List.{map-append}
 use Rattle.std.proofs.lemmas.List.Elements.{All-map, All-weaker, filter-append}
 use Rattle.std.proofs.lemmas.List.Sorted.{IsPermutation-append_left, IsPermutation-map, IsPermutation-sym, IsPermutation-trans}
 use Rattle.mailcore.specs.Content.{mark_of}
-use Rattle.mailcore.specs.FlagSet.{FLAGS}
 use Rattle.mailcore.specs.Mailboxes.{Mailbox}
 use Rattle.mailcore.specs.Stores.{Store, Waiting}
 use Rattle.mailcore.specs.declared.side.Side.TheVariants as side
 use Rattle.mailbox.specs.Arrivals.{Arrives}
-use Rattle.visitors.specs.Visitors.{IsForeign, Visitors}
+use Rattle.rules.specs.Opening.{AreBytes, IsFile}
+use Rattle.visitors.specs.Visitors.{AreOctets, IsForeign, Visitors}
 use Rattle.mailcore.specs.declared.keywords.Keyword.{Keyword}
 use Rattle.maildir.specs.declared.folder.File.{File}
 use Rattle.maildir.specs.Folders.{Stored}
@@ -39,6 +39,10 @@ waiting_gathered v s s' gains =
     (subst (λ (l : List File). IsPermutation l (filter waits s'.files)) all_wait (passing_in_any_order waits (s.files ++ more) s'.files gains.files))
     (sorted_permutes is_before (filter waits s'.files)))
 
+-- a near mailbox stores any bytes
+file_bytes : (bytes : List ℕ) → AreOctets bytes → AreBytes 0 bytes
+file_bytes bytes octets = All-weaker (λ b. b < 256) (λ b. (0 ≤ b) × (b < 256)) (λ b below. (omega arith, below)) bytes octets
+
 -- where its messages are the same
 arrives_beside : (v : Visitors) (fresh : ℕ) (keywords : List Keyword) (s s' : Stored) → (near_of fresh keywords s').store ≡ (near_of fresh keywords s).store → Gains v s s'
     → Arrives side.Near v.ours v.alone (near_of fresh keywords s) (near_of fresh keywords s')
@@ -48,7 +52,8 @@ arrives_beside v fresh keywords s s' same gains = record {
     waiting = map (waiting_of keywords) (waiting_files s'.files);
     gathered = subst (λ (l : List Waiting). IsPermutation l (map (waiting_of keywords) (waiting_files s'.files))) (map-append (waiting_of keywords) (waiting_files s.files) gains.more)
         (IsPermutation-map (waiting_of keywords) (waiting_files s.files ++ gains.more) (waiting_files s'.files) (waiting_gathered v s s' gains));
-    sound = All-map (λ w. w.flags < 2 ^ FLAGS) (waiting_of keywords) gains.more (λ i d within. flags_by_name-lt keywords (get_or gains.more i d).name);
+    sound = All-map IsFile (waiting_of keywords) gains.more
+        (All-weaker (IsArrival v.ours s.files) (λ y. IsFile (waiting_of keywords y)) (λ y a. record { in_set = flags_by_name-lt keywords y.name; bytes = file_bytes y.bytes a.octets }) gains.more gains.arrivals);
     foreign = All-map (λ w. IsForeign v.ours (mark_of w.bytes)) (waiting_of keywords) gains.more
         (All-weaker (IsArrival v.ours s.files) (λ y. IsForeign v.ours (mark_of (waiting_of keywords y).bytes)) (λ y a. a.foreign) gains.more gains.arrivals);
     now = ap (λ (store : Store). let b : Mailbox = record { store = store; waiting = map (waiting_of keywords) (waiting_files s'.files) } in b) same;

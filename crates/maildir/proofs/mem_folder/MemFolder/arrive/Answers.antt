@@ -20,11 +20,11 @@ returns-clause-gains c =
     let file : File = record { place = Cur; name = c.args.name; bytes = c.args.bytes } in
     let none : list_any (is_at Cur c.args.name) (stored_in c.args.self.now).files ≡ false = sym c.has_file.ensures ∙ c.if-has_file.false in
     let now = ap (λ (seen : Seen Stored). seen.stored) c.in_ok-put.ensures.ok ∙ put_behind_all (stored_in c.args.self.now) file none in
-    λ visitors others waits foreign. subst (Gains visitors (stored_in c.args.self.now)) (sym now) (one_arrives visitors (stored_in c.args.self.now) file others waits foreign none)
+    λ visitors others waits octets foreign. subst (Gains visitors (stored_in c.args.self.now)) (sym now) (one_arrives visitors (stored_in c.args.self.now) file others waits octets foreign none)
 
 pub returns-clause-adds : goal.returns-clause-adds
 returns-clause-adds c =
     let file : File = record { place = Cur; name = c.args.name; bytes = c.args.bytes } in
     let none : list_any (is_at Cur c.args.name) (stored_in c.args.self.now).files ≡ false = sym c.has_file.ensures ∙ c.if-has_file.false in
     let now = ap (λ (seen : Seen Stored). seen.stored) c.in_ok-put.ensures.ok ∙ put_behind_all (stored_in c.args.self.now) file none in
-    λ visitors others waits foreign. subst (Adds visitors (stored_in c.args.self.now)) (sym now) (one_added visitors (stored_in c.args.self.now) file others waits foreign none)
+    λ visitors others waits octets foreign. subst (Adds visitors (stored_in c.args.self.now)) (sym now) (one_added visitors (stored_in c.args.self.now) file others waits octets foreign none)

@@ -1,6 +1,6 @@
-use Rattle.std.proofs.Common.{◌≡◌, ◌∙◌, true, ap, refl, sym}
+use Rattle.std.proofs.Common.{◌≡◌, ◌∙◌, true, ap, refl, subst, sym}
 use Rattle.mailcore.specs.Content.{mark_of}
-use Rattle.visitors.specs.Visitors.{IsForeign, others_with}
+use Rattle.visitors.specs.Visitors.{AreOctets, IsForeign, others_with}
 use Rattle.maildir.specs.MemFolders.{seen_of}
 use Rattle.maildir.specs.Names.{is_waiting}
 use Rattle.visitors.proofs.Bearing.{bears_as_said}
@@ -21,5 +21,5 @@ returns-in-Ok-clause-adds g c =
     let may = c.may_come.ensures c.if-not-may_come.false in
     let waits : is_waiting c.args.arrival.name ≡ true = ap is_waiting (sym c.as_slice.ensures) ∙ may.0 in
     let bears : IsForeign (others_with g.row.MARKS).ours (mark_of c.args.arrival.bytes) =
-    bears_as_said g.row.MARKS (mark_of c.args.arrival.bytes) (λ none. ap mark_of (sym c.as_slice-2.ensures) ∙ may.1 none) in
-    alone_added (others_with g.row.MARKS) (seen_of c.args.self.now.folder) (seen_of c.arrive.new.self) _ (c.in-Ok.ensures.adds (others_with g.row.MARKS) refl waits bears) c.in-Ok.ensures.ok
+    bears_as_said g.row.MARKS (mark_of c.args.arrival.bytes) (λ none. ap mark_of (sym c.as_slice-2.ensures) ∙ may.2 none) in
+    alone_added (others_with g.row.MARKS) (seen_of c.args.self.now.folder) (seen_of c.arrive.new.self) _ (c.in-Ok.ensures.adds (others_with g.row.MARKS) refl waits (subst AreOctets (c.as_slice-2.ensures) may.1) bears) c.in-Ok.ensures.ok

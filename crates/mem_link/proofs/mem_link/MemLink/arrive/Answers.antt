@@ -8,13 +8,13 @@ pub returns-in-Ok-None-clause-visits : goal.returns-in-Ok-None-clause-visits
 returns-in-Ok-None-clause-visits c = λ marks none.
     comes c.in-Ok-None.field-0 c.args.mailbox.now c.args.flags c.args.message.now c.args.self.now.server.server c.arrive.new.self.server
     (subst (λ (uid : Option ℕ). IfSome uid (λ u. 0 < u)) (sym c.in-Ok-None.field-0-is) tt)
-    c.in-Ok-None.ensures.ok.1 marks none
+    c.known_octets.ensures c.in-Ok-None.ensures.ok.1 marks none
 
 pub returns-in-Ok-Some-clause-visits : goal.returns-in-Ok-Some-clause-visits
 returns-in-Ok-Some-clause-visits c = λ marks none.
     comes c.in-Ok-Some.field-0 c.args.mailbox.now c.args.flags c.args.message.now c.args.self.now.server.server c.arrive.new.self.server
     (subst (λ (uid : Option ℕ). IfSome uid (λ u. 0 < u)) (sym c.in-Ok-Some.field-0-is) (subst (λ (n : ℕ). 0 < n) c.get-number.ensures.number c.get-number.ensures.positive))
-    c.in-Ok-Some.ensures.ok.1 marks none
+    c.known_octets.ensures c.in-Ok-Some.ensures.ok.1 marks none
 
 pub returns-in-Err-NoMemory-clause-visits : goal.returns-in-Err-NoMemory-clause-visits
 returns-in-Err-NoMemory-clause-visits c = λ marks _. none_comes marks _ _ (c.lack.ensures.server ∙ ap (λ (h : Host). h.server) (c.arrive.ensures.no_memory (c.in-Err-NoMemory.is ∙ ap Err c.in-Err-NoMemory.field-0-is)).1)
