@@ -1,4 +1,5 @@
 pub mod Places
+pub mod Begun
 pub mod Searched
 pub mod Faulty
 pub mod Looked

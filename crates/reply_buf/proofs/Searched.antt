@@ -12,27 +12,24 @@ use Rattle.wire_reader.specs.Answers.{Takes, TakesEach}
 use Rattle.wire_reader.specs.Lexical.{outside, is_in, phase}
 use Rattle.wire_reader.specs.Scanning.{start, after, scanned, is_place, place_from, NoPlace}
 use Rattle.wire_reader.proofs.PlaceLaws.{end_law}
-use Rattle.wire_reader.proofs.Scanned.{scanned-append, no_place}
+use Rattle.wire_reader.proofs.Scanned.{scanned-append}
 use Rattle.imap_replies.specs.declared.reply.Reply.{Reply}
 use Rattle.imap_replies.specs.Replies.{ReplyText, seen}
 use Rattle.imap_replies.proofs.ReplyParts.{reply_part}
 use Rattle.imap_replies.proofs.ReplyFeeds.{reply_feed}
 use Rattle.law_session.proofs.Apart.{fronts}
 use Rattle.law_session.proofs.AnswersApart.{reply_some}
-use Rattle.reply_buf.specs.Fronts.{NoneWhole}
+use Rattle.reply_buf.specs.Fronts.{BeginsAtPlaces, BeginsReply, NoneWhole}
 use Rattle.reply_buf.specs.declared.search.Search.{Search}
 use Rattle.reply_buf.specs.Searches.{IsSearched, IsNext}
 use Rattle.reply_buf.proofs.Places.{place_within}
+use Rattle.reply_buf.proofs.Begun.{all_begin, begins_between, none_at}
 
 -- ---- no reply ends where no place is
 
 phase_is : (s : Scanner) (xs : List ℕ) → (scanned s xs).phase ≡ phase s.phase xs
 phase_is s [] = refl
 phase_is s (b ∷ xs) = phase_is (after s b) xs
-
-none_at : (q : List ℕ) (b : ℕ) (back : List ℕ) (at : ℕ) (s : Scanner) → place_from at s (q ++ b ∷ back) ≡ None → is_place (scanned s q) b ≡ false
-none_at [] b back at s e = (no_place at s b back e).0
-none_at (c ∷ q) b back at s e = none_at q b back (suc at) (after s c) (no_place at s c (q ++ b ∷ back) e).1
 
 at_feed : (s : Scanner) → is_in s.phase ≡ false → is_place s 10 ≡ true
 at_feed s e = ap (λ (t : Bool). if t then 10 == 0 else 10 == 10 || nat_le 65536 s.outside) e
@@ -135,14 +132,18 @@ module _ (old : Search) (bytes : List ℕ) (is : IsSearched old bytes) where
     none =
         subst NoneWhole (take-append-drop old.scanned bytes ∙ sym (take-length bytes))
         (none_between (take old.scanned bytes) rest is.none (ap (λ (s : Scanner). place_from 0 s rest) (sym is.scanner_is) ∙ sym e));
+    begun =
+        subst BeginsAtPlaces (take-append-drop old.scanned bytes ∙ sym (take-length bytes))
+        (begins_between (take old.scanned bytes) rest is.begun (ap (λ (s : Scanner). place_from 0 s rest) (sym is.scanner_is) ∙ sym e));
   }
 
 -- no reply is whole before the place that was found
-pub searched_next : (old new : Search) (bytes : List ℕ) (end : ℕ) → IsNext old new bytes end → NoneWhole (take end bytes) → IsSearched new bytes
-searched_next old new bytes end n none = record {
+pub searched_next : (old new : Search) (bytes : List ℕ) (end : ℕ) → IsNext old new bytes end → NoneWhole (take end bytes) → BeginsReply (take end bytes) → IsSearched new bytes
+searched_next old new bytes end n none begins = record {
   within = (let e = n.scanned_is in let w = n.within in omega (arith, e, w));
   scanner_is = n.scanner_is ∙ ap (λ (k : ℕ). scanned start (take k bytes)) (sym n.scanned_is);
   none = subst (λ (k : ℕ). NoneWhole (take k bytes)) (sym n.scanned_is) none;
+  begun = subst (λ (k : ℕ). BeginsAtPlaces (take k bytes)) (sym n.scanned_is) (all_begin (take end bytes) begins);
 }
 
 -- all was scanned
@@ -150,6 +151,11 @@ pub searched_all : (search : Search) (bytes : List ℕ) → IsSearched search by
 searched_all search bytes is all =
     let same : search.scanned ≡ length bytes = (let w = is.within in omega (arith, w, all)) in
     subst NoneWhole (ap (λ (k : ℕ). take k bytes) same ∙ take-length bytes) is.none
+
+pub begun_all : (search : Search) (bytes : List ℕ) → IsSearched search bytes → length bytes ≤ search.scanned → BeginsAtPlaces bytes
+begun_all search bytes is all =
+    let same : search.scanned ≡ length bytes = (let w = is.within in omega (arith, w, all)) in
+    subst BeginsAtPlaces (ap (λ (k : ℕ). take k bytes) same ∙ take-length bytes) is.begun
 
 -- more came
 pub searched_more : (search : Search) (bytes now more : List ℕ) → now ≡ bytes ++ more → IsSearched search bytes → IsSearched search now
@@ -159,4 +165,5 @@ searched_more search bytes now more e is =
       within = (let w = is.within in let long = ap length e in omega (arith, w, long, length-append bytes more));
       scanner_is = is.scanner_is ∙ ap (scanned start) (sym same);
       none = subst NoneWhole (sym same) is.none;
+      begun = subst BeginsAtPlaces (sym same) is.begun;
     }

@@ -1,6 +1,8 @@
 -- What stands at the front of bytes of a server.
-use Rattle.std.specs.Prelude.{◌≡◌, ◌≤◌, ℕ, List, ◌++◌, length, take, Result, Ok, Err}
+use Rattle.std.specs.Prelude.{◌≡◌, ◌≤◌, ℕ, true, List, [], ◌∷◌, ◌++◌, length, take, Result, Ok, Err}
 use Rattle.wire_reader.specs.Lexical.{outside}
+use Rattle.wire_reader.specs.Answers.{Begins}
+use Rattle.wire_reader.specs.Scanning.{start, scanned, is_place}
 use Rattle.wire_reader.specs.declared.answer.Read.{Read}
 use Rattle.wire_reader.specs.declared.answer.Read.TheVariants.{Whole, WantsLiteral, Partial}
 use Rattle.wire_reader.specs.declared.answer.WireFault.{WireFault}
@@ -22,6 +24,16 @@ pub record IsWhole (bytes : List ℕ) (len : ℕ) : Type 0 where
 -- no reply that fits stands whole at their front
 abbrev pub NoneWhole : List ℕ → Type 0
 NoneWhole bytes = (reply : Reply) (front back : List ℕ) → ReplyText reply front → outside front ≤ 65536 → bytes ≡ front ++ back → ⊥
+
+-- they begin a longer reply, and fit so far
+pub record BeginsReply (bytes : List ℕ) : Type 0 where
+  pub begins : Begins ReplyText bytes
+  pub fits : outside bytes ≤ 65536
+
+-- So does each front of theirs that ends at a place of the scanner: with a LF that is no octet of a literal, with a NUL in one, or with
+-- the 65537th byte outside them. So a line that breaks the protocol is not waited for once it has ended.
+abbrev pub BeginsAtPlaces : List ℕ → Type 0
+BeginsAtPlaces bytes = (front back : List ℕ) (b : ℕ) → bytes ≡ front ++ b ∷ back → is_place (scanned start front) b ≡ true → BeginsReply (front ++ b ∷ [])
 
 -- no reply that fits stands at their front, and they begin none
 abbrev pub IsFaulty : List ℕ → Type 0

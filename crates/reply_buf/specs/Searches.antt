@@ -2,13 +2,14 @@
 use Rattle.std.specs.Prelude.{◌≡◌, ◌≤◌, ◌<◌, ℕ, List, length, take, Option, None, Some}
 use Rattle.wire_reader.specs.Scanning.{start, scanned}
 use Rattle.reply_buf.specs.declared.search.Search.{Search}
-use Rattle.reply_buf.specs.Fronts.{NoneWhole}
+use Rattle.reply_buf.specs.Fronts.{BeginsAtPlaces, NoneWhole}
 
--- so many of the bytes were scanned, and no reply is whole in them
+-- so many of the bytes were scanned; no reply is whole in them, and none of their places breaks the protocol
 pub record IsSearched (search : Search) (bytes : List ℕ) : Type 0 where
   pub within : search.scanned ≤ length bytes
   pub scanner_is : search.scanner ≡ scanned start (take search.scanned bytes)
   pub none : NoneWhole (take search.scanned bytes)
+  pub begun : BeginsAtPlaces (take search.scanned bytes)
 
 -- the next place was found
 pub record IsNext (old new : Search) (bytes : List ℕ) (end : ℕ) : Type 0 where
