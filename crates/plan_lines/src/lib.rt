@@ -2,6 +2,11 @@
 //! (docs/FORMATS.md, "Plan lines"). `mbplan` prints the lines of a whole plan, and `mbsync` those of the steps that it performs.
 #![tactic(auto)]
 
+ghost use Rattle.std.specs.Fmt.{WritesOnOk};
+ghost use Rattle.mailcore.specs.FlagNames.{letters_of};
+ghost use Rattle.mailcore.specs.Words.{flags_word};
+ghost use Rattle.plan_lines.specs.Lines.{change_text, number_text, pair_text};
+
 use itoa::Buffer;
 use mailcore::flags::Flags;
 use mailcore::side::Side;
@@ -15,6 +20,11 @@ use std::fmt;
 pub struct StepLine<'a>(pub &'a Step);
 
 impl fmt::Display for StepLine<'_> {
+    ghost use Rattle.std.specs.Prelude.{Some};
+    ghost use Rattle.plan_lines.specs.Lines.{step_line};
+
+    ghost output = { λ line. Some (step_line line.0.now) };
+
     fn fmt<W: fmt::Write>(&self, f: &mut fmt::Formatter<W>) -> fmt::Result {
         match *self.0 {
             Step::New { direction, uid, .. } => {
@@ -58,6 +68,11 @@ impl fmt::Display for StepLine<'_> {
 pub struct NoteLine<'a>(pub &'a Note);
 
 impl fmt::Display for NoteLine<'_> {
+    ghost use Rattle.std.specs.Prelude.{Some};
+    ghost use Rattle.plan_lines.specs.Lines.{note_line};
+
+    ghost output = { λ line. Some (note_line line.0.now) };
+
     fn fmt<W: fmt::Write>(&self, f: &mut fmt::Formatter<W>) -> fmt::Result {
         match *self.0 {
             Note::Record { far, near, flags } => {
@@ -81,6 +96,11 @@ impl fmt::Display for NoteLine<'_> {
 pub struct UnfitLine(pub Side, pub Uid);
 
 impl fmt::Display for UnfitLine {
+    ghost use Rattle.std.specs.Prelude.{Some};
+    ghost use Rattle.plan_lines.specs.Lines.{unfit_line};
+
+    ghost output = { λ line. Some (unfit_line line.0 line.1) };
+
     fn fmt<W: fmt::Write>(&self, f: &mut fmt::Formatter<W>) -> fmt::Result {
         f.write_str("unfit ")?;
         f.write_str(self.0.as_str())?;
@@ -93,12 +113,19 @@ impl fmt::Display for UnfitLine {
 pub struct FlagsWord(pub Flags);
 
 impl fmt::Display for FlagsWord {
+    ghost use Rattle.std.specs.Prelude.{Some};
+    ghost use Rattle.mailcore.specs.Words.{flags_word};
+
+    ghost output = { λ word. Some (flags_word word.0) };
+
     fn fmt<W: fmt::Write>(&self, f: &mut fmt::Formatter<W>) -> fmt::Result {
         write_flags(f, self.0)
     }
 }
 
-fn write_flags<W: fmt::Write>(f: &mut fmt::Formatter<W>, flags: Flags) -> fmt::Result {
+fn write_flags<W: fmt::Write>(f: &mut fmt::Formatter<W>, flags: Flags) -> fmt::Result
+    ensures { WritesOnOk W.write_str_gives f.old result (flags_word flags) f.new }
+{
     if flags.is_empty() {
         return f.write_str("-");
     }
@@ -106,7 +133,9 @@ fn write_flags<W: fmt::Write>(f: &mut fmt::Formatter<W>, flags: Flags) -> fmt::R
 }
 
 /// Flags that are set or cleared, after the sign that says which, or nothing if there are none.
-fn write_change<W: fmt::Write>(f: &mut fmt::Formatter<W>, sign: &str, flags: Flags) -> fmt::Result {
+fn write_change<W: fmt::Write>(f: &mut fmt::Formatter<W>, sign: &str, flags: Flags) -> fmt::Result
+    ensures { WritesOnOk W.write_str_gives f.old result (change_text sign.now flags) f.new }
+{
     if flags.is_empty() {
         return Ok(());
     }
@@ -115,18 +144,24 @@ fn write_change<W: fmt::Write>(f: &mut fmt::Formatter<W>, sign: &str, flags: Fla
 }
 
 /// The numbers of a far and a near message, each after a space.
-fn write_pair<W: fmt::Write>(f: &mut fmt::Formatter<W>, far: u32, near: u32) -> fmt::Result {
+fn write_pair<W: fmt::Write>(f: &mut fmt::Formatter<W>, far: u32, near: u32) -> fmt::Result
+    ensures { WritesOnOk W.write_str_gives f.old result (pair_text far near) f.new }
+{
     write_number(f, far)?;
     write_number(f, near)
 }
 
 /// A number after a space.
-fn write_number<W: fmt::Write>(f: &mut fmt::Formatter<W>, number: u32) -> fmt::Result {
+fn write_number<W: fmt::Write>(f: &mut fmt::Formatter<W>, number: u32) -> fmt::Result
+    ensures { WritesOnOk W.write_str_gives f.old result (number_text number) f.new }
+{
     f.write_str(" ")?;
     f.write_str(Buffer::new().format(number))
 }
 
-fn write_letters<W: fmt::Write>(f: &mut fmt::Formatter<W>, flags: Flags) -> fmt::Result {
+fn write_letters<W: fmt::Write>(f: &mut fmt::Formatter<W>, flags: Flags) -> fmt::Result
+    ensures { WritesOnOk W.write_str_gives f.old result (letters_of flags) f.new }
+{
     for letter in flags.letters() {
         f.write_char(char::from(letter))?;
     }
