@@ -1,7 +1,8 @@
 //! How the answer of a run is reported.
 
-ghost use Rattle.std.specs.Prelude.{◌≡◌};
-ghost use Rattle.reports.specs.Answers.{answer_word};
+ghost use Rattle.std.specs.Prelude.{◌≡◌, ◌++◌, IfOk, OnOk, string_bytes};
+ghost use Rattle.std.specs.List.{flat_map};
+ghost use Rattle.reports.specs.Answers.{answer_of, answer_word, performed_in, performed_row, unfit_in, unfit_row};
 
 use crate::performed::PerformedLine;
 use mailcore::side::Side;
@@ -23,7 +24,9 @@ pub fn answer_word(pass: &Pass) -> &'static str
 }
 
 /// The steps that were performed.
-fn performed_in(pass: &Pass) -> &[Performed] {
+fn performed_in(pass: &Pass) -> &[Performed]
+    ensures { result.now ≡ performed_in pass.now }
+{
     match pass {
         Pass::Already => &[],
         Pass::Ran(performed, _) | Pass::Finished(performed) => performed,
@@ -31,7 +34,9 @@ fn performed_in(pass: &Pass) -> &[Performed] {
 }
 
 /// The messages that were skipped.
-fn unfit_in(pass: &Pass) -> &[(Side, Uid)] {
+fn unfit_in(pass: &Pass) -> &[(Side, Uid)]
+    ensures { result.now ≡ unfit_in pass.now }
+{
     match pass {
         Pass::Already | Pass::Finished(_) => &[],
         Pass::Ran(_, unfit) => unfit,
@@ -40,7 +45,9 @@ fn unfit_in(pass: &Pass) -> &[(Side, Uid)] {
 
 /// All lines of an answer, each with its end: those of the steps that were performed, those of the messages that are not fit to be
 /// copied, and the word of the answer. `AllocError`: memory ran out.
-pub fn answer_text(alloc: Global, pass: &Pass) -> Result<String, AllocError> {
+pub fn answer_text(alloc: Global, pass: &Pass) -> Result<String, AllocError>
+    ensures { IfOk result (λ text. string_bytes text ≡ answer_of pass.now) }
+{
     let mut text = String::new(alloc);
     match write_answer(&mut text, pass) {
         Ok(()) => Ok(text),
@@ -48,21 +55,28 @@ pub fn answer_text(alloc: Global, pass: &Pass) -> Result<String, AllocError> {
     }
 }
 
-fn write_answer(text: &mut String, pass: &Pass) -> Result<(), AllocError> {
+fn write_answer(text: &mut String, pass: &Pass) -> Result<(), AllocError>
+    ensures { OnOk result (string_bytes text.new ≡ string_bytes text.old ++ answer_of pass.now) }
+{
     write_performed(text, performed_in(pass))?;
     write_unfit(text, unfit_in(pass))?;
     writeln!(text, "{}", answer_word(pass))
 }
 
 /// Adds a line for each step.
-fn write_performed(text: &mut String, performed: &[Performed]) -> Result<(), AllocError> {
+fn write_performed(text: &mut String, performed: &[Performed]) -> Result<(), AllocError>
+    ensures { OnOk result (string_bytes text.new ≡ string_bytes text.old ++ flat_map performed_row performed.now) }
+{
     for one in performed {
         writeln!(text, "{}", PerformedLine(one))?;
     }
     Ok(())
 }
 
-fn write_unfit(text: &mut String, unfit: &[(Side, Uid)]) -> Result<(), AllocError> {
+/// Adds a line for each message that is not fit to be copied.
+fn write_unfit(text: &mut String, unfit: &[(Side, Uid)]) -> Result<(), AllocError>
+    ensures { OnOk result (string_bytes text.new ≡ string_bytes text.old ++ flat_map unfit_row unfit.now) }
+{
     for (side, uid) in unfit {
         writeln!(text, "{}", UnfitLine(*side, *uid))?;
     }

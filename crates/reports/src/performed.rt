@@ -10,6 +10,11 @@ use std::fmt;
 pub struct PerformedLine<'a>(pub &'a Performed);
 
 impl fmt::Display for PerformedLine<'_> {
+    ghost use Rattle.std.specs.Prelude.{Some};
+    ghost use Rattle.reports.specs.Answers.{performed_line};
+
+    ghost output = { λ line. Some (performed_line line.0.now) };
+
     fn fmt<W: fmt::Write>(&self, f: &mut fmt::Formatter<W>) -> fmt::Result {
         let step = &self.0.step;
         match self.0.result {
@@ -32,6 +37,11 @@ impl fmt::Display for PerformedLine<'_> {
 struct SourceLine<'a>(&'static str, &'a Step);
 
 impl fmt::Display for SourceLine<'_> {
+    ghost use Rattle.std.specs.Prelude.{Some};
+    ghost use Rattle.reports.specs.Answers.{source_text};
+
+    ghost output = { λ line. Some (source_text line.0.now line.1.now) };
+
     fn fmt<W: fmt::Write>(&self, f: &mut fmt::Formatter<W>) -> fmt::Result {
         let word = self.0;
         match *self.1 {
