@@ -1,5 +1,5 @@
 -- What is written where, of streams whose bytes are known.
-use Rattle.std.specs.Prelude.{◌≡◌, ℕ, ⊤, Bool, true, List, length, take, Option, None, Some, Result, MatchResult}
+use Rattle.std.specs.Prelude.{◌≡◌, ◌⊎◌, ℕ, ⊤, Bool, true, List, length, take, Option, None, Some, Result, MatchResult}
 use Rattle.std.specs.Io.KnownBytes.{Appends}
 use Rattle.std.specs.List.{flat_map}
 use Rattle.channels.specs.declared.notice.Notice.{Notice}
@@ -25,6 +25,10 @@ pub record HasNotices (old new : Option (List ℕ)) : Type 0 where
 -- nothing but notices was written to standard error, unless a fault was reported
 abbrev pub IsQuiet : (old new : Option (List ℕ)) → Verdict → Type 0
 IsQuiet old new verdict = verdict ≡ Clean → HasNotices old new
+
+-- these lines were printed, unless there was no memory for them: then nothing was, and a fault is reported
+abbrev pub IsPrinted : (text : List ℕ) → (old new : Option (List ℕ)) → Verdict → Type 0
+IsPrinted text old new verdict = Appends old new text ⊎ ((new ≡ old) × IsTold verdict)
 
 -- whether a write has failed so far, before a write and after it
 abbrev pub Notes : {T E : Type 0} → (before after : Bool) → Result T E → Type 0

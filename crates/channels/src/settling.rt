@@ -10,7 +10,8 @@ ghost use Rattle.channels.specs.Asks.{Asks, AsksIfClean, Settles, SettlesFound, 
 ghost use Rattle.channels.specs.Boxes.{Rises};
 ghost use Rattle.channels.specs.Courses.{FindsAbsence, Follows, Goes, InOrder, IsBoxAsked, IsChannelAsked, IsFoundAsked, IsNamedAsked, IsRunAsked, Makes, SoFar, asking_if, is_over};
 ghost use Rattle.channels.specs.Outcomes.{IsAbsence, IsAbsenceOf, IsToldOf, has_void, is_void, outcome_of, outcome_of_box_fault, outcome_of_pass};
-ghost use Rattle.channels.specs.Streams.{Extends, IsQuiet, Notes};
+ghost use Rattle.channels.specs.Streams.{Extends, IsPrinted, IsQuiet, Notes};
+ghost use Rattle.reports.specs.Answers.{answer_of};
 
 use crate::channel_box::{ChannelBox, ChannelStores};
 use crate::fault::BoxFault;
@@ -366,6 +367,7 @@ fn print_answer<S: Stores, O: Write, E: Write>(
     ensures quiet { IfOk result (IsQuiet (E.contents stores.old.err.now) (E.contents stores.new.err.now)) }
     ensures whole { OnOk result (Extends (O.contents stores.old.out.now) (O.contents stores.new.out.now)) }
     ensures failed { Notes false stores.new.write_failed result }
+    ensures text { IfOk result (IsPrinted (answer_of pass.now) (O.contents stores.old.out.now) (O.contents stores.new.out.now)) }
     ensures asks { Asks S.noted S.asked stores.old.stores stores.new.stores [] }
     ensures tells { IfOk result (IsToldOf (outcome_of_pass pass.now)) }
 {

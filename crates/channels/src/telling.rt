@@ -36,7 +36,8 @@ pub(crate) fn print_box<O: Write>(
 
 /// Prints the lines of an answer.
 pub(crate) fn print_text<O: Write>(out: &mut O, text: &str) -> io::Result<()>
-    ensures { OnOk result (Extends (O.contents out.old) (O.contents out.new)) }
+    ensures text { OnOk result (Appends (O.contents out.old) (O.contents out.new) text.now) }
+    ensures whole { OnOk result (Extends (O.contents out.old) (O.contents out.new)) }
 {
     out.write_all(text.as_bytes())?;
     out.flush()

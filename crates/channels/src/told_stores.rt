@@ -101,6 +101,7 @@ impl<'a, S: BoxLists, O: Write, E: Write> ToldStores<'a, S, O, E> {
     pub(crate) fn print_text(&mut self, text: &str) -> io::Result<()>
         ensures others { self.new ≡ record self.old { out = self.new.out; write_failed = self.new.write_failed } }
         ensures out { self.new.out.ghost_name ≡ self.old.out.ghost_name }
+        ensures text { OnOk result (Appends (O.contents self.old.out.now) (O.contents self.new.out.now) text.now) }
         ensures whole { OnOk result (Extends (O.contents self.old.out.now) (O.contents self.new.out.now)) }
         ensures failed { Notes self.old.write_failed self.new.write_failed result }
     {
