@@ -333,7 +333,6 @@ fn first_of(sides: Sides) -> Option<Side>
 }
 
 /// Reports which near files a run left out.
-#[tactic(auto, using(crate::proofs::StreamLemmas::stream_steps, crate::proofs::StreamLemmas::quiet_steps))]
 fn tell_left_out<S: Stores, O: Write, E: Write>(
     place: ChannelBox<'_>,
     stores: &mut ToldStores<'_, S, O, E>,
@@ -346,11 +345,33 @@ fn tell_left_out<S: Stores, O: Write, E: Write>(
     ensures asks { Asks S.noted S.asked stores.old.stores stores.new.stores [] }
     ensures goes_on { IfOk result (IsToldOf Done) }
 {
-    let mut verdict = Verdict::Clean;
-    for path in stores.left_out() {
-        verdict = verdict.and(stores.tell(place, &BoxFault::LeftOut(path))?);
+    let paths = stores.left_out();
+    tell_paths(place, paths, stores)
+}
+
+/// Reports these near files, which a run left out. Each is a fault.
+#[tactic(auto, using(crate::proofs::StreamLemmas::stream_steps, crate::proofs::StreamLemmas::quiet_steps))]
+fn tell_paths<S: Stores, O: Write, E: Write>(
+    place: ChannelBox<'_>,
+    paths: Vec<String>,
+    stores: &mut ToldStores<'_, S, O, E>,
+) -> io::Result<Verdict>
+    requires going { stores.old.write_failed ≡ false }
+    ensures out { stores.new.out ≡ stores.old.out }
+    ensures err { stores.new.err.ghost_name ≡ stores.old.err.ghost_name }
+    ensures quiet { IfOk result (IsQuiet (E.contents stores.old.err.now) (E.contents stores.new.err.now)) }
+    ensures failed { Notes false stores.new.write_failed result }
+    ensures asks { Asks S.noted S.asked stores.old.stores stores.new.stores [] }
+    ensures told { IfOk result (λ verdict. verdict ≡ Clean → paths.items ≡ []) }
+    ensures goes_on { IfOk result (IsToldOf Done) }
+{
+    if paths.is_empty() {
+        return Ok(Verdict::Clean);
     }
-    Ok(verdict)
+    for path in paths {
+        stores.tell(place, &BoxFault::LeftOut(path))?;
+    }
+    Ok(Verdict::Faulty)
 }
 
 /// Prints the answer of a run. A step that was void is a fault that the answer reports.

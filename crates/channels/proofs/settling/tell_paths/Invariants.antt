@@ -1,8 +1,5 @@
 use Rattle.std.specs.Prelude.{◌≡◌, false}
-use Rattle.channels.specs.Asked.{Done}
-use Rattle.channels.specs.Outcomes.{IsToldOf}
-use Rattle.channels.specs.Streams.{IsQuiet}
-use Rattle.channels.proofs.settling.tell_left_out.Given as goal
+use Rattle.channels.proofs.settling.tell_paths.Given as goal
 
 abbrev pub invariant-loop-path : goal.invariant-loop-path
 invariant-loop-path g l = record {
@@ -12,7 +9,5 @@ invariant-loop-path g l = record {
   asked : g.S.BoxLists.asked l.stores.stores.now ≡ g.S.BoxLists.asked l.initial.stores.stores.now;
   out : l.stores.out ≡ l.initial.stores.out;
   err : l.stores.err.ghost_name ≡ l.initial.stores.err.ghost_name;
-  quiet : IsQuiet (g.E.Write.contents l.initial.stores.err.now) (g.E.Write.contents l.stores.err.now) l.verdict;
-  goes_on : IsToldOf Done l.verdict;
   going : l.stores.write_failed ≡ false;
 }
