@@ -1,5 +1,5 @@
 -- How what is asked of the stores ends, and what is reported of it.
-use Rattle.std.specs.Prelude.{◌≡◌, ◌⊎◌, Bool, true, false, Option, None, option_map, Result, Ok, Err, if◌then◌else◌}
+use Rattle.std.specs.Prelude.{◌≡◌, ◌⊎◌, Bool, true, false, Option, None, Some, option_map, Result, Ok, Err, if◌then◌else◌}
 use Rattle.std.specs.List.{list_any}
 use Rattle.runner.specs.declared.pass.Pass.{Pass}
 use Rattle.runner.specs.declared.pass.Pass.TheVariants.{Already, Ran, Finished}
@@ -38,6 +38,11 @@ outcome_of_box_fault (Run fault) = Failed
 abbrev pub outcome_of : {T : Type 0} → Result T BoxFault → Outcome
 outcome_of (Ok answer) = Done
 outcome_of (Err fault) = outcome_of_box_fault fault
+
+-- what stopped a run is the fault that is reported of it, if it is known
+abbrev pub fault_of_stop : Option StopCause → BoxFault
+fault_of_stop None = Run fault.Stopped
+fault_of_stop (Some cause) = Stopped cause
 
 -- a message that was to be copied is not there any more, or not fit to be copied
 abbrev pub is_void_result : StepResult → Bool

@@ -2,7 +2,7 @@
 
 ghost use Rattle.std.specs.Prelude.{◌≡◌, true, IfSome};
 ghost use Rattle.channels.specs.Asked.{Failed, outcome_of_fault};
-ghost use Rattle.channels.specs.Outcomes.{is_stale, is_stale_cause, outcome_of_box_fault};
+ghost use Rattle.channels.specs.Outcomes.{fault_of_stop, is_stale, is_stale_cause, outcome_of_box_fault};
 
 use crate::stop_cause::StopCause;
 use crate::store_fault::{ServerFault, StoreFault};
@@ -58,6 +58,17 @@ pub(crate) enum GivingUp {
 }
 
 impl BoxFault {
+    /// What stopped a run, or that this is not known.
+    pub(crate) fn of_stop(cause: Option<StopCause>) -> BoxFault
+        ensures cause { result ≡ fault_of_stop cause }
+        ensures failed { outcome_of_box_fault result ≡ Failed }
+    {
+        match cause {
+            Some(cause) => BoxFault::Stopped(cause),
+            None => BoxFault::Run(RunFault::Stopped),
+        }
+    }
+
     /// Whether the plan of the run has become wrong: a message that it took to be removed is there, one that it is to expunge is not marked as
     /// deleted, or its keywords have other letters now. It is to be given up.
     pub(crate) fn is_stale(&self) -> bool

@@ -413,10 +413,7 @@ impl<S: Stores, O: Write, E: Write> ToldStores<'_, S, O, E> {
         ensures asks { Asks S.noted S.asked self.old.stores self.new.stores [] }
         ensures ends { outcome_of_box_fault result ≡ Failed }
     {
-        match self.stores.stop_cause() {
-            Some(cause) => BoxFault::Stopped(cause),
-            None => BoxFault::Run(RunFault::Stopped),
-        }
+        BoxFault::of_stop(self.stores.stop_cause())
     }
 
     /// Why a run ended over a sound state before this step.
