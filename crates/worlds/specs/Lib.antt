@@ -2,4 +2,5 @@ pub mod Admission
 pub mod Keywords
 pub mod Lines
 pub mod Trial
+pub mod WorldText
 pub mod Worlds

@@ -1,1 +1,2 @@
+pub mod FileTexts
 pub mod KeywordTexts

@@ -1,8 +1,12 @@
 //! How the text of a world is written (docs/FORMATS.md, "World").
 
-ghost use Rattle.std.specs.Prelude.{◌≡◌, ◌++◌, true, [], ◌∷◌, OnOk, string_bytes};
+ghost use Rattle.std.specs.Prelude.{◌≡◌, ◌++◌, true, [], ◌∷◌, OnOk, map, string_bytes};
+ghost use Rattle.std.specs.List.{flat_map};
 ghost use Rattle.mailcore.specs.KeywordNames.{is_keyword_letter, is_keyword_name};
 ghost use Rattle.worlds.specs.Keywords.{keyword_lines};
+ghost use Rattle.worlds.specs.WorldText.{mailbox_text, quoted, state_text, text_from_far, waiting_line};
+ghost use Rattle.worlds.specs.Worlds.{store_of, waiting_of, world_of};
+ghost use Rattle.written_worlds.specs.Written.{store_in, world_in};
 
 use mailcore::flags::Flags;
 use mailcore::keywords::{Keyword, Keywords};
@@ -23,7 +27,9 @@ pub fn write_world(text: &mut String, world: &World) -> Result<(), AllocError> {
 }
 
 /// Adds the text of a world from its line `far` on.
-pub fn write_from_far(text: &mut String, world: &World) -> Result<(), AllocError> {
+pub fn write_from_far(text: &mut String, world: &World) -> Result<(), AllocError>
+    ensures { OnOk result (string_bytes text.new ≡ string_bytes text.old ++ text_from_far (world_of world.now)) }
+{
     let parts = WrittenWorld {
         far: WrittenMailbox::of(&world.far),
         near: WrittenMailbox::of(&world.near),
@@ -46,7 +52,9 @@ pub struct WrittenMailbox<'a> {
 
 impl<'a> WrittenMailbox<'a> {
     /// This mailbox.
-    pub fn of(mailbox: &'a Mailbox) -> Self {
+    pub fn of(mailbox: &'a Mailbox) -> Self
+        ensures { store_in result ≡ store_of mailbox.now }
+    {
         WrittenMailbox {
             validity: mailbox.validity,
             next: mailbox.next,
@@ -69,13 +77,12 @@ pub struct WrittenWorld<'a> {
 }
 
 /// Adds the lines of a world from its line `far` on.
-pub fn write_parts(text: &mut String, parts: &WrittenWorld<'_>) -> Result<(), AllocError> {
+pub fn write_parts(text: &mut String, parts: &WrittenWorld<'_>) -> Result<(), AllocError>
+    ensures { OnOk result (string_bytes text.new ≡ string_bytes text.old ++ text_from_far (world_in parts.now)) }
+{
     write_mailbox(text, Side::Far, &parts.far)?;
     write_mailbox(text, Side::Near, &parts.near)?;
-    for file in parts.waiting {
-        write!(text, "w {} ", FlagsWord(file.flags))?;
-        write_bytes(text, &file.bytes)?;
-    }
+    write_waiting(text, parts.waiting)?;
     write_state(text, parts.state)?;
     text.push_str("end\n")
 }
@@ -142,7 +149,9 @@ fn write_mailbox(
     text: &mut String,
     side: Side,
     mailbox: &WrittenMailbox<'_>,
-) -> Result<(), AllocError> {
+) -> Result<(), AllocError>
+    ensures { OnOk result (string_bytes text.new ≡ string_bytes text.old ++ mailbox_text side (store_in mailbox.now)) }
+{
     let letter = match side {
         Side::Far => 'f',
         Side::Near => 'n',
@@ -156,14 +165,29 @@ fn write_mailbox(
     Ok(())
 }
 
+/// Adds the lines of the files that wait for a UID.
+fn write_waiting(text: &mut String, files: &[WaitingFile]) -> Result<(), AllocError>
+    ensures { OnOk result (string_bytes text.new ≡ string_bytes text.old ++ flat_map waiting_line (map waiting_of files.now)) }
+{
+    for file in files {
+        write!(text, "w {} ", FlagsWord(file.flags))?;
+        write_bytes(text, &file.bytes)?;
+    }
+    Ok(())
+}
+
 /// Adds the quoted text of bytes and ends the line.
-fn write_bytes(text: &mut String, bytes: &Octets) -> Result<(), AllocError> {
+fn write_bytes(text: &mut String, bytes: &Octets) -> Result<(), AllocError>
+    ensures { OnOk result (string_bytes text.new ≡ string_bytes text.old ++ quoted bytes.now ++ 10 ∷ []) }
+{
     text.push('"')?;
     push_escaped(text, bytes.as_slice())?;
     text.push_str("\"\n")
 }
 
-fn write_state(text: &mut String, state: &SyncState) -> Result<(), AllocError> {
+fn write_state(text: &mut String, state: &SyncState) -> Result<(), AllocError>
+    ensures { OnOk result (string_bytes text.new ≡ string_bytes text.old ++ state_text state.now) }
+{
     let (run, far, near) = (state.run, state.far_validity, state.near_validity);
     let (pulled, pushed) = (state.max_pulled, state.max_pushed);
     writeln!(text, "state {run} {far} {near} {pulled} {pushed}")?;
