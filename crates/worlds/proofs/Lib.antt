@@ -1,4 +1,5 @@
 pub mod AdmissionLemmas
 pub mod KeywordLines
 pub mod NamedLemmas
+pub mod TextLemmas
 pub mod WordLemmas

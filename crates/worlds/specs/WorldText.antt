@@ -44,12 +44,19 @@ waiting_line f = line_of (codes "w" ∷ waiting_words f)
 
 -- ---- the state
 
+abbrev pub state_words : SyncState → List (List ℕ)
+state_words s = decimal s.run ∷ decimal s.far_validity ∷ decimal s.near_validity ∷ decimal s.max_pulled ∷ decimal s.max_pushed ∷ []
+
 abbrev pub state_line : SyncState → List ℕ
-state_line s = line_of (codes "state" ∷ decimal s.run ∷ decimal s.far_validity ∷ decimal s.near_validity ∷ decimal s.max_pulled ∷ decimal s.max_pushed ∷ [])
+state_line s = line_of (codes "state" ∷ state_words s)
 
 -- 0 stands for a side that has vanished
+-- 0 stands for a side that has vanished
+abbrev pub entry_words : Entry → List (List ℕ)
+entry_words e = decimal (uid_of Far e) ∷ decimal (uid_of Near e) ∷ flags_word e.flags ∷ []
+
 abbrev pub entry_line : Entry → List ℕ
-entry_line e = line_of (codes "e" ∷ decimal (uid_of Far e) ∷ decimal (uid_of Near e) ∷ flags_word e.flags ∷ [])
+entry_line e = line_of (codes "e" ∷ entry_words e)
 
 abbrev pub state_text : SyncState → List ℕ
 state_text s = state_line s ++ flat_map entry_line s.entries

@@ -1,11 +1,14 @@
 //! The lines of the mailboxes of a world: `far` and `near`, `f`, `n` and `w`.
 
-ghost use Rattle.std.specs.Prelude.{◌≡◌, ◌+◌, ◌<◌, ◌≤◌, ◌^◌, ◌++◌, [], ◌∷◌, IfErr, IfOk, IfSome, IsErrOf, OnOk, map};
+ghost use Rattle.std.specs.Prelude.{◌≡◌, ◌+◌, ◌<◌, ◌≤◌, ◌^◌, ◌++◌, [], ◌∷◌, IfErr, IfOk, IfSome, IsErrOf, OnOk, decimal, map};
+ghost use Rattle.std.specs.List.{join_with_byte};
+ghost use Rattle.mailcore.specs.Words.{flags_word, side_word};
 ghost use Rattle.mailcore.specs.KeywordNames.{IsWithin};
 ghost use Rattle.worlds.specs.Lines.{IsOf, IsUpTo};
 ghost use Rattle.texts.specs.Lines.{line_count};
 ghost use Rattle.worlds.specs.Admission.{message_of};
-ghost use Rattle.worlds.specs.Worlds.{AreNamed, waiting_of};
+ghost use Rattle.worlds.specs.WorldText.{mailbox_text, message_word, message_words, quoted, waiting_words};
+ghost use Rattle.worlds.specs.Worlds.{AreNamed, store_of, waiting_of};
 
 use crate::fault::WorldFault;
 use crate::line::{pushed, take_line};
@@ -36,6 +39,7 @@ pub fn read_mailbox(
     keywords: &Keywords,
     lines: &mut Lines<'_>,
 ) -> Result<Mailbox, WorldFault>
+    ensures text { IfOk result (λ mailbox. lines.old.rest.now ≡ mailbox_text side (store_of mailbox) ++ lines.new.rest.now) }
     ensures named { IfOk result (λ mailbox. AreNamed keywords.now mailbox.messages []) }
     ensures count { line_count lines.new ≤ line_count lines.old }
     ensures fault { IfErr result (IsUpTo (line_count lines.old + 1)) }
@@ -53,7 +57,9 @@ pub fn read_mailbox(
 }
 
 /// How the line of a mailbox begins, and how those of its messages do.
-pub(crate) fn line_starts(side: Side) -> (&'static [u8], &'static [u8]) {
+pub(crate) fn line_starts(side: Side) -> (&'static [u8], &'static [u8])
+    ensures { (result.0.now ≡ side_word side ++ 32 ∷ []) × (result.1.now ≡ message_word side ++ 32 ∷ []) }
+{
     match side {
         Side::Far => (b"far ", b"f "),
         Side::Near => (b"near ", b"n "),
@@ -61,7 +67,10 @@ pub(crate) fn line_starts(side: Side) -> (&'static [u8], &'static [u8]) {
 }
 
 /// The UIDVALIDITY and the UIDNEXT of a mailbox.
-pub(crate) fn read_numbers(text: &[u8]) -> Option<(u32, u32)> {
+pub(crate) fn read_numbers(text: &[u8]) -> Option<(u32, u32)>
+    ensures words { IfSome result (λ numbers. text.now ≡ decimal numbers.0 ++ 32 ∷ decimal numbers.1) }
+    ensures positive { IfSome result (λ numbers. (0 < numbers.0) × (0 < numbers.1)) }
+{
     let (validity, next) = split_word(text)?;
     Some((read_positive(validity)?, read_positive(next)?))
 }
@@ -72,6 +81,7 @@ fn read_message(
     keywords: &Keywords,
     line: Line<'_>,
 ) -> Result<Message, WorldFault>
+    ensures words { IfOk result (λ message. line.entry.text.now ≡ join_with_byte 32 (message_words message)) }
     ensures named { IfOk result (λ message. IsWithin keywords.now message.flags) }
     ensures fault { IfErr result (IsOf line.entry.number) }
 {
@@ -94,7 +104,8 @@ pub(crate) fn split_message<'a>(
     text: &'a [u8],
     keywords: &Keywords,
 ) -> Option<(Uid, Flags, &'a [u8])>
-    ensures { IfSome result (λ parts. IsWithin keywords.now parts.1) }
+    ensures words { IfSome result (λ parts. text.now ≡ decimal parts.0 ++ 32 ∷ (flags_word parts.1 ++ 32 ∷ parts.2.now)) }
+    ensures within { IfSome result (λ parts. IsWithin keywords.now parts.1) }
 {
     let (uid, text) = split_word(text)?;
     let (flags, text) = split_word(text)?;
@@ -108,7 +119,8 @@ pub fn is_far(bytes: &[u8]) -> bool {
 
 /// The bytes whose escaped text stands between quotes, on this line.
 pub fn read_bytes(alloc: Global, text: &[u8], line: Line<'_>) -> Result<Vec<u8>, WorldFault>
-    ensures { IfErr result (IsOf line.entry.number) }
+    ensures bytes { IfOk result (λ bytes. text.now ≡ quoted bytes.items) }
+    ensures fault { IfErr result (IsOf line.entry.number) }
 {
     let mut bytes = Vec::new(alloc);
     read_bytes_into(&mut bytes, text, line)?;
@@ -121,7 +133,8 @@ pub(crate) fn read_bytes_into(
     text: &[u8],
     line: Line<'_>,
 ) -> Result<(), WorldFault>
-    ensures { IfErr result (IsOf line.entry.number) }
+    ensures bytes { OnOk result (text.now ≡ quoted bytes.new.items) }
+    ensures fault { IfErr result (IsOf line.entry.number) }
 {
     let [b'"', escaped @ .., b'"'] = text else {
         return Err(WorldFault::of(line));
@@ -162,6 +175,7 @@ fn read_waiting_file(
     keywords: &Keywords,
     line: Line<'_>,
 ) -> Result<WaitingFile, WorldFault>
+    ensures words { IfOk result (λ file. line.entry.text.now ≡ join_with_byte 32 (waiting_words (waiting_of file))) }
     ensures named { IfOk result (λ file. IsWithin keywords.now file.flags) }
     ensures fault { IfErr result (IsOf line.entry.number) }
 {
@@ -177,7 +191,8 @@ fn read_waiting_file(
 
 /// The flags of a waiting file, and the quoted text of its bytes.
 pub(crate) fn split_file<'a>(text: &'a [u8], keywords: &Keywords) -> Option<(Flags, &'a [u8])>
-    ensures { IfSome result (λ parts. IsWithin keywords.now parts.0) }
+    ensures words { IfSome result (λ parts. text.now ≡ flags_word parts.0 ++ 32 ∷ parts.1.now) }
+    ensures within { IfSome result (λ parts. IsWithin keywords.now parts.0) }
 {
     let (flags, text) = split_word(text)?;
     Some((read_named(flags, keywords)?, text))
