@@ -1,14 +1,18 @@
 -- Texts of lines, and one line more.
-use Rattle.std.proofs.Common.{◌≡◌, ℕ, List, [], ◌∷◌, ◌++◌, refl, sym, ap, ◌∙◌, append_assoc, append-nil}
-use Rattle.std.specs.Prelude.{decimal}
+use Rattle.std.proofs.Common.{◌≡◌, ℕ, List, [], ◌∷◌, ◌++◌, refl, sym, ap, subst, ◌∙◌, append_assoc, append-nil}
+use Rattle.std.specs.Prelude.{codes, decimal, map}
 use Rattle.std.specs.List.{flat_map, join_with_byte}
+use Rattle.std.proofs.lemmas.List.{map-append}
+use Rattle.mailcore.specs.declared.keywords.Keyword.{Keyword}
 use Rattle.mailcore.specs.declared.mailbox.Mailbox.{Mailbox}
 use Rattle.mailcore.specs.declared.mailbox.Message.{Message}
 use Rattle.mailcore.specs.declared.side.Side.{Side}
 use Rattle.mailcore.specs.Words.{side_word}
 use Rattle.texts.specs.Lines.{IsLine}
-use Rattle.worlds.specs.WorldText.{line_of, mailbox_text, message_line, message_word, message_words}
-use Rattle.worlds.specs.Worlds.{store_of}
+use Rattle.worlds.specs.declared.world.WaitingFile.{WaitingFile}
+use Rattle.worlds.specs.Keywords.{IsHead}
+use Rattle.worlds.specs.WorldText.{line_of, mailbox_text, message_line, message_word, message_words, waiting_line, waiting_words}
+use Rattle.worlds.specs.Worlds.{store_of, waiting_of}
 
 -- a line whose first word is known
 pub line_with : (word words start line behind text : List ℕ) → start ≡ word ++ 32 ∷ [] → IsLine start line behind text → line ≡ words
@@ -57,3 +61,26 @@ mailbox_more side old new m start line behind rest whole begins is words more v 
     so_far (line_with (message_word side) (join_with_byte 32 (message_words m)) start line behind rest begins is words) more
     ∙ ap (λ (k : ℕ). mailbox_text side (record { validity = k; next = old.next; messages = new.messages }) ++ behind) (sym v)
     ∙ ap (λ (k : ℕ). mailbox_text side (record { validity = new.validity; next = k; messages = new.messages }) ++ behind) (sym n)
+
+-- the line of one waiting file more
+pub files_more : (old new : List WaitingFile) (f : WaitingFile) (line behind rest whole : List ℕ) → IsLine (codes "w ") line behind rest → line ≡ join_with_byte 32 (waiting_words (waiting_of f))
+    → new ≡ old ++ f ∷ [] → whole ≡ flat_map waiting_line (map waiting_of old) ++ rest → whole ≡ flat_map waiting_line (map waiting_of new) ++ behind
+files_more old new f line behind rest whole is words more so_far =
+    one_more waiting_line [] (map waiting_of old) (map waiting_of new) (waiting_of f) whole rest behind so_far
+    (line_with (codes "w") (join_with_byte 32 (waiting_words (waiting_of f))) (codes "w ") line behind rest refl is words)
+    (ap (λ (fs : List WaitingFile). map waiting_of fs) more ∙ map-append waiting_of old (f ∷ []))
+
+-- ---- the whole
+
+pub world_begins : (keywords : List Keyword) (far near waits state end first second third last text : List ℕ) → IsHead keywords first text → first ≡ far ++ (near ++ (waits ++ second)) → second ≡ state ++ third → third ≡ end ++ last
+    → IsHead keywords ((far ++ (near ++ (waits ++ (state ++ end)))) ++ last) text
+world_begins keywords far near waits state end first second third last text head boxes recorded ends =
+    let is : first ≡ (far ++ (near ++ (waits ++ (state ++ end)))) ++ last =
+    boxes
+    ∙ ap (λ (l : List ℕ). far ++ (near ++ (waits ++ l))) (recorded ∙ ap (λ (l : List ℕ). state ++ l) ends)
+    ∙ simp append_assoc in
+    subst (λ (l : List ℕ). IsHead keywords l text) is head
+
+pub world_ends : (keywords : List Keyword) (lines rest text : List ℕ) → IsHead keywords (lines ++ rest) text → rest ≡ [] → IsHead keywords lines text
+world_ends keywords lines rest text head none =
+    subst (λ (l : List ℕ). IsHead keywords l text) (ap (λ (l : List ℕ). lines ++ l) none ∙ append-nil lines) head

@@ -1,10 +1,12 @@
 //! How a world is read from its text (docs/FORMATS.md, "World").
 
-ghost use Rattle.std.specs.Prelude.{◌≡◌, ◌≢◌, ◌+◌, ◌≤◌, ℕ, List, [], IfErr, IfOk, OnErr, map};
+ghost use Rattle.std.specs.Prelude.{◌≡◌, ◌≢◌, ◌+◌, ◌≤◌, ◌++◌, ◌∷◌, ℕ, List, [], IfErr, IfOk, OnErr, OnOk, codes, map};
+ghost use Rattle.std.specs.List.{flat_map};
 ghost use Rattle.worlds.specs.Keywords.{IsHead};
 ghost use Rattle.worlds.specs.Lines.{IsUpTo};
 ghost use Rattle.texts.specs.Lines.{line_count, line_ends};
-ghost use Rattle.worlds.specs.Worlds.{AreNamed, IsNamed, waiting_of, world_of};
+ghost use Rattle.worlds.specs.WorldText.{line_of, mailbox_text, waiting_line};
+ghost use Rattle.worlds.specs.Worlds.{AreNamed, IsNamed, store_of, waiting_of, world_of};
 
 use crate::fault::WorldFault;
 use crate::line::take_line;
@@ -32,6 +34,7 @@ pub fn read_world(alloc: Global, text: &[u8], waiting: Waiting) -> Result<World,
 
 /// That nothing follows the lines that are taken.
 pub(crate) fn read_nothing(lines: &Lines<'_>) -> Result<(), WorldFault>
+    ensures ok { OnOk result (lines.now.rest.now ≡ []) }
     ensures fault { IfErr result (λ fault. fault ≡ WorldFault.Line (lines.now.taken + 1)) }
     ensures more { OnErr result (lines.now.rest.now ≢ []) }
 {
@@ -73,6 +76,8 @@ fn read_mailboxes(
     keywords: &Keywords,
     lines: &mut Lines<'_>,
 ) -> Result<(Mailbox, Mailbox, Vec<WaitingFile>), WorldFault>
+    ensures text { waiting ≡ Waiting.Kept → IfOk result (λ parts. lines.old.rest.now ≡ mailbox_text Side.Far (store_of parts.0)
+        ++ (mailbox_text Side.Near (store_of parts.1) ++ (flat_map waiting_line (map waiting_of parts.2.items) ++ lines.new.rest.now))) }
     ensures far { IfOk result (λ parts. AreNamed keywords.now parts.0.messages []) }
     ensures near { IfOk result (λ parts. AreNamed keywords.now parts.1.messages (map waiting_of parts.2.items)) }
     ensures count { line_count lines.new ≤ line_count lines.old }
@@ -84,7 +89,9 @@ fn read_mailboxes(
     Ok((far, near, waiting))
 }
 
+/// The line `end`.
 pub(crate) fn read_end(lines: &mut Lines<'_>) -> Result<(), WorldFault>
+    ensures text { OnOk result (lines.old.rest.now ≡ line_of (codes "end" ∷ []) ++ lines.new.rest.now) }
     ensures count { line_count lines.new ≤ line_count lines.old }
     ensures fault { IfErr result (IsUpTo (line_count lines.old + 1)) }
 {

@@ -1,13 +1,13 @@
 //! The lines of the mailboxes of a world: `far` and `near`, `f`, `n` and `w`.
 
 ghost use Rattle.std.specs.Prelude.{◌≡◌, ◌+◌, ◌<◌, ◌≤◌, ◌^◌, ◌++◌, [], ◌∷◌, IfErr, IfOk, IfSome, IsErrOf, OnOk, decimal, map};
-ghost use Rattle.std.specs.List.{join_with_byte};
+ghost use Rattle.std.specs.List.{flat_map, join_with_byte};
 ghost use Rattle.mailcore.specs.Words.{flags_word, side_word};
 ghost use Rattle.mailcore.specs.KeywordNames.{IsWithin};
 ghost use Rattle.worlds.specs.Lines.{IsOf, IsUpTo};
 ghost use Rattle.texts.specs.Lines.{line_count};
 ghost use Rattle.worlds.specs.Admission.{message_of};
-ghost use Rattle.worlds.specs.WorldText.{mailbox_text, message_word, message_words, quoted, waiting_words};
+ghost use Rattle.worlds.specs.WorldText.{mailbox_text, message_word, message_words, quoted, waiting_line, waiting_words};
 ghost use Rattle.worlds.specs.Worlds.{AreNamed, store_of, waiting_of};
 
 use crate::fault::WorldFault;
@@ -154,6 +154,8 @@ pub fn read_waiting(
     keywords: &Keywords,
     lines: &mut Lines<'_>,
 ) -> Result<Vec<WaitingFile>, WorldFault>
+    ensures text { waiting ≡ Waiting.Kept → IfOk result (λ files.
+        (lines.old.rest.now ≡ flat_map waiting_line (map waiting_of files.items) ++ lines.new.rest.now) × (near.new ≡ near.old)) }
     ensures named { IfOk result (λ files. AreNamed keywords.now near.old.messages []
         → AreNamed keywords.now near.new.messages (map waiting_of files.items)) }
     ensures count { line_count lines.new ≤ line_count lines.old }
