@@ -8,6 +8,7 @@ pub mod Texts
 pub mod Scans
 pub mod Items
 pub mod Octets
+pub mod Nuls
 pub mod Loops
 pub mod Limits
 pub mod Lexed

@@ -1,56 +1,13 @@
--- The steps of the loops that read octets and items.
-use Rattle.std.proofs.Common.{◌≡◌, ℕ, suc, ◌+◌, ◌-◌, ◌<◌, ◌≤◌, Bool, true, false, cond, eqb, List, [], ◌∷◌, ◌++◌, length, get_or, take, drop, None, Result, Ok, Err, refl, sym, ap, ◌∙◌, append_assoc, arith}
+-- The steps of the loop that reads items.
+use Rattle.std.proofs.Common.{◌≡◌, ℕ, suc, ◌+◌, ◌-◌, ◌<◌, Bool, false, cond, eqb, List, [], ◌∷◌, ◌++◌, None, Result, Ok, Err, refl, sym, ap, ◌∙◌, arith}
 use Rattle.std.proofs.lemmas.Bool.{eq-eqb}
-use Rattle.std.proofs.lemmas.List.{append-nil, length-drop, take_more, drop_more, drop_all}
-use Rattle.wire_reader.specs.declared.stop.Kind.TheVariants.{Syntax}
 use Rattle.wire_reader.specs.declared.stop.Stop.{Stop}
-use Rattle.wire_reader.specs.declared.stop.Stop.TheVariants.{Ends, Fails}
-use Rattle.wire_reader.specs.Reading.{◌>>=◌, stuck}
-use Rattle.wire_reader.specs.Literal.{octets_at, with_byte}
+use Rattle.wire_reader.specs.declared.stop.Stop.TheVariants.{Ends}
+use Rattle.wire_reader.specs.Reading.{◌>>=◌}
 use Rattle.wire_reader.specs.Listing.{go_on, items_by}
 use Rattle.wire_reader.specs.Given.{Failed}
 use Rattle.wire_reader.specs.declared.stop.ReadError.{ReadError}
 use Rattle.wire_reader.specs.declared.stop.ReadError.TheVariants as errors
-
--- ---- octets
-
-abbrev pub with_front : List ℕ → Result (List ℕ × List ℕ) Stop → Result (List ℕ × List ℕ) Stop
-with_front front o = o >>= λ x. Ok (front ++ x.0, x.1)
-
-regroup : (front : List ℕ) (b : ℕ) (o : Result (List ℕ × List ℕ) Stop) → with_front front (with_byte b o) ≡ with_front (front ++ b ∷ []) o
-regroup front b (Ok x) = ap (λ (y : List ℕ). Ok (y, x.1)) (sym (append_assoc front (b ∷ []) x.0))
-regroup front b (Err s) = refl
-
-module _ (n : ℕ) (xs : List ℕ) (i : ℕ) (total : Result (List ℕ × List ℕ) Stop) where
-  abbrev pub SoFar : Type 0
-  SoFar = with_front (take i xs) (octets_at (n - i) (drop i xs)) ≡ total
-
-  one : i < n → i < length xs → octets_at (n - i) (drop i xs) ≡ (let b = get_or xs i 0 in let o : Result (List ℕ × List ℕ) Stop = cond (eqb b 0) (stuck (b ∷ drop (i + 1) xs)) (with_byte b (octets_at (n - (i + 1)) (drop (i + 1) xs))) in o)
-  one lt in' =
-      let k : n - i ≡ suc (n - (i + 1)) = omega arith in
-      ap (λ (m : ℕ). octets_at m (drop i xs)) k ∙ ap (octets_at (suc (n - (i + 1)))) (drop_more xs i 0 in')
-
-  pub octets_step : i < n → i < length xs → eqb (get_or xs i 0) 0 ≡ false → SoFar → with_front (take (i + 1) xs) (octets_at (n - (i + 1)) (drop (i + 1) xs)) ≡ total
-  octets_step lt in' ne e =
-      ap (λ (f : List ℕ). with_front f (octets_at (n - (i + 1)) (drop (i + 1) xs))) (take_more xs i 0 in')
-      ∙ sym (regroup (take i xs) (get_or xs i 0) (octets_at (n - (i + 1)) (drop (i + 1) xs)))
-      ∙ sym (ap (with_front (take i xs)) (one lt in' ∙ ap (λ (t : Bool). let b = get_or xs i 0 in let o : Result (List ℕ × List ℕ) Stop = cond t (stuck (b ∷ drop (i + 1) xs)) (with_byte b (octets_at (n - (i + 1)) (drop (i + 1) xs))) in o) ne))
-      ∙ e
-
-  pub octets_zero : i < n → i < length xs → eqb (get_or xs i 0) 0 ≡ true → SoFar → total ≡ Err (Fails Syntax (length xs - i))
-  octets_zero lt in' eq e =
-      sym e ∙ ap (with_front (take i xs)) (one lt in' ∙ ap (λ (t : Bool). let b = get_or xs i 0 in let o : Result (List ℕ × List ℕ) Stop = cond t (stuck (b ∷ drop (i + 1) xs)) (with_byte b (octets_at (n - (i + 1)) (drop (i + 1) xs))) in o) eq)
-      ∙ ap (λ (m : ℕ). Err (Fails Syntax m)) (let l : length (get_or xs i 0 ∷ drop (i + 1) xs) ≡ length xs - i = omega (arith, length-drop (i + 1) xs) in l)
-
-  pub octets_short : i < n → length xs ≤ i → SoFar → total ≡ Err (Ends None)
-  octets_short lt le e =
-      let k : n - i ≡ suc (n - (i + 1)) = omega arith in
-      sym e ∙ ap (with_front (take i xs)) (ap (λ (m : ℕ). octets_at m (drop i xs)) k ∙ ap (octets_at (suc (n - (i + 1)))) (drop_all i xs le))
-
-  pub octets_done : n ≤ i → SoFar → total ≡ Ok (take i xs, drop i xs)
-  octets_done le e =
-      let k : n - i ≡ 0 = omega arith in
-      sym e ∙ ap (with_front (take i xs)) (ap (λ (m : ℕ). octets_at m (drop i xs)) k) ∙ ap (λ (f : List ℕ). Ok (f, drop i xs)) (append-nil (take i xs))
 
 -- ---- items
 

@@ -6,7 +6,9 @@ ghost use Rattle.wire_reader.specs.Filled.{filled_literal_at};
 ghost use Rattle.wire_reader.specs.Given.{Gives};
 ghost use Rattle.wire_reader.specs.Literal.{Fits, step_of, length_step, plus_step, length_at, waits_for, octets_at, octets_of, literal_at};
 
+use crate::answer::front;
 use crate::punctuation::byte;
+use crate::scanner::to_nul;
 use crate::side::Side;
 use crate::stop::{Kind, Stop};
 
@@ -152,13 +154,12 @@ fn octets_of(side: Side, n: u32, plus: bool, bytes: &[u8]) -> Result<(&[u8], &[u
 fn octets(n: u32, bytes: &[u8]) -> Result<(&[u8], &[u8]), Stop>
     ensures { Gives (λ r. (r.0.now, r.1.now)) result (octets_at n bytes.now) }
 {
-    for i in 0..n as usize {
-        if i >= bytes.len() {
-            return Err(Stop::Ends(None));
-        }
-        if bytes[i] == 0 {
-            return Err(Stop::Fails(Kind::Syntax, bytes.len() - i));
-        }
+    let (count, is_nul) = to_nul(front(n as usize, bytes));
+    if is_nul {
+        return Err(Stop::Fails(Kind::Syntax, bytes.len() - count + 1));
+    }
+    if count < n as usize {
+        return Err(Stop::Ends(None));
     }
     Ok(bytes.split_at(n as usize))
 }

@@ -142,7 +142,7 @@ fn is_plain(b: u8) -> bool
 }
 
 /// The number of these octets up to and with the first that is 0, and that there is one; or the number of all.
-fn to_nul(octets: &[u8]) -> (usize, bool)
+pub(crate) fn to_nul(octets: &[u8]) -> (usize, bool)
     ensures { Nul octets.now result }
 {
     match memchr(0, octets) {
