@@ -35,6 +35,8 @@ const PIECE_BYTES: usize = 16_384;
 pub struct FaceLink<L> {
     link: L,
     face: Face,
+    /// Where the link writes what comes next, so that it need not be cleared each time. Before the first bytes are asked for it has none.
+    piece: Vec<u8>,
 }
 
 impl<L: Link> FaceLink<L> {
@@ -45,6 +47,7 @@ impl<L: Link> FaceLink<L> {
         FaceLink {
             link,
             face: Face::new(alloc, words),
+            piece: Vec::new(alloc),
         }
     }
 
@@ -69,9 +72,11 @@ impl<L: Link> FaceLink<L> {
         ensures changed { self.new.face.changed ≡ self.old.face.changed }
         ensures own_stops { self.new.face.stops ≡ self.old.face.stops }
     {
-        let mut piece = [0u8; PIECE_BYTES];
-        let count = self.link.recv(&mut piece)?;
-        match self.face.incoming.push(&piece[..count]) {
+        if self.piece.resize(PIECE_BYTES, 0).is_err() {
+            return Err(LinkFault::NoMemory);
+        }
+        let count = self.link.recv(&mut self.piece)?;
+        match self.face.incoming.push(&self.piece[..count]) {
             Ok(()) => Ok(count > 0),
             Err(_) => Err(LinkFault::NoMemory),
         }
