@@ -41,7 +41,7 @@ TALLY = Tally()
 class Boxes:
     """trial-imapd with so many messages, an empty folder, and the command that synchronises them."""
 
-    def __init__(self, top, count, program, is_isync, through_go_between):
+    def __init__(self, top, count, program, is_isync, through_go_between, channel=CHANNEL):
         self.count = count
         file = os.path.join(top, "bench.world")
         with open(file, "wb") as text:
@@ -53,7 +53,7 @@ class Boxes:
         configuration = os.path.join(top, "mbsyncrc")
         with open(configuration, "w", encoding="ascii") as text:
             port = self.between.port if self.between else self.server.port
-            text.write(configured(port, top, CHANNEL, ISYNC_ONLY if is_isync else ""))
+            text.write(configured(port, top, channel, ISYNC_ONLY if is_isync else ""))
         self.command = [program, "-c", configuration, "bench"]
 
     def change_flags(self, sign):

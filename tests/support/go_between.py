@@ -11,6 +11,7 @@ ASKED = [
     (re.compile(rb"^(\w+ UID FETCH \S+ )\(BODY\.PEEK\[\]\)\r\n$"), rb"\1(UID BODY.PEEK[])\r\n"),
     (re.compile(rb"^(\w+ APPEND \S+ )(\{\d+\+?\}\r\n)$"), rb"\1() \2"),
     (re.compile(rb"^(\w+) CLOSE\r\n$"), rb"\1 UID EXPUNGE 1:*\r\n"),
+    (re.compile(rb"^(\w+) CHECK\r\n$"), rb"\1 NOOP\r\n"),
 ]
 TOLD = (b"* CAPABILITY IMAP4rev2\r\n", b"* CAPABILITY IMAP4rev1 IMAP4rev2 UIDPLUS\r\n")
 LITERAL = re.compile(rb"\{(\d+)\+?\}\r\n$")

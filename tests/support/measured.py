@@ -9,6 +9,7 @@ import time
 from dataclasses import dataclass
 
 STRACE_ROW = re.compile(r"^ +[\d.]+ +[\d.]+ +\d+ +(\d+) +(?:\d+ +)?(\w+)$", re.MULTILINE)
+COLLECTED = re.compile(r"Collected : (\d+)$", re.MULTILINE)
 PEAK_ROW = re.compile(r"^VmHWM:\s+(\d+) kB$", re.MULTILINE)
 
 
@@ -59,3 +60,13 @@ def system_calls(command):
         if done.returncode != 0:
             return None
         return {name: int(count) for count, name in STRACE_ROW.findall(table.read()) if name != "total"}
+
+
+def instructions(command):
+    """How many instructions a run takes in the program and its libraries, or none where they cannot be counted."""
+    if shutil.which("valgrind") is None:
+        return None
+    counting = ["valgrind", "--tool=callgrind", "--callgrind-out-file=/dev/null"]
+    done = subprocess.run([*counting, *command], stdin=subprocess.DEVNULL, capture_output=True, text=True, errors="replace", check=False)
+    found = COLLECTED.search(done.stderr)
+    return int(found[1]) if done.returncode == 0 and found else None
