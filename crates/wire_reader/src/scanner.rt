@@ -7,7 +7,7 @@ ghost use Rattle.wire_reader.specs.Advancing.{Advances, Nul, is_plain};
 
 use crate::answer::front;
 use crate::lexical::{Phase, is_in, next};
-use memchr::memchr;
+use memchr::{memchr, memchr2};
 
 /// How far a line has been scanned.
 ///
@@ -128,17 +128,10 @@ fn plain_length(bytes: &[u8]) -> usize
     ensures within { result ≤ length bytes.now }
     ensures plain { All (λ b. is_plain b ≡ true) (take result bytes.now) }
 {
-    bytes
-        .iter()
-        .position(|&b| !is_plain(b))
-        .unwrap_or(bytes.len())
-}
-
-/// Whether a byte outside literals is no LF and begins no length of one.
-fn is_plain(b: u8) -> bool
-    ensures { result ≡ is_plain b }
-{
-    b != b'\n' && b != b'{'
+    match memchr2(b'\n', b'{', bytes) {
+        Some(at) => at,
+        None => bytes.len(),
+    }
 }
 
 /// The number of these octets up to and with the first that is 0, and that there is one; or the number of all.
