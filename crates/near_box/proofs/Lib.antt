@@ -24,3 +24,4 @@ pub mod SortingLemmas
 pub mod SurveyLemmas
 pub mod SurveyedLemmas
 pub mod UidLemmas
+pub mod WaitingLemmas

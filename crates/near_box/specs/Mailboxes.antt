@@ -61,6 +61,10 @@ waiting_files files = sorted is_before (filter (λ file. is_waiting file.name) f
 abbrev pub waiting_of : List Keyword → File → Waiting
 waiting_of keywords file = record { flags = flags_by_name keywords file.name; bytes = file.bytes }
 
+-- a file with these bytes and flags
+abbrev pub waiting_with : List ℕ → ℕ → Waiting
+waiting_with bytes flags = record { flags = flags; bytes = bytes }
+
 -- ---- the meta file
 
 abbrev pub first_meta : (fresh : ℕ) → Meta

@@ -12,6 +12,7 @@ mod opening;
 mod read_fault;
 mod reading;
 mod survey;
+mod waiting;
 
 pub use crate::near_box::NearBox;
 pub use crate::near_fault::NearFault;

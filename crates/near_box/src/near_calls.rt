@@ -56,7 +56,14 @@ pub fn place_of(entries: &[Entry], uid: Uid) -> Option<usize>
 pub fn flags_of(entry: &Entry, keywords: &Keywords) -> Flags
     ensures { result ≡ flags_by_name keywords.now entry.now.name }
 {
-    flags_in(letters_of(entry)).kept(keywords)
+    named_flags(entry.name.as_slice(), keywords)
+}
+
+/// The flags of a file of this name: those of its letters that have a name in IMAP.
+pub fn named_flags(name: &[u8], keywords: &Keywords) -> Flags
+    ensures { result ≡ flags_by_name keywords.now name.now }
+{
+    flags_in(letters_in(name)).kept(keywords)
 }
 
 /// Whether a message is there and marked as deleted.
@@ -71,11 +78,11 @@ pub fn is_deleted(entries: &[Entry], uid: Uid, keywords: &Keywords) -> bool
     }
 }
 
-/// The letters in the name of a message's file.
-fn letters_of(entry: &Entry) -> &[u8]
-    ensures { result.now ≡ letters_by_name entry.now.name }
+/// The letters in the name of a file.
+fn letters_in(name: &[u8]) -> &[u8]
+    ensures { result.now ≡ letters_by_name name.now }
 {
-    match read_name(entry.name.as_slice()) {
+    match read_name(name) {
         Some(name) => name.letters.unwrap_or(b""),
         None => b"",
     }
