@@ -1,6 +1,7 @@
 //! The near mailbox of a run.
 
-ghost use Rattle.std.specs.Prelude.{◌≡◌, ◌+◌, true, false, length, IfErr, IfOk, IsErrOf, OnOk};
+ghost use Rattle.std.specs.Prelude.{◌≡◌, ◌+◌, true, false, length, slice_get, IfErr, IfOk, IsErrOf, OnOk};
+ghost use Rattle.std.specs.Option.{option_map};
 ghost use Rattle.std.specs.Int.NonZero.{non_zero_u32_get};
 ghost use Rattle.mailbox.specs.FaultNumbers.{NEAR_UIDS_EXHAUSTED};
 
@@ -32,7 +33,7 @@ pub struct NearSide<F: Folder> {
 }
 
 impl<F: Folder> NearSide<F> {
-    ghost use Rattle.near_box.specs.Mailboxes.{near_of};
+    ghost use Rattle.near_box.specs.Mailboxes.{near_of, waiting_with};
     ghost use Rattle.near_side.specs.NearSides.{seen_of};
 
     /// The mailbox of this folder, closed. Its UIDVALIDITY is `fresh` where the folder has no meta file. By the map letters of file names
@@ -50,6 +51,33 @@ impl<F: Folder> NearSide<F> {
             fresh,
             is_open: false,
         }
+    }
+
+    /// How many files wait for a UID, where the mailbox is open.
+    pub fn waiting_count(&self) -> usize
+        ensures { F.is_honest ≡ true → self.now.is_open ≡ true → (seen_of self.now).is_broken ≡ false
+            → result ≡ length (seen_of self.now).stored.waiting }
+    {
+        self.near.waiting_count()
+    }
+
+    /// Reads the file that waits at this place, counted from 0 in the order in which `admit` gives UIDs: its bytes, which `waiting_body`
+    /// then lends, and its flags. None: no file waits there. It stays waiting.
+    pub fn read_waiting(&mut self, place: usize) -> Result<Option<Flags>, BoxFault>
+        ensures file { F.is_honest ≡ true → IfOk result (λ flags. slice_get (seen_of self.old).stored.waiting place
+            ≡ option_map (waiting_with self.new.near.body.items) flags) }
+        ensures keeps { F.is_honest ≡ true → (seen_of self.new).stored ≡ (seen_of self.old).stored }
+        ensures open { self.new.is_open ≡ self.old.is_open }
+        ensures whole { OnOk result ((seen_of self.new).is_broken ≡ false) }
+    {
+        told_by(self.near.read_waiting(place))
+    }
+
+    /// The bytes that `read_waiting` read last.
+    pub fn waiting_body(&self) -> &[u8]
+        ensures { result.now ≡ self.now.near.body.items }
+    {
+        self.near.body()
     }
 
     /// Gives the folder back, without taking memory.
