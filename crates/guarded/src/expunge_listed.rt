@@ -32,7 +32,7 @@ pub(crate) fn expunge_listed<O: Outside, G: Guard>(
     ensures call { Changes {T = Unit {0}} (O.honest outside.new) (Arrives O.ours O.alone) (λ _. Turns side uid (removed uid))
         (Names side uid) (O.seen outside.old) (O.seen outside.new) result }
 {
-    let listing = outside.list_far()?;
+    let listing = outside.look_far()?;
     if guard.may_remove(&listing) {
         outside.expunge(side, uid)
     } else {

@@ -188,8 +188,16 @@ impl<O: Outside + FarNext, G: Guard> Outside for GuardedOutside<O, G> {
         self.outside.list_far()
     }
 
+    fn look_far(&mut self) -> Result<Listing, OutsideFault> {
+        self.outside.look_far()
+    }
+
     fn list_near(&mut self, spared: &Spared) -> Result<Listing, OutsideFault> {
         self.outside.list_near(spared)
+    }
+
+    fn look_near(&mut self, spared: &Spared) -> Result<Listing, OutsideFault> {
+        self.outside.look_near(spared)
     }
 
     fn find_mark(
@@ -216,7 +224,7 @@ impl<O: Outside + FarNext, G: Guard> Outside for GuardedOutside<O, G> {
             (Carried::Absent, Direction::Pull) if !self.is_gone(uid) => {}
             (carried, _) => return Ok(carried),
         }
-        let listing = self.outside.list_far()?;
+        let listing = self.outside.look_far()?;
         let carried = self.outside.carry(direction, uid, mark, flags)?;
         if carried == Carried::Absent && is_listed(&listing, uid) {
             self.guard.withheld(uid);

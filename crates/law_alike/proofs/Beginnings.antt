@@ -1,11 +1,11 @@
 -- A run that begins with the world that a device holds.
-use Rattle.std.proofs.Common.{◌≡◌, ◌<◌, ◌≤◌, ◌^◌, ◌++◌, ◌⊎◌, inl, inr, refl, sym, subst, ℕ, Bool, List, All, map, arith}
+use Rattle.std.proofs.Common.{◌<◌, ◌≤◌, ◌^◌, ◌++◌, inl, inr, refl, sym, subst, ℕ, Bool, List, map, arith}
 use Rattle.std.proofs.lemmas.List.Elements.{All-append, All-weaker}
 use Rattle.std.proofs.lemmas.List.Sorted.{All-permutation}
 use Rattle.mailcore.specs.declared.mailbox.Message.{Message}
 use Rattle.mailcore.specs.declared.side.Side.TheVariants.{Far, Near}
 use Rattle.mailcore.specs.FlagSet.{FLAGS}
-use Rattle.mailcore.proofs.RiseLemmas.{rise-ends, rise-least}
+use Rattle.mailcore.proofs.RiseLemmas.{rise-ends}
 use Rattle.rules.specs.declared.entry.Entry.{Entry}
 use Rattle.rules.specs.declared.state.SyncState.{SyncState}
 use Rattle.rules.specs.Entries.{uid_of}
@@ -31,6 +31,7 @@ world_is_unplanned ours alone w options d held sound = record {
   below = opening_names w sound;
   grows = subst (λ (now : World). Grows alone w now) (sym held.world) (grows_none alone w sound.world.in_order);
   named = held.unnamed;
+  unlisted = refl;
 }
 
 -- ---- others add messages

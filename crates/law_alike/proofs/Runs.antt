@@ -94,6 +94,7 @@ done_is_unplanned ours alone opening d options over order =
       below = record { pulled = b.pulled; pushed = b.pushed; far = b.far; near = b.near };
       grows = grows_none alone (world_at d x.state) order;
       named = refl;
+      unlisted = refl;
     }
 
 -- the entries of a state that the files hold are pairs

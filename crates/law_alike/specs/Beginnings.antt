@@ -1,5 +1,5 @@
 -- A run that begins with the world that a device holds, in a law that a function of `src/lib.rt` shows.
-use Rattle.std.specs.Prelude.{◌≡◌, ◌<◌, ◌+◌, ◌^◌, ℕ, Bool, List, []}
+use Rattle.std.specs.Prelude.{◌≡◌, ◌<◌, ◌+◌, ◌^◌, ℕ, Bool, List, [], None}
 use Rattle.rules.specs.declared.options.Options.{Options}
 use Rattle.rules.specs.declared.state.SyncState.{SyncState}
 use Rattle.rules.specs.Opening.{IsOpening}
@@ -24,7 +24,7 @@ pub record Begins (w : World) (d : Device) : Type 0 where
 
 -- the opening of a run that begins with this world: the options of the call are those of its plan
 abbrev pub opening_of : (ours : List ℕ → Bool) (alone : Bool) → World → Options → Opening ours alone
-opening_of ours alone w options = record { world = w; options = options; called = options; named = [] }
+opening_of ours alone w options = record { world = w; options = options; called = options; named = []; listed = None }
 
 -- such a run has no plan yet
 abbrev pub WorldIsUnplanned : Type 0

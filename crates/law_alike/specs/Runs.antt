@@ -1,5 +1,5 @@
 -- What being underway says of a device, in laws that the functions of `src/lib.rt` show.
-use Rattle.std.specs.Prelude.{◌≡◌, ℕ, Bool, true, List}
+use Rattle.std.specs.Prelude.{◌≡◌, ℕ, Bool, true, List, None}
 use Rattle.rules.specs.declared.options.Options.{Options}
 use Rattle.rules.specs.declared.state.SyncState.{SyncState}
 use Rattle.rules.specs.Opening.{IsOpening}
@@ -32,7 +32,7 @@ PlannedOrNot =
 
 -- the world that a device holds with this state, and what calls have named on it, as the opening of a run under these options
 abbrev pub next_opening : (ours : List ℕ → Bool) (alone : Bool) → Device → SyncState → Options → Opening ours alone
-next_opening ours alone d state options = record { world = world_at d state; options = options; called = options; named = d.named }
+next_opening ours alone d state options = record { world = world_at d state; options = options; called = options; named = d.named; listed = None }
 
 -- Where a run is done, the next one has no plan yet: it begins with the world that the device holds. The messages that others may have
 -- added stand in order, as those of each mailbox.

@@ -1,5 +1,5 @@
 -- What of an outside has been opened, and what its calls ask of that.
-use Rattle.std.specs.Prelude.{◌≡◌, ℕ, Bool, true, Option, None, Some}
+use Rattle.std.specs.Prelude.{◌≡◌, ℕ, Bool, true, List, [], ◌∷◌, Option, None, Some}
 use Rattle.mailcore.specs.declared.side.Side.{Side}
 use Rattle.mailcore.specs.declared.side.Side.TheVariants.{Far, Near}
 use Rattle.rules.specs.declared.plan.Plan.{Plan}
@@ -15,12 +15,13 @@ use Rattle.book.specs.GivingUp.{LeftOf}
 use Rattle.book.specs.LostSides.{Lost}
 use Rattle.outside.specs.Devices.{Device}
 
--- what was read of the shelf, and which boxes are open
+-- what was read of the shelf, which boxes are open, and which device each listing of a run has shown, the last first
 pub record Opened : Type 0 where
   pub state : SyncState
   pub pending : Pending
   pub far : Bool
   pub near : Bool
+  pub listed : List Device
 
 -- ---- what it says
 
@@ -61,12 +62,26 @@ with_box side None = None
 with_box Far (Some o) = Some (record o { far = true })
 with_box Near (Some o) = Some (record o { near = true })
 
+-- a listing of the far mailbox shows it as it stands, under the next UID that it reports
+abbrev pub shown_far : (next : ℕ) → Device → Device
+shown_far next d = record d { far = record d.far { next = next } }
+
+-- with a listing that has shown this device
+abbrev pub with_listing : Device → Option Opened → Option Opened
+with_listing d None = None
+with_listing d (Some o) = Some (record o { listed = d ∷ o.listed })
+
+abbrev pub listed_of : Option Opened → List Device
+listed_of None = []
+listed_of (Some o) = o.listed
+
 -- the state that the journal makes of the one before, and no journal
 pub record IsCommitted (old new : Opened) : Type 0 where
   pub made : Makes old.pending old.state new.state
   pub pending : new.pending ≡ Missing
   pub far : new.far ≡ old.far
   pub near : new.near ≡ old.near
+  pub listed : new.listed ≡ old.listed
 
 abbrev pub AreCommitted : (old new : Option Opened) → Type 0
 AreCommitted None new = ⊥

@@ -1,6 +1,6 @@
 //! All that a run calls: the calls of both boxes and of the book.
 
-ghost use Rattle.std.specs.Prelude.{◌≡◌, ℕ, List, ◌∷◌, [], Bool, Option, None, Some, Ok, IfOk, OnOk};
+ghost use Rattle.std.specs.Prelude.{◌≡◌, ℕ, List, ◌∷◌, [], Bool, Option, None, Some, Ok, IfOk, OnErr, OnOk};
 ghost use Rattle.std.specs.Option.{option_map};
 
 use crate::fault::OutsideFault;
@@ -45,7 +45,7 @@ pub trait Outside {
     ghost use Rattle.outside.specs.Arrivals.{Arrives};
     ghost use Rattle.outside.specs.Devices.{box};
     ghost use Rattle.outside.specs.Calls.{Call, Changes, FromBook, FromBox, FromOpening, FromShelf, LeavesBy, Opens, Reads, Seen, Writes, opened_again, stopped};
-    ghost use Rattle.outside.specs.Opened.{IsBook, IsHeld, IsOpen, IsRead, Opened, AreCommitted, AreGivenUp, TakesCommit, TakesDiscard, TakesGivingUp, TakesLog, TakesPlan, journal_of, state_of, turned, with_box};
+    ghost use Rattle.outside.specs.Opened.{IsBook, IsHeld, IsOpen, IsRead, Opened, AreCommitted, AreGivenUp, TakesCommit, TakesDiscard, TakesGivingUp, TakesLog, TakesPlan, journal_of, shown_far, state_of, turned, with_box, with_listing};
     ghost use Rattle.outside.specs.BookCalls.{FromLog, LeavesUnread, OfBook, ReadsBook};
     ghost use Rattle.mailbox.specs.Operations.{HasNumbers, ListsWithin, removed};
     ghost use Rattle.outside.specs.BoxCalls.{Admits, AdmitsPart, Carry, ListsFar, ListsNear, Names, SetsAside, Turns, copies_made};
@@ -66,7 +66,7 @@ pub trait Outside {
     /// The device, whether a call has failed since it was opened, what was counted, and how the device was each time it was opened again.
     ghost seen: { Self → Seen };
 
-    /// What was read of the shelf, once it was, and which boxes are open.
+    /// What was read of the shelf, once it was, which boxes are open, and which devices were listed.
     ghost opened: { Self → Option Opened };
 
     /// Reads the shelf. `BadState` and `BadJournal`: its files hold no book, and this is the first line that shows it.
@@ -184,6 +184,18 @@ pub trait Outside {
         requires is_open { IsOpen Side.Far (opened self.old) }
         ensures was_honest { honest self.new → honest self.old }
         ensures keywords { keywords self.new ≡ keywords self.old }
+        ensures opened { IfOk result (λ listing. opened self.new ≡ with_listing (shown_far listing.next (seen self.new).device) (opened self.old)) }
+        ensures unlisted { OnErr result (opened self.new ≡ opened self.old) }
+        ensures numbers { IfOk result HasNumbers }
+        ensures within { honest self.new → IfOk result (ListsWithin (keywords self.old)) }
+        ensures call { Opens (honest self.new) (Arrives ours alone) (ListsFar alone (seen self.old).device.far.next) (seen self.old)
+            (seen self.new) result };
+
+    /// The same for who looks after a run: this is no listing of the run.
+    fn look_far(&mut self) -> Result<Listing, OutsideFault>
+        requires is_open { IsOpen Side.Far (opened self.old) }
+        ensures was_honest { honest self.new → honest self.old }
+        ensures keywords { keywords self.new ≡ keywords self.old }
         ensures opened { opened self.new ≡ opened self.old }
         ensures numbers { IfOk result HasNumbers }
         ensures within { honest self.new → IfOk result (ListsWithin (keywords self.old)) }
@@ -192,6 +204,17 @@ pub trait Outside {
 
     /// What the near mailbox lists. Messages that are spared are said to be fit, and are not read.
     fn list_near(&mut self, spared: &Spared) -> Result<Listing, OutsideFault>
+        requires is_open { IsOpen Side.Near (opened self.old) }
+        ensures was_honest { honest self.new → honest self.old }
+        ensures keywords { keywords self.new ≡ keywords self.old }
+        ensures opened { OnOk result (opened self.new ≡ with_listing (seen self.new).device (opened self.old)) }
+        ensures unlisted { OnErr result (opened self.new ≡ opened self.old) }
+        ensures numbers { IfOk result HasNumbers }
+        ensures within { honest self.new → IfOk result (ListsWithin (keywords self.old)) }
+        ensures call { Opens (honest self.new) (Arrives ours alone) (ListsNear (spares spared.now)) (seen self.old) (seen self.new) result };
+
+    /// The same for who looks after a run: this is no listing of the run.
+    fn look_near(&mut self, spared: &Spared) -> Result<Listing, OutsideFault>
         requires is_open { IsOpen Side.Near (opened self.old) }
         ensures was_honest { honest self.new → honest self.old }
         ensures keywords { keywords self.new ≡ keywords self.old }

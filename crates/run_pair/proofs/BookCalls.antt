@@ -41,66 +41,66 @@ use Rattle.run_pair.proofs.Ending.{done_call, failed_call, tallied, tally}
 
 -- ---- what was read
 
-pub is_read : (f n : Bool) (k : Option Kept) → opened.IsRead (opened_with f n k) → IsRead k
-is_read f n None h = h
-is_read f n (Some k) h = h
+pub is_read : (f n : Bool) (l : List Device) (k : Option Kept) → opened.IsRead (opened_with f n l k) → IsRead k
+is_read f n l None h = h
+is_read f n l (Some k) h = h
 
-pub discard_read : (f n : Bool) (k : Option Kept) → opened.TakesDiscard (opened_with f n k) → IsRead k
-discard_read f n None h = h
-discard_read f n (Some k) h = tt
+pub discard_read : (f n : Bool) (l : List Device) (k : Option Kept) → opened.TakesDiscard (opened_with f n l k) → IsRead k
+discard_read f n l None h = h
+discard_read f n l (Some k) h = tt
 
-pub takes_plan : (f n : Bool) (k : Option Kept) (plan : Plan) → opened.TakesPlan (opened_with f n k) plan → TakesPlan k plan
-takes_plan f n None plan h = h
-takes_plan f n (Some k) plan h = h
+pub takes_plan : (f n : Bool) (l : List Device) (k : Option Kept) (plan : Plan) → opened.TakesPlan (opened_with f n l k) plan → TakesPlan k plan
+takes_plan f n l None plan h = h
+takes_plan f n l (Some k) plan h = h
 
-pub takes_log : (f n : Bool) (k : Option Kept) (step : ℕ) (logged : Logged) → opened.TakesLog (opened_with f n k) step logged → TakesLog k step logged
-takes_log f n None step logged h = h
-takes_log f n (Some k) step logged h = h
+pub takes_log : (f n : Bool) (l : List Device) (k : Option Kept) (step : ℕ) (logged : Logged) → opened.TakesLog (opened_with f n l k) step logged → TakesLog k step logged
+takes_log f n l None step logged h = h
+takes_log f n l (Some k) step logged h = h
 
-pub takes_commit : (f n : Bool) (k : Option Kept) → opened.TakesCommit (opened_with f n k) → TakesCommit k
-takes_commit f n None h = h
-takes_commit f n (Some k) h = h
+pub takes_commit : (f n : Bool) (l : List Device) (k : Option Kept) → opened.TakesCommit (opened_with f n l k) → TakesCommit k
+takes_commit f n l None h = h
+takes_commit f n l (Some k) h = h
 
-pub takes_giving_up : (f n : Bool) (k : Option Kept) → opened.TakesGivingUp (opened_with f n k) → TakesGivingUp k
-takes_giving_up f n None h = h
-takes_giving_up f n (Some k) h = h
+pub takes_giving_up : (f n : Bool) (l : List Device) (k : Option Kept) → opened.TakesGivingUp (opened_with f n l k) → TakesGivingUp k
+takes_giving_up f n l None h = h
+takes_giving_up f n l (Some k) h = h
 
-pub is_book : (f n : Bool) (k : Option Kept) → IsBook k → opened.IsBook (opened_with f n k)
-is_book f n None h = h
-is_book f n (Some k) h = h
+pub is_book : (f n : Bool) (l : List Device) (k : Option Kept) → IsBook k → opened.IsBook (opened_with f n l k)
+is_book f n l None h = h
+is_book f n l (Some k) h = h
 
-pub is_held : (f n : Bool) (k : Option Kept) (d : Device) → IsHeld k d.files → opened.IsHeld (opened_with f n k) d
-is_held f n None d h = h
-is_held f n (Some k) d h = h
+pub is_held : (f n : Bool) (l : List Device) (k : Option Kept) (d : Device) → IsHeld k d.files → opened.IsHeld (opened_with f n l k) d
+is_held f n l None d h = h
+is_held f n l (Some k) d h = h
 
-pub state_is : (f n : Bool) (k : Option Kept) (s : SyncState) → state_of k ≡ Some s → opened.state_of (opened_with f n k) ≡ Some s
-state_is f n None s h = h
-state_is f n (Some k) s h = h
+pub state_is : (f n : Bool) (l : List Device) (k : Option Kept) (s : SyncState) → state_of k ≡ Some s → opened.state_of (opened_with f n l k) ≡ Some s
+state_is f n l None s h = h
+state_is f n l (Some k) s h = h
 
-pub journal_is : (f n : Bool) (k : Option Kept) → journal_of k ≡ opened.journal_of (opened_with f n k)
-journal_is f n None = refl
-journal_is f n (Some k) = refl
+pub journal_is : (f n : Bool) (l : List Device) (k : Option Kept) → journal_of k ≡ opened.journal_of (opened_with f n l k)
+journal_is f n l None = refl
+journal_is f n l (Some k) = refl
 
-pub is_turned : (f n : Bool) (change : Pending → Pending) (k k' : Option Kept) → k' ≡ turned change k → opened_with f n k' ≡ opened.turned change (opened_with f n k)
-is_turned f n change None k' h = ap (opened_with f n) h
-is_turned f n change (Some k) k' h = ap (opened_with f n) h
+pub is_turned : (f n : Bool) (l : List Device) (change : Pending → Pending) (k k' : Option Kept) → k' ≡ turned change k → opened_with f n l k' ≡ opened.turned change (opened_with f n l k)
+is_turned f n l change None k' h = ap (opened_with f n l) h
+is_turned f n l change (Some k) k' h = ap (opened_with f n l) h
 
-pub are_committed : (f n : Bool) (k k' : Option Kept) → AreCommitted k k' → opened.AreCommitted (opened_with f n k) (opened_with f n k')
-are_committed f n None k' h = absurd h
-are_committed f n (Some k) None h = absurd h
-are_committed f n (Some k) (Some k') h = record { made = h.made; pending = h.pending; far = refl; near = refl }
+pub are_committed : (f n : Bool) (l : List Device) (k k' : Option Kept) → AreCommitted k k' → opened.AreCommitted (opened_with f n l k) (opened_with f n l k')
+are_committed f n l None k' h = absurd h
+are_committed f n l (Some k) None h = absurd h
+are_committed f n l (Some k) (Some k') h = record { made = h.made; pending = h.pending; far = refl; near = refl; listed = refl }
 
-pub are_given_up : (lost : Lost) (f n : Bool) (k k' : Option Kept) → AreGivenUp lost k k' → opened.AreGivenUp lost (opened_with f n k) (opened_with f n k')
-are_given_up lost f n None k' h = absurd h
-are_given_up lost f n (Some k) None h = absurd h
-are_given_up lost f n (Some k) (Some k') h = record { left = h.left; pending = h.pending; far = refl; near = refl }
+pub are_given_up : (lost : Lost) (f n : Bool) (l : List Device) (k k' : Option Kept) → AreGivenUp lost k k' → opened.AreGivenUp lost (opened_with f n l k) (opened_with f n l k')
+are_given_up lost f n l None k' h = absurd h
+are_given_up lost f n l (Some k) None h = absurd h
+are_given_up lost f n l (Some k) (Some k') h = record { left = h.left; pending = h.pending; far = refl; near = refl }
 
 -- ---- a call of the book that was read
 
-of_book : (f n : Bool) (k : Option Kept) (does : Pending → Effect Files) (far : Store) (near : Mailbox) (files files' : Files) (named : List Named) → OfKept does k files files'
-    → there.OfBook does (opened_with f n k) (record { far = far; near = near; files = files; named = named }) (record { far = far; near = near; files = files'; named = named })
-of_book f n None does far near files files' named h = h
-of_book f n (Some k) does far near files files' named h = record { far = refl; near = refl; named = refl; files = h }
+of_book : (f n : Bool) (l : List Device) (k : Option Kept) (does : Pending → Effect Files) (far : Store) (near : Mailbox) (files files' : Files) (named : List Named) → OfKept does k files files'
+    → there.OfBook does (opened_with f n l k) (record { far = far; near = near; files = files; named = named }) (record { far = far; near = near; files = files'; named = named })
+of_book f n l None does far near files files' named h = h
+of_book f n l (Some k) does far near files files' named h = record { far = refl; near = refl; named = refl; files = h }
 
 -- ---- a call of the book, after what others did
 
@@ -139,25 +139,25 @@ why {T} old new answer result same ready h is = in_this (subst (λ (a : Result T
     in_this (inl failed) = absurd (cc)
     in_this (inr rose) = rose
 
-from_log : (f n : Bool) (k : Option Kept) (logged : Logged) (e : OutsideFault) → FromLog k logged e → there.FromLog (opened_with f n k) logged e
-from_log f n k logged fault.Stopped h = tt
-from_log f n k logged fault.Refused h = absurd h
-from_log f n k logged (fault.Box side number) h = absurd h
-from_log f n None logged (fault.BadState line) h = absurd h.1
-from_log f n (Some k) logged (fault.BadState line) h = h
-from_log f n k logged (fault.BadJournal line) h = absurd h
-from_log f n k logged fault.NoMemory h = tt
+from_log : (f n : Bool) (l : List Device) (k : Option Kept) (logged : Logged) (e : OutsideFault) → FromLog k logged e → there.FromLog (opened_with f n l k) logged e
+from_log f n l k logged fault.Stopped h = tt
+from_log f n l k logged fault.Refused h = absurd h
+from_log f n l k logged (fault.Box side number) h = absurd h
+from_log f n l None logged (fault.BadState line) h = absurd h.1
+from_log f n l (Some k) logged (fault.BadState line) h = h
+from_log f n l k logged (fault.BadJournal line) h = absurd h
+from_log f n l k logged fault.NoMemory h = tt
 
-pub tells_log : (f n : Bool) (k : Option Kept) (logged : Logged) (answer : Result (Unit {0}) OutsideFault) → IfErr answer (FromLog k logged) → IfErr answer (there.FromLog (opened_with f n k) logged)
-tells_log f n k logged (Ok x) h = tt
-tells_log f n k logged (Err e) h = from_log f n k logged e h
+pub tells_log : (f n : Bool) (l : List Device) (k : Option Kept) (logged : Logged) (answer : Result (Unit {0}) OutsideFault) → IfErr answer (FromLog k logged) → IfErr answer (there.FromLog (opened_with f n l k) logged)
+tells_log f n l k logged (Ok x) h = tt
+tells_log f n l k logged (Err e) h = from_log f n l k logged e h
 
 -- ---- the book is read
 
-reads_so : (f n : Bool) (k : Option Kept) (far : Store) (near : Mailbox) (files files' : Files) (named : List Named) → ReadsFiles k files files'
-    → there.ReadsBook (opened_with f n k) (record { far = far; near = near; files = files; named = named }) (record { far = far; near = near; files = files'; named = named })
-reads_so f n k far near files files' named h =
-    (ap (λ (x : Files). record { far = far; near = near; files = x; named = named }) h.0, is_held f n k (record { far = far; near = near; files = files; named = named }) h.1)
+reads_so : (f n : Bool) (l : List Device) (k : Option Kept) (far : Store) (near : Mailbox) (files files' : Files) (named : List Named) → ReadsFiles k files files'
+    → there.ReadsBook (opened_with f n l k) (record { far = far; near = near; files = files; named = named }) (record { far = far; near = near; files = files'; named = named })
+reads_so f n l k far near files files' named h =
+    (ap (λ (x : Files). record { far = far; near = near; files = x; named = named }) h.0, is_held f n l k (record { far = far; near = near; files = files; named = named }) h.1)
 
 -- ---- the call of the book is that of the outside
 
@@ -177,7 +177,7 @@ module _ {F N S : Type 0} {fars : mailbox.Ghosts F} {nears : mailbox.Ghosts N} {
   book_ends does part may_tell near book c' answer result leads whole same now may before changes = record {
     call = tallied honest others (λ _. 0) may_tell (λ _. there.OfBook does (opened_of p)) (LeavesBy {T = Unit {0}} (λ _. there.OfBook does (opened_of p)) (there.OfBook part (opened_of p))) d (device_with (fars.seen p.far).stored (nears.seen near).stored (files_of book)) p.tally c' answer result same now
         (files_call honest (shelves.is_honest ≡ true) others may_tell (OfKept does k) (OfKept part k) (there.OfBook does (opened_of p)) (there.OfBook part (opened_of p)) with_files (files_of p.book) (files_of book)
-        (of_book f n k does _ _ _ _ p.tally.named) (of_book f n k part _ _ _ _ p.tally.named) sparing d p.tally answer
+        (of_book f n l k does _ _ _ _ p.tally.named) (of_book f n l k part _ _ _ _ p.tally.named) sparing d p.tally answer
         (λ h. goes_by does part (shelves.is_honest ≡ true) (files_of p.book) (files_of book) k (is_at p.book (p.book_whole whole) h.2) leads.0 leads.1 answer h.2 (changes h.1)) (λ h. h.2) (λ h. arrives h.1) whole may (λ h. changes h.1));
     tallied = tally (ended no_copies) answer result p.tally c' whole same now;
   }
@@ -226,7 +226,7 @@ module _ {F N S : Type 0} {fars : mailbox.Ghosts F} {nears : mailbox.Ghosts N} {
       → p.tally.is_broken ≡ false → result ≡ answer → c' ≡ ended no_copies answer p.tally → IfErr answer FromShelf
       → Part (shelves.is_honest ≡ true) (λ (x : Unit {0}). ReadsFiles (kept_of book)) LeavesUnread (files_of p.book) (files_of book) answer
       → Call (fars.honest p.far × nears.honest p.near × (shelves.is_honest ≡ true)) (Arrives (both fars.ours nears.ours) (fars.alone && nears.alone)) (λ (x : Unit {0}). 0) FromShelf
-      (λ (x : Unit {0}). there.ReadsBook (opened_with (fars.is_open p.far) (nears.is_open p.near) (kept_of book))) there.LeavesUnread
+      (λ (x : Unit {0}). there.ReadsBook (opened_with (fars.is_open p.far) (nears.is_open p.near) p.listed.devices (kept_of book))) there.LeavesUnread
       (seen_with (device_of p) p.tally) (seen_with (device_with (fars.seen p.far).stored (nears.seen p.near).stored (files_of book) c'.named) c') result
   open_ends book c' answer result whole same now may reads =
       tallied honest others (λ _. 0) FromShelf does there.LeavesUnread (device_of p) (device_with (fars.seen p.far).stored (nears.seen p.near).stored (files_of book)) p.tally c' answer result same now (by_answer answer may reads)
@@ -241,7 +241,7 @@ module _ {F N S : Type 0} {fars : mailbox.Ghosts F} {nears : mailbox.Ghosts N} {
       with_files files = device_with (fars.seen p.far).stored (nears.seen p.near).stored files p.tally.named
 
       does : Unit {0} → Effect Device
-      does x = there.ReadsBook (opened_with (fars.is_open p.far) (nears.is_open p.near) (kept_of book))
+      does x = there.ReadsBook (opened_with (fars.is_open p.far) (nears.is_open p.near) p.listed.devices (kept_of book))
 
       sparing : AreSparing others does there.LeavesUnread
       sparing = record {
@@ -254,7 +254,7 @@ module _ {F N S : Type 0} {fars : mailbox.Ghosts F} {nears : mailbox.Ghosts N} {
           → Call honest others (λ _. 0) FromShelf does there.LeavesUnread (seen_with (device_of p) p.tally) (seen_with (with_files (files_of book)) (ended (λ _. 0) a p.tally)) a
       by_answer (Ok x) h r =
           done_call honest others (λ _. 0) FromShelf does there.LeavesUnread (device_of p) (with_files (files_of book)) p.tally whole sparing (λ y. files_stay (files_of p.book) (files_of book) (r y.2).0) x
-          (λ y. record { mid = device_of p; before = quiet _ _ _; behind = reads_so (fars.is_open p.far) (nears.is_open p.near) (kept_of book) _ _ (files_of p.book) (files_of book) p.tally.named (r y.2) })
+          (λ y. record { mid = device_of p; before = quiet _ _ _; behind = reads_so (fars.is_open p.far) (nears.is_open p.near) p.listed.devices (kept_of book) _ _ (files_of p.book) (files_of book) p.tally.named (r y.2) })
       by_answer (Err e) h r =
           failed_call honest others (λ _. 0) FromShelf does there.LeavesUnread (device_of p) (with_files (files_of book)) p.tally whole sparing (λ y. files_stay (files_of p.book) (files_of book) (r y.2).0) e h
           (λ y. record { mid = device_of p; before = quiet _ _ _; behind = (ap with_files (r y.2).0, (r y.2).1) })

@@ -38,9 +38,9 @@ module _ {F N S : Type 0} {fars : mailbox.Ghosts F} {nears : mailbox.Ghosts N} {
   abbrev pub seen_of : Pair F N S fars nears shelves → Seen
   seen_of p = seen_with (device_of p) p.tally
 
-  -- what was read of the shelf, and which boxes are open
+  -- what was read of the shelf, which boxes are open, and which devices were listed
   abbrev pub opened_of : Pair F N S fars nears shelves → Option Opened
-  opened_of p = opened_with (fars.is_open p.far) (nears.is_open p.near) (kept_of p.book)
+  opened_of p = opened_with (fars.is_open p.far) (nears.is_open p.near) p.listed.devices (kept_of p.book)
 
   -- ---- what a call does, in the words of the trait
 

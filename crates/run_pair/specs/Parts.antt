@@ -29,7 +29,7 @@ both ours ours' mark = ours mark && ours' mark
 abbrev pub IsLess : (ours ours' : List ℕ → Bool) → Type 0
 IsLess ours ours' = (mark : List ℕ) → ours mark ≡ false → ours' mark ≡ false
 
--- what was read of the shelf, and which boxes are open
-abbrev pub opened_with : (far near : Bool) → Option Kept → Option Opened
-opened_with far near None = None
-opened_with far near (Some k) = Some (record { state = k.state; pending = k.pending; far = far; near = near })
+-- what was read of the shelf, which boxes are open, and which devices were listed
+abbrev pub opened_with : (far near : Bool) → (listed : List Device) → Option Kept → Option Opened
+opened_with far near listed None = None
+opened_with far near listed (Some k) = Some (record { state = k.state; pending = k.pending; far = far; near = near; listed = listed })

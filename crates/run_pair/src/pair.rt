@@ -1,11 +1,13 @@
 //! The outside of a run over any two mailboxes and any shelf.
 
-ghost use Rattle.std.specs.Prelude.{◌≡◌, true, false, Ok, IfErr, IfOk, OnOk, IsErrOf, length};
+ghost use Rattle.std.specs.Prelude.{◌≡◌, true, false, Ok, IfErr, IfOk, OnErr, OnOk, IsErrOf, length};
 ghost use Rattle.mailcore.specs.declared.side.Side.TheVariants as sides;
 ghost use Rattle.run_pair.specs.BookParts.{standing_of};
 
 use crate::book_part::BookPart;
 use crate::copying::copy;
+use crate::device_history::DeviceHistory;
+use crate::listings::{note_far, note_near};
 use crate::plan_written::begin_synced;
 use crate::run_ended::commit_synced;
 use crate::run_given_up::give_up_synced;
@@ -37,6 +39,7 @@ pub struct Pair<F: Mailbox, N: Mailbox, S: Shelf> {
     pub(crate) near: N,
     pub(crate) book: BookPart<S>,
     pub(crate) tally: Tally,
+    pub(crate) listed: DeviceHistory,
     pub ghost far_is: { F.side ≡ sides.Far },
     pub ghost near_is: { N.side ≡ sides.Near },
     pub ghost one_map: { F.keywords far ≡ N.keywords near },
@@ -60,7 +63,7 @@ impl<F: Mailbox + Drop, N: Mailbox + Drop, S: Shelf + Drop> Outside for Pair<F, 
     ghost use Rattle.book.specs.LostSides.{AreRising};
     ghost use Rattle.outside.specs.Devices.{box};
     ghost use Rattle.outside.specs.Calls.{FromBook, FromBox, FromOpening, FromShelf, LeavesBy, opened_again, stopped};
-    ghost use Rattle.outside.specs.Opened.{AreCommitted, AreGivenUp, IsBook, IsHeld, IsOpen, IsRead, turned, with_box};
+    ghost use Rattle.outside.specs.Opened.{AreCommitted, AreGivenUp, IsBook, IsHeld, IsOpen, IsRead, shown_far, turned, with_box, with_listing};
     ghost use Rattle.outside.specs.Opened.{TakesCommit, TakesDiscard, TakesGivingUp, TakesLog, TakesPlan};
     ghost use Rattle.outside.specs.BookCalls.{FromLog, LeavesUnread, ReadsBook};
     ghost use Rattle.mailbox.specs.Operations.{HasNumbers, ListsWithin, removed, NoRoom};
@@ -273,6 +276,31 @@ impl<F: Mailbox + Drop, N: Mailbox + Drop, S: Shelf + Drop> Outside for Pair<F, 
         requires is_open { IsOpen Side.Far (opened_of self.old) }
         ensures was_honest { honest_of self.new → honest_of self.old }
         ensures keywords { F.keywords self.new.far ≡ F.keywords self.old.far }
+        ensures opened { IfOk result (λ listing. opened_of self.new ≡ with_listing (shown_far listing.next (device_of self.new))
+            (opened_of self.old)) }
+        ensures unlisted { OnErr result (opened_of self.new ≡ opened_of self.old) }
+        ensures numbers { IfOk result HasNumbers }
+        ensures within { honest_of self.new → IfOk result (ListsWithin (F.keywords self.old.far)) }
+        ensures call { BoxOpens (ListsFar (F.alone && N.alone) (seen_of self.old).device.far.next) self.old self.new result }
+        ensures why { IfErr result (ByBox Side.Far (OrRefusal Never) self.old self.new) }
+        ensures tallied { Tallied (ended no_copies) result self.old.tally self.new.tally }
+    {
+        let listing = self.look_far()?;
+        note_far(
+            &mut self.listed,
+            &self.far,
+            &self.near,
+            &self.book,
+            &self.tally,
+            &listing,
+        );
+        Ok(listing)
+    }
+
+    fn look_far(&mut self) -> Result<Listing, OutsideFault>
+        requires is_open { IsOpen Side.Far (opened_of self.old) }
+        ensures was_honest { honest_of self.new → honest_of self.old }
+        ensures keywords { F.keywords self.new.far ≡ F.keywords self.old.far }
         ensures opened { opened_of self.new ≡ opened_of self.old }
         ensures numbers { IfOk result HasNumbers }
         ensures within { honest_of self.new → IfOk result (ListsWithin (F.keywords self.old.far)) }
@@ -288,6 +316,29 @@ impl<F: Mailbox + Drop, N: Mailbox + Drop, S: Shelf + Drop> Outside for Pair<F, 
     }
 
     fn list_near(&mut self, spared: &Spared) -> Result<Listing, OutsideFault>
+        requires is_open { IsOpen Side.Near (opened_of self.old) }
+        ensures was_honest { honest_of self.new → honest_of self.old }
+        ensures keywords { F.keywords self.new.far ≡ F.keywords self.old.far }
+        ensures opened { OnOk result (opened_of self.new ≡ with_listing (device_of self.new) (opened_of self.old)) }
+        ensures unlisted { OnErr result (opened_of self.new ≡ opened_of self.old) }
+        ensures numbers { IfOk result HasNumbers }
+        ensures within { honest_of self.new → IfOk result (ListsWithin (F.keywords self.old.far)) }
+        ensures call { BoxOpens (ListsNear (spares spared.now)) self.old self.new result }
+        ensures why { IfErr result (ByBox Side.Near (OrRefusal Never) self.old self.new) }
+        ensures tallied { Tallied (ended no_copies) result self.old.tally self.new.tally }
+    {
+        let listing = self.look_near(spared)?;
+        note_near(
+            &mut self.listed,
+            &self.far,
+            &self.near,
+            &self.book,
+            &self.tally,
+        );
+        Ok(listing)
+    }
+
+    fn look_near(&mut self, spared: &Spared) -> Result<Listing, OutsideFault>
         requires is_open { IsOpen Side.Near (opened_of self.old) }
         ensures was_honest { honest_of self.new → honest_of self.old }
         ensures keywords { F.keywords self.new.far ≡ F.keywords self.old.far }

@@ -7,7 +7,7 @@ ghost use Rattle.run_pair.specs.Faults.{told, told_by, unstepped};
 ghost use Rattle.run_pair.specs.Tallies.{counted_again, ended, ended_naming, failed, no_copies, untouched};
 
 use crate::book_part::BookPart;
-use crate::reopened::Reopened;
+use crate::device_history::DeviceHistory;
 use book::shelf::Shelf;
 use device::history::History;
 use mailbox::fault::BoxFault;
@@ -27,7 +27,7 @@ pub struct Tally {
     told: History<OutsideFault>,
     copies: History<Carried>,
     named: History<(Side, Uid)>,
-    reopened: Reopened,
+    reopened: DeviceHistory,
 }
 
 impl Model for Tally {
@@ -55,7 +55,7 @@ impl Tally {
             told: History::new(),
             copies: History::new(),
             named: History::new(),
-            reopened: Reopened::new(),
+            reopened: DeviceHistory::new(),
         }
     }
 

@@ -5,6 +5,7 @@ ghost use Rattle.mailcore.specs.declared.side.Side.TheVariants as sides;
 ghost use Rattle.run_pair.specs.BookParts.{files_of, standing_of};
 
 use crate::book_part::BookPart;
+use crate::device_history::DeviceHistory;
 use crate::pair::Pair;
 use crate::tally::Tally;
 use book::shelf::Shelf;
@@ -41,6 +42,7 @@ impl<F: Mailbox + Drop, N: Mailbox + Drop, S: Shelf + Drop> Pair<F, N, S> {
             near,
             book,
             tally: Tally::new(),
+            listed: DeviceHistory::new(),
         }
     }
 

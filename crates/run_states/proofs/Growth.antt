@@ -1,5 +1,5 @@
 -- What others add to a device, before there is a plan.
-use Rattle.std.proofs.Common.{◌≡◌, ℕ, Bool, true, false, List, ◌++◌, map, refl, sym, ◌∙◌, ap, subst, arith, append_assoc}
+use Rattle.std.proofs.Common.{◌≡◌, ℕ, Bool, true, false, List, ◌++◌, map, Option, None, Some, inl, inr, refl, sym, ◌∙◌, ap, subst, arith, append_assoc}
 use Rattle.std.proofs.lemmas.Bool.{both_ways}
 use Rattle.std.specs.Prelude.{IsPermutation}
 use Rattle.std.proofs.lemmas.List.Sorted.{IsPermutation-append_left, IsPermutation-append_right, IsPermutation-trans}
@@ -14,7 +14,8 @@ use Rattle.book.specs.Books.{Holds}
 use Rattle.outside.specs.Arrivals.{Arrives}
 use Rattle.outside.specs.Devices.{Device}
 use Rattle.outside.proofs.Order.{store_more}
-use Rattle.run_states.specs.Openings.{Opening, Grows, IsIdle, Since, Unplanned, world_at}
+use Rattle.run_states.specs.Conditions.{Underway}
+use Rattle.run_states.specs.Openings.{Opening, Grows, IsIdle, Since, Unplanned, once_listed, world_at}
 use Rattle.run_states.proofs.Foreign.{two}
 
 -- files come after those that have come, some of which have their UIDs
@@ -73,6 +74,7 @@ unplanned_arrives {ours} {alone} opening d m a u = record {
   below = u.below;
   grows = grows_arrives ours alone opening.world opening.world.state d m u.grows a;
   named = named_same ours alone d m a ∙ u.named;
+  unlisted = u.unlisted;
 }
 
 -- another journal, and both mailboxes as they were
@@ -85,8 +87,32 @@ unplanned_filed opening pending d d' idle far near named holds u = record {
   below = u.below;
   grows = rw (far, near) u.grows;
   named = named ∙ u.named;
+  unlisted = u.unlisted;
 }
 
 -- what is so of some world since the opening is so with all that is known of the world
 pub since_map : {ours : List ℕ → Bool} {alone : Bool} (opening : Opening ours alone) (P Q : World → Type 0) → ((w : World) → Grows alone opening.world w → P w → Q w) → Since opening P → Since opening Q
-since_map opening P Q f s = record { world = s.world; grows = s.grows; waited = s.waited; admitted = s.admitted; below = s.below; within = s.within; holds = f s.world s.grows s.holds }
+since_map opening P Q f s = record { world = s.world; listed = s.listed; grows = s.grows; waited = s.waited; admitted = s.admitted; below = s.below; within = s.within; holds = f s.world s.grows s.holds }
+
+-- what is so of the world that was listed is so of some world since
+pub since_any : {ours : List ℕ → Bool} {alone : Bool} (opening : Opening ours alone) (listed : World) (P : World → Type 0) → opening.listed ≡ None → Since (once_listed opening listed) P → Since opening P
+since_any opening listed P none s = record {
+  world = s.world;
+  listed = λ w is. let never : Some w ≡ None = sym is ∙ none in cc;
+  grows = s.grows;
+  waited = s.waited;
+  admitted = s.admitted;
+  below = s.below;
+  within = s.within;
+  holds = s.holds;
+}
+
+pub since_any_world : {ours : List ℕ → Bool} {alone : Bool} (opening : Opening ours alone) (listed : World) (P : World → Type 0) (none : opening.listed ≡ None) (s : Since (once_listed opening listed) P) → (since_any opening listed P none s).world ≡ s.world
+unfolding since_any
+since_any_world opening listed P none s = refl
+
+-- a run whose listings were made has a plan or is over
+pub underway_any : {ours : List ℕ → Bool} {alone : Bool} (opening : Opening ours alone) (listed : World) (d : Device) → opening.listed ≡ None → Underway (once_listed opening listed) d → Underway opening d
+underway_any opening listed d none (inl u) = let never : Some listed ≡ None = u.unlisted in cc
+underway_any opening listed d none (inr (inl p)) = inr (inl (since_any opening listed _ none p))
+underway_any opening listed d none (inr (inr o)) = inr (inr (since_any opening listed _ none o))

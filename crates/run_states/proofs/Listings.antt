@@ -26,16 +26,12 @@ use Rattle.mailbox.specs.Operations.{TellsNext}
 use Rattle.mailbox.proofs.Listed.{told_alone, told_least, told_store}
 use Rattle.outside.specs.Arrivals.{Arrives}
 use Rattle.outside.specs.Devices.{Device, Named, box}
-use Rattle.run_states.specs.Openings.{Grows, world_at}
+use Rattle.run_states.specs.Openings.{Grows, listed_world, world_at}
 use Rattle.run_states.specs.Moments.{Listed, Midway, boxes_at, with_log}
 use Rattle.run_states.specs.Plans.{IsPlanned}
 use Rattle.run_states.proofs.Foreign.{two, own_arrived}
 use Rattle.run_states.proofs.Moves.{same_boxes}
 use Rattle.run_states.proofs.Naming.{named_none}
-
--- the world of a far listing on one device, under the next UID that it reported, and of a near one later
-abbrev pub listed_world : (s : SyncState) (next : ℕ) (d m : Device) → World
-listed_world s next d m = record { far = record d.far { next = next }; near = m.near.store; waiting = m.near.waiting; state = s }
 
 -- it has grown, and the files that have their UIDs in it are those of the near listing
 pub listed_with : (P : List Waiting → Type 0) (alone : Bool) (w : World) (s : SyncState) (far : Listing) (d m : Device) → Grows alone w (world_at d s) → (h : Grows alone w (world_at m s)) → P h.named → TellsNext alone w.far.next far d.far

@@ -65,6 +65,7 @@ unplanned opening d none u = record {
   below = u.below;
   grows = u.grows;
   named = sym none;
+  unlisted = u.unlisted;
 }
 
 pending : {ours : List ℕ → Bool} {alone : Bool} (opening : Opening ours alone) (d : Device) → opening.named ≡ [] → IsPending opening d → IsPending opening (forgetful d)
@@ -72,6 +73,7 @@ pending {ours} {alone} opening d none p =
     let at = p.holds in
     record {
       world = p.world;
+      listed = p.listed;
       grows = p.grows;
       waited = p.waited;
       admitted = p.admitted;

@@ -1,6 +1,6 @@
 -- What a run leaves that began with an opening, or with a world.
 use Rattle.std.proofs.Common.{◌≡◌, ℕ, Bool, true, List, [], ◌∷◌, inl, inr, refl, sym, ap, subst, ◌∙◌}
-use Rattle.std.specs.Prelude.{Result, Ok, Err, OnOk, IfErr, IfOk, IsErrOf, get_or}
+use Rattle.std.specs.Prelude.{Option, Result, Ok, Err, OnOk, IfErr, IfOk, IsErrOf, get_or}
 use Rattle.rules.specs.declared.options.Options.{Options}
 use Rattle.rules.specs.declared.state.SyncState.{SyncState}
 use Rattle.rules.specs.Opening.{IsOpening}
@@ -8,6 +8,7 @@ use Rattle.rules.specs.World.{World}
 use Rattle.outside.specs.Calls.{Seen}
 use Rattle.outside.specs.Devices.{Device}
 use Rattle.outside.specs.GoingOn.{GoesOn}
+use Rattle.outside.specs.Opened.{Opened}
 use Rattle.outside.proofs.GoingOn.{goes_after}
 use Rattle.run_states.specs.Conditions.{IsOver, Underway}
 use Rattle.run_states.specs.Endings.{IsDone}
@@ -36,25 +37,25 @@ module _ {ours : List ℕ → Bool} {alone : Bool} (opening : Opening ours alone
   asked are called = record { called = called; are_ours = λ pairs count marks draws k d within. are (get_or marks k d) }
 
   -- what `settle` says of an answer
-  abbrev pub Settles : (honest : Type 0) (old new : Seen) → Result Settled RunFault → Type 0
-  Settles honest old new r = IfOk r (λ settled. FromOpening honest opening options trial_stream old.device (IsSettled opening options trial_stream settled old new))
+  abbrev pub Settles : (now : Option Opened) (honest : Type 0) (old new : Seen) → Result Settled RunFault → Type 0
+  Settles now honest old new r = IfOk r (λ settled. FromOpening honest opening options trial_stream old.device (IsSettled opening now options trial_stream settled old new))
 
-  pub done_from : (honest : Type 0) (old new : Seen) (r : Result Settled RunFault) → Settles honest old new r
+  pub done_from : (now : Option Opened) (honest : Type 0) (old new : Seen) (r : Result Settled RunFault) → Settles now honest old new r
       → honest → alone ≡ true → AreOurs ours → StandsAt opening options old.device → IsOpening opening.world → OnOk r (IsDone opening.world opening.options new.device)
-  done_from honest old new (Ok settled) from kept nobody are at sound = (from kept (asked are at.called) at.at_opening).alike nobody sound
-  done_from honest old new (Err fault) from kept nobody are at sound = tt
+  done_from now honest old new (Ok settled) from kept nobody are at sound = (from kept (asked are at.called) at.at_opening).alike nobody sound
+  done_from now honest old new (Err fault) from kept nobody are at sound = tt
 
-  pub over_from : (honest : Type 0) (old new : Seen) (r : Result Settled RunFault) → Settles honest old new r
+  pub over_from : (now : Option Opened) (honest : Type 0) (old new : Seen) (r : Result Settled RunFault) → Settles now honest old new r
       → honest → AreOurs ours → StandsAt opening options old.device → OnOk r (IsOver opening new.device)
-  over_from honest old new (Ok settled) from kept are at = (from kept (asked are at.called) at.at_opening).over
-  over_from honest old new (Err fault) from kept are at = tt
+  over_from now honest old new (Ok settled) from kept are at = (from kept (asked are at.called) at.at_opening).over
+  over_from now honest old new (Err fault) from kept are at = tt
 
-  pub others_from : (honest : Type 0) (old new : Seen) (r : Result Settled RunFault) → Settles honest old new r
+  pub others_from : (now : Option Opened) (honest : Type 0) (old new : Seen) (r : Result Settled RunFault) → Settles now honest old new r
       → honest → AreOurs ours → StandsAt opening options old.device → HasOrder old.device → OnOk r (OthersLeft opening new.device)
-  others_from honest old new (Ok settled) from kept are at order =
+  others_from now honest old new (Ok settled) from kept are at order =
       let b = (from kept (asked are at.called) at.at_opening).began in
       others_left ours alone opening old.device new.device order (goes_over b.reopens.since old.device new.device b.goes_on)
-  others_from honest old new (Err fault) from kept are at order = tt
+  others_from now honest old new (Err fault) from kept are at order = tt
 
   pub left_from : {T : Type 0} (honest : Type 0) (tries : ℕ) (old new : Seen) (r : Result T RunFault)
       → IfErr r (λ fault. FromOpening honest opening options trial_stream old.device (IsUnsettled opening tries trial_stream fault old new))

@@ -1,5 +1,5 @@
 -- What a run of a trial goes by: its marks, and its opening.
-use Rattle.std.specs.Prelude.{◌≡◌, ℕ, Bool, true, List, []}
+use Rattle.std.specs.Prelude.{◌≡◌, ℕ, Bool, true, List, [], None}
 use Rattle.rand_core.specs.Steps.{steps_u64_low, stream_of}
 use Rattle.rand_core.specs.Stream.{Stream}
 use Rattle.mailcore.specs.Stores.{Store}
@@ -23,7 +23,7 @@ no_state = record { run = 0; far_validity = 0; near_validity = 0; max_pulled = 0
 -- an opening with nothing in it, under a map, for who says nothing of one
 abbrev pub no_opening : {ours : List ℕ → Bool} {alone : Bool} → Options → Opening ours alone
 no_opening options =
-    record { world = record { far = no_messages; near = no_messages; waiting = []; state = no_state }; options = options; called = options; named = [] }
+    record { world = record { far = no_messages; near = no_messages; waiting = []; state = no_state }; options = options; called = options; named = []; listed = None }
 
 -- whatever the mark is, nobody else writes it
 abbrev pub AreOurs : (List ℕ → Bool) → Type 0

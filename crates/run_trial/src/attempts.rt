@@ -33,7 +33,7 @@ pub fn settle_trial<O: Outside>(
     // From an opening: an answer leaves the run over, and reports what the last attempt answered; a fault leaves the run underway.
     ensures done { IfOk result (λ settled. FromOpening (O.honest outside.new) opening options.now trial_stream
         (O.seen outside.old).device
-        (IsSettled opening options.now trial_stream settled (O.seen outside.old) (O.seen outside.new))) }
+        (IsSettled opening (O.opened outside.new) options.now trial_stream settled (O.seen outside.old) (O.seen outside.new))) }
     ensures left { IfErr result (λ fault. FromOpening (O.honest outside.new) opening options.now trial_stream
         (O.seen outside.old).device
         (IsUnsettled opening tries trial_stream fault (O.seen outside.old) (O.seen outside.new))) }

@@ -14,7 +14,7 @@ use Rattle.runner.specs.Results.{HasResults, Report}
 
 module _ {O : Type 0} (o : Ghosts O) (opening : Opening o.ours o.alone) (options : Options) (stream : Stream) (fixed : Option ℕ) (old new : O) where
   pub attempt_answer : (r : Result Pass RunFault) → IfOk r (λ pass. o.honest new → AttemptAt opening fixed (o.seen old).device → AnswersAt (opening.world.state.run + 1) options pass (o.seen old).device stream)
-      → IfOk r (λ pass. o.honest new → HasResults pass (o.seen new).device) → IfOk r (λ pass. o.honest new → AttemptStart opening options stream fixed (o.seen old).device → Report opening pass (o.seen new).device)
+      → IfOk r (λ pass. o.honest new → HasResults pass (o.seen new).device) → IfOk r (λ pass. o.honest new → AttemptStart opening options stream fixed (o.seen old).device → Report opening (o.opened new) pass (o.seen new).device)
       → IfOk r (λ pass. o.honest new → AttemptStart opening options stream fixed (o.seen old).device → FindsAt o.ours (o.seen old).device pass)
       → IfOk r (λ pass. o.honest new → AttemptStart opening options stream fixed (o.seen old).device → NamesAt opening pass (o.seen old).device (o.seen new).device)
       → IfOk r (AttemptAnswer o opening options stream fixed old new)

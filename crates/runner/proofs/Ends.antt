@@ -52,9 +52,9 @@ others_spared opening since start now first each on =
 
 module _ {ours : List ℕ → Bool} {alone : Bool} (opening : Opening ours alone) (start s1 s2 : Seen) (stream drawn : Stream) where
   -- with an answer
-  pub settled_so : (options : Options) (settled : Settled) → AtOpening opening start.device → LastAttemptAt opening settled.stops start s1 s2 stream drawn → IsOver opening s2.device
-      → AnswersAt (opening.world.state.run + 1) options settled.last s1.device drawn → Report opening settled.last s2.device → FindsAt ours s1.device settled.last → NamesAt opening settled.last s1.device s2.device → IsSettled opening options stream settled start s2
-  settled_so options settled at b over answers told found named = record {
+  pub settled_so : (now : Option Opened) (options : Options) (settled : Settled) → AtOpening opening start.device → LastAttemptAt opening settled.stops start s1 s2 stream drawn → IsOver opening s2.device
+      → AnswersAt (opening.world.state.run + 1) options settled.last s1.device drawn → Report opening now settled.last s2.device → FindsAt ours s1.device settled.last → NamesAt opening settled.last s1.device s2.device → IsSettled opening now options stream settled start s2
+  settled_so now options settled at b over answers told found named = record {
     over = over;
     alike = λ nobody sound. over_alike opening s2.device nobody sound over;
     began = b.began;

@@ -20,6 +20,7 @@ pub mod Reopening
 pub mod Ends
 pub mod Finding
 pub mod KeptBoxes
+pub mod Listings
 pub mod Naming
 pub mod GivingUp
 pub mod GivenUpRead

@@ -72,7 +72,7 @@ has_logged (Some o) logged g = of_pending o.pending g.untorn (λ side. still_ope
     of_pending : (p : Pending) → IsUntorn p → ((side : Side) → IsOpen side (Some (record o { pending = logged_more p logged }))) → HasLogged (Some (record o { pending = p })) (Some (record o { pending = logged_more p logged })) (logged ∷ [])
     of_pending Missing g f = absurd g
     of_pending Useless g f = absurd g
-    of_pending (Planned written) g f = record { going = record { untorn = g; boxes = f }; state = refl; version = refl; plan = refl; log = refl }
+    of_pending (Planned written) g f = record { going = record { untorn = g; boxes = f }; state = refl; version = refl; plan = refl; log = refl; listed = refl }
 
 taken_free : (opened : Option Opened) (logged : Logged) (s : SyncState) → HasUntorn opened → state_of opened ≡ Some s → IsTaken opened logged → is_free s.entries (record { plan = plan_at opened; log = log_at opened }) logged ≡ true → ⊥
 taken_free None logged s g e t f = t

@@ -26,6 +26,7 @@ logged_on a b c ps p h k = record {
   version = k.version ∙ h.version;
   plan = k.plan ∙ h.plan;
   log = k.log ∙ ap (λ (l : List Logged). l ++ logged_of p.result ∷ []) h.log ∙ append_assoc (log_at a) (logs_of ps) (logged_of p.result ∷ []) ∙ ap (λ (l : List Logged). log_at a ++ l) (logs_more ps p);
+  listed = k.listed ∙ h.listed;
 }
 
 pub steps_on : (b c : Option Opened) (ps : List Performed) (p : Performed) (whole : List Step) → HasLogged b c (logged_of p.result ∷ []) → next_at b ≡ Some p.step → steps_of ps ++ drop (length (log_at b)) (plan_at b).steps ≡ whole → steps_of (ps ++ p ∷ []) ++ drop (length (log_at c)) (plan_at c).steps ≡ whole

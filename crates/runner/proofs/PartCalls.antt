@@ -452,6 +452,21 @@ pub part_mapped : {T : Type 0} (reasons : Reasons) (h : Type 0) (a a' u u' : Dev
 part_mapped reasons h a a' u u' copies reaches reaches' s0 s1 (Ok x) f k g p = passed_weaker h a a' (reaches x) (reaches' x) (copies x) (copies x) s0 s1 refl f (g x) p
 part_mapped reasons h a a' u u' copies reaches reaches' s0 s1 (Err e) f k g p = left_mapped h a a' u u' e s0 s1 f k p
 
+-- by what is known of where it began
+pub passed_knowing : (h : Type 0) (a b b' : Device → Type 0) (n : ℕ) (s0 s1 : Seen) → (a s0.device → (d : Device) → b d → b' d) → Passed h a b n s0 s1 → Passed h a b' n s0 s1
+passed_knowing h a b b' n s0 s1 f p = record {
+  is_whole = p.is_whole;
+  stops = p.stops;
+  told = p.told;
+  appends = p.appends;
+  reopened = p.reopened;
+  goes_on = p.goes_on;
+  reaches = λ honest at. f at s1.device (p.reaches honest at);
+}
+
+pub left_knowing : {reasons : Reasons} (h : Type 0) (a u u' : Device → Type 0) (f : RunFault) (s0 s1 : Seen) → (a s0.device → (d : Device) → u d → u' d) → Left reasons h a u f s0 s1 → Left reasons h a u' f s0 s1
+left_knowing h a u u' f s0 s1 g l = record { caused = l.caused; no_less = l.no_less; stops = l.stops; goes_on = l.goes_on; left = λ honest at. leaves_map u u' f s0 s1 (g at s1.device) (l.left honest at) }
+
 pub left_with : {reasons : Reasons} (p h : Type 0) (a u : Device → Type 0) (f : RunFault) (s0 s1 : Seen) → Left reasons h a u f s0 s1 → Left reasons h (λ d. p × a d) (λ d. p × u d) f s0 s1
 left_with p h a u f s0 s1 k = record { caused = k.caused; no_less = k.no_less; stops = k.stops; goes_on = k.goes_on; left = λ honest at. leaves_map u (λ d. p × u d) f s0 s1 (λ x. (at.0, x)) (k.left honest at.1) }
 

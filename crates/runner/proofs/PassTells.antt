@@ -1,5 +1,5 @@
 -- What a pass says as a whole, of what its parts say.
-use Rattle.std.proofs.Common.{◌≡◌, ◌≤◌, ◌+◌, ℕ, Bool, true, List, Result, Ok, Err, IfOk}
+use Rattle.std.proofs.Common.{◌≡◌, ◌≤◌, ◌+◌, ℕ, Bool, true, List, Option, Result, Ok, Err, IfOk}
 use Rattle.std.specs.Prelude.{OnOk}
 use Rattle.rand_core.specs.Stream.{Stream}
 use Rattle.rules.specs.declared.options.Options.{Options}
@@ -9,6 +9,7 @@ use Rattle.book.specs.declared.book.Pending.{Pending}
 use Rattle.book.specs.declared.book.Pending.TheVariants.{Missing}
 use Rattle.book.specs.Books.{Holds}
 use Rattle.outside.specs.Devices.{Device}
+use Rattle.outside.specs.Opened.{Opened}
 use Rattle.run_states.specs.Endings.{IsDone}
 use Rattle.run_states.specs.Openings.{IsIdle, Opening}
 use Rattle.runner.specs.declared.fault.RunFault.{RunFault}
@@ -28,23 +29,23 @@ pub answers_so : (run : ℕ) (options : Options) (d : Device) (stream : Stream) 
 answers_so run options d stream h (Ok pass) answers runs = λ honest. record { answers = answers honest; runs = runs honest }
 answers_so run options d stream h (Err e) answers runs = tt
 
-module _ {ours : List ℕ → Bool} {alone : Bool} (opening : Opening ours alone) (run : ℕ) (h from : Type 0) (d d' : Device) where
-  pub tells_so : (r : Result Pass RunFault) → IfOk r (λ pass. h → from → Report opening pass d') → IfOk r (λ pass. h → from → FindsAt ours d pass) → IfOk r (λ pass. h → from → NamesAt opening pass d d')
+module _ {ours : List ℕ → Bool} {alone : Bool} (opening : Opening ours alone) (run : ℕ) (now : Option Opened) (h from : Type 0) (d d' : Device) where
+  pub tells_so : (r : Result Pass RunFault) → IfOk r (λ pass. h → from → Report opening now pass d') → IfOk r (λ pass. h → from → FindsAt ours d pass) → IfOk r (λ pass. h → from → NamesAt opening pass d d')
       → OnOk r (h → alone ≡ true → from → opening.world.state.run + 1 ≤ run → IsOpening opening.world → IsDone opening.world opening.options d')
       → OnOk r (h → from → HasSpared opening d d')
-      → IfOk r (λ pass. h → from → TellsRun opening run pass d d')
+      → IfOk r (λ pass. h → from → TellsRun opening run now pass d d')
   tells_so (Ok pass) told found named alike others = λ honest at. record { told = told honest at; found = found honest at; named = named honest at; others = λ s p held. others_stand opening (as_read s p) pass d d d' (named honest at s p held) (others honest at); alike = λ nobody least sound. alike honest nobody at least sound }
   tells_so (Err e) told found named alike others = tt
 
-  pub told_in : (r : Result Pass RunFault) → IfOk r (λ pass. h → from → TellsRun opening run pass d d') → IfOk r (λ pass. h → from → Report opening pass d')
+  pub told_in : (r : Result Pass RunFault) → IfOk r (λ pass. h → from → TellsRun opening run now pass d d') → IfOk r (λ pass. h → from → Report opening now pass d')
   told_in (Ok pass) k = λ honest at. (k honest at).told
   told_in (Err e) k = tt
 
-  pub found_in : (r : Result Pass RunFault) → IfOk r (λ pass. h → from → TellsRun opening run pass d d') → IfOk r (λ pass. h → from → FindsAt ours d pass)
+  pub found_in : (r : Result Pass RunFault) → IfOk r (λ pass. h → from → TellsRun opening run now pass d d') → IfOk r (λ pass. h → from → FindsAt ours d pass)
   found_in (Ok pass) k = λ honest at. (k honest at).found
   found_in (Err e) k = tt
 
-  pub named_in : (r : Result Pass RunFault) → IfOk r (λ pass. h → from → TellsRun opening run pass d d') → IfOk r (λ pass. h → from → NamesAt opening pass d d')
+  pub named_in : (r : Result Pass RunFault) → IfOk r (λ pass. h → from → TellsRun opening run now pass d d') → IfOk r (λ pass. h → from → NamesAt opening pass d d')
   named_in (Ok pass) k = λ honest at. (k honest at).named
   named_in (Err e) k = tt
 

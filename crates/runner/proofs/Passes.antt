@@ -34,10 +34,10 @@ use Rattle.mailcore.specs.declared.side.Side.TheVariants.{Far, Near}
 use Rattle.run_states.specs.Conditions.{IsOver, IsPending, Underway}
 use Rattle.run_states.specs.Endings.{DoneAt, IsDone}
 use Rattle.run_states.specs.Moments.{PlannedAt, Stands}
-use Rattle.run_states.specs.Openings.{Grows, IsIdle, Opening, Since, Unplanned}
+use Rattle.run_states.specs.Openings.{Grows, IsIdle, Opening, Since, Unplanned, once_listed}
 use Rattle.run_states.specs.Plans.{IsPlanned}
 use Rattle.run_states.proofs.Ends.{done_is_done, ended, ended_done, half_ended}
-use Rattle.run_states.proofs.Growth.{since_map}
+use Rattle.run_states.proofs.Growth.{since_any, since_map}
 use Rattle.run_states.proofs.Spared.{underway_named}
 use Rattle.runner.specs.declared.fault.RunFault.{RunFault}
 use Rattle.runner.specs.declared.fault.RunFault.TheVariants as run
@@ -47,12 +47,11 @@ use Rattle.runner.specs.declared.performed.Performed.{Performed}
 use Rattle.runner.specs.Faults.{IsBeyond, IsCaused, LeavesRun, ReadsBeyond, Reasons}
 use Rattle.runner.specs.Answers.{Answers, AnswersTo, AreUnfit, RunEnd, HasRepeats, Inputs, IsDrawn, PassStart, IsPlanFault, IsRest, IsRestOf, IsRun, PassEnd, RepeatsIn, RunsBy, as_read, made_in, run_of}
 use Rattle.runner.specs.Maps.{HasMap, HasMapIn, HasOtherMapIn}
-use Rattle.runner.specs.Before.{AreShown, BothListed, HasNoPlan, HasNone, HasPlan, IsEmptied, ReadUnderway, IsMade, Resumed}
+use Rattle.runner.specs.Before.{AreShown, BothListed, HasNoPlan, HasNone, HasPlan, IsEmptied, ReadUnderway, IsMade, IsShown, Resumed, world_shown}
 use Rattle.runner.specs.Going.{AreOpen, BeforeStep, HasLogged, HasUntorn, IsGoing, IsUntorn, log_at, logged_of, logs_of, next_at, no_journal, plan_at, steps_of, version_at}
 use Rattle.runner.specs.Parts.{PartOr}
 use Rattle.runner.specs.Validities.{IsKept, LeavesBoxes}
 use Rattle.runner.proofs.Logging.{of_book}
-use Rattle.runner.specs.Results.{PassedOver}
 use Rattle.runner.proofs.PlanFacts.{count_is, no_pairs, unfit_by}
 use Rattle.runner.proofs.Readings.{planned_files, turned_open, turned_state}
 use Rattle.runner.proofs.Stages.{ready_arrives, stands_of}
@@ -116,9 +115,9 @@ pub boxed_runs : (opened : Option Opened) (options : Options) (stream : Stream) 
 boxed_runs opened options stream (Ok pass) k = same_runs (with_box Near (with_box Far opened)) opened options stream pass (boxed_state opened) (boxed_map options.keywords opened) k
 boxed_runs opened options stream (Err e) k = tt
 
-pub run_here : (opened now : Option Opened) (options : Options) (stream : Stream) (far near : Listing) (plan : Plan) (steps : List Step) (unfit : List (Side × ℕ)) → now ≡ turned (λ _. Missing) opened → steps ≡ plan.steps → IsDrawn now stream far near options plan.steps → AreUnfit now far near options unfit → IsRun opened options stream steps unfit
+pub run_here : (opened now : Option Opened) (options : Options) (stream : Stream) (far near : Listing) (plan : Plan) (steps : List Step) (unfit : List (Side × ℕ)) → state_of now ≡ state_of opened → steps ≡ plan.steps → IsDrawn now stream far near options plan.steps → AreUnfit now far near options unfit → IsRun opened options stream steps unfit
 run_here opened now options stream far near plan steps unfit e s d u =
-    same_run now opened options stream steps unfit (ap state_of e ∙ turned_state (λ _. Missing) opened) (record { far = far; near = near; drawn = rw s d; unfit_are = u })
+    same_run now opened options stream steps unfit e (record { far = far; near = near; drawn = rw s d; unfit_are = u })
 
 -- ---- the log is as long as the plan
 
@@ -283,29 +282,27 @@ module _ {ours : List ℕ → Bool} {alone : Bool} (opening : Opening ours alone
       let mine : All (λ mark. ours mark ≡ true) (marks_of plan.steps) = asked.are_ours 0 (count_new (scene far near o.state options)) (marks_of plan.steps) (subst (λ (x : Stream). Draws x (count_new (scene far near o.state options)) (marks_of plan.steps)) (sym (no_pairs stream)) draws.drawn) in
       record {
         clear = c;
-        since = since_map opening _ _ (λ w g k. (subst (λ (x : Options). IsPlanned ours w x plan) (sym asked.called ∙ c.chosen) (is w g.in_order (c.state ∙ ap (λ (x : SyncState). Some x) (sym g.state)) k.0 mine), k.1)) both.since;
+        since = since_map (once_listed opening (world_shown (Some o))) _ _ (λ w g k. (subst (λ (x : Options). IsPlanned ours w x plan) (sym asked.called ∙ c.chosen) (is w g.in_order (c.state ∙ ap (λ (x : SyncState). Some x) (sym g.state)) k.0 mine), k.1)) both.since;
       }
 
-  -- it is that of the world that was listed, and so are the messages that were skipped
-  pub passed_by : (opened : Option Opened) (options : Options) (stream : Stream) (far near : Listing) (plan : Plan) (unfit : List (Side × ℕ)) → IsDrawn opened stream far near options plan.steps
-      → ((w : World) → IsInOrder w → state_of opened ≡ Some w.state → AreShown w far near → All (λ mark. ours mark ≡ true) (marks_of plan.steps) → IsPlanned ours w options plan)
-      → AreUnfit opened far near options unfit → (d : Device) → Inputs opening options stream → BothListed opening opened far near d → PassedOver opening plan unfit
-  passed_by None options stream far near plan unfit drawn is are d asked both = absurd drawn
-  passed_by (Some o) options stream far near plan unfit drawn is are d asked both =
+  -- the messages that were skipped are those of the world that was listed
+  pub skipped_by : (opened : Option Opened) (options : Options) (stream : Stream) (far near : Listing) (unfit : List (Side × ℕ)) → AreUnfit opened far near options unfit → (d : Device) → Inputs opening options stream → BothListed opening opened far near d → unfit ≡ all_unfit (scene_of (world_shown opened) opening.options)
+  skipped_by None options stream far near unfit are d asked both = absurd are
+  skipped_by (Some o) options stream far near unfit are d asked both =
       let c = both.clear in
-      let draws = drawn.0 in
-      let mine : All (λ mark. ours mark ≡ true) (marks_of plan.steps) = asked.are_ours 0 (count_new (scene far near o.state options)) (marks_of plan.steps) (subst (λ (x : Stream). Draws x (count_new (scene far near o.state options)) (marks_of plan.steps)) (sym (no_pairs stream)) draws.drawn) in
+      let s = both.since in
       let read = c.state in
+      let g = s.grows in
+      let shown = s.holds in
       let first : o.state ≡ opening.world.state = cc in
-      since_map opening _ _ (λ w g k. subst (λ (x : Options). IsPlanned ours w x plan × (unfit ≡ all_unfit (scene_of w x))) (sym asked.called ∙ c.chosen) (
-        is w g.in_order (read ∙ ap (λ (x : SyncState). Some x) (sym g.state)) k.0 mine,
-        unfit_by ours w o.state options far near (first ∙ sym g.state) k.0 unfit are,
-      )) both.since
+      let of_call : unfit ≡ all_unfit (scene_of s.world options) = unfit_by ours s.world o.state options far near (first ∙ sym g.state) shown.0 unfit are in
+      let of_opening : unfit ≡ all_unfit (scene_of s.world opening.options) = subst (λ (x : Options). unfit ≡ all_unfit (scene_of s.world x)) (sym asked.called ∙ c.chosen) of_call in
+      subst (λ (w : World). unfit ≡ all_unfit (scene_of w opening.options)) (s.listed (world_shown (Some o)) refl) of_opening
 
   -- as many marks are wanted as that world has new messages
-  pub repeats_since : (opened : Option Opened) (options : Options) (stream : Stream) (far near : Listing) (honest from : Type 0) (d : Device) → RepeatsIn opened stream far near options → (honest → from → BothListed opening opened far near d) → HasRepeats opening honest from options stream
-  repeats_since None options stream far near honest from d k listed = absurd k
-  repeats_since (Some o) options stream far near honest from d k listed = record {
+  pub repeats_since : (opened : Option Opened) (options : Options) (stream : Stream) (far near : Listing) (honest from : Type 0) (d : Device) → IsShown opened (world_shown opened) → RepeatsIn opened stream far near options → (honest → from → BothListed opening opened far near d) → HasRepeats opening opened honest from options stream
+  repeats_since None options stream far near honest from d shown k listed = absurd k
+  repeats_since (Some o) options stream far near honest from d shown k listed = record {
     count = count_new (scene far near o.state options);
     repeats = k;
     wanted = λ h at.
@@ -313,7 +310,20 @@ module _ {ours : List ℕ → Bool} {alone : Bool} (opening : Opening ours alone
         let c = both.clear in
         let read = c.state in
         let first : o.state ≡ opening.world.state = cc in
-        since_map opening _ _ (λ w g s. count_is ours w o.state options far near (first ∙ sym g.state) s.0) both.since;
+        let s = both.since in
+        let g = s.grows in
+        let x = s.holds in
+        let is : s.world ≡ world_shown (Some o) = s.listed (world_shown (Some o)) refl in
+        since_any opening (world_shown (Some o)) _ c.unlisted (record {
+          world = s.world;
+          listed = s.listed;
+          grows = g;
+          waited = s.waited;
+          admitted = s.admitted;
+          below = s.below;
+          within = s.within;
+          holds = (subst (IsShown (Some o)) (sym is) shown, count_is ours s.world o.state options far near (first ∙ sym g.state) x.0);
+        });
   }
 
   -- ---- the end
@@ -328,8 +338,8 @@ module _ {ours : List ℕ → Bool} {alone : Bool} (opening : Opening ours alone
   split_done d s = by_world s.holds
     where
       by_world : PlannedAt ours alone opening.named s.world opening.options d ⊎ DoneAt ours alone opening.named s.world opening.options d → Underway opening d
-      by_world (inl p) = inr (inl (record { world = s.world; grows = s.grows; waited = s.waited; admitted = s.admitted; below = s.below; within = s.within; holds = p }))
-      by_world (inr x) = inr (inr (record { world = s.world; grows = s.grows; waited = s.waited; admitted = s.admitted; below = s.below; within = s.within; holds = x }))
+      by_world (inl p) = inr (inl (record { world = s.world; listed = s.listed; grows = s.grows; waited = s.waited; admitted = s.admitted; below = s.below; within = s.within; holds = p }))
+      by_world (inr x) = inr (inr (record { world = s.world; listed = s.listed; grows = s.grows; waited = s.waited; admitted = s.admitted; below = s.below; within = s.within; holds = x }))
 
   pub half_ended_at : (opened : Option Opened) (is_resumed : Bool) (d m d' : Device) → IsGoing opened → next_at opened ≡ None → Arrives ours alone d m → BeforeStep opening opened is_resumed d → OfBook CommitsHalf opened m d' → Underway opening d'
   half_ended_at opened is_resumed d m d' g none a k t =

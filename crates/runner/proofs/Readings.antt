@@ -256,6 +256,7 @@ module _ {ours : List ℕ → Bool} {alone : Bool} (opening : Opening ours alone
         below = n.below;
         grows = rw (t.far, t.near) n.grows;
         named = t.named ∙ n.named;
+        unlisted = n.unlisted;
         waited = λ e. absurd (both_ways false refl e);
         admitted = λ e. absurd (both_ways false refl e);
       }
@@ -285,7 +286,7 @@ module _ {ours : List ℕ → Bool} {alone : Bool} (opening : Opening ours alone
           let one = mended_stands written o.state s.world m d' held t.far t.near t.named now s.holds in
           record {
             state = ap (λ (x : SyncState). Some x) (one.0 ∙ s.grows.state);
-            since = record { world = s.world; grows = s.grows; waited = s.waited; admitted = s.admitted; below = s.below; within = s.within; holds = one.1 };
+            since = record { world = s.world; listed = s.listed; grows = s.grows; waited = s.waited; admitted = s.admitted; below = s.below; within = s.within; holds = one.1 };
           }
 
   pub half_untorn : (opened : Option Opened) (d m d' : Device) → HasPlan opened → Arrives ours alone d m → Resumed opening opened d → OfBook (λ p. TurnsHalf p p) opened m d' → Underway opening d'

@@ -72,7 +72,7 @@ module _ {O : Type 0} (o : Ghosts O) where
     stage_left run reasons from reaches old new f frame part = record { frame = frame; answer = tt; part = part }
 
     pub drawn_left : (run : ℕ) (options : Options) (stream drawn : Stream) (reasons : Reasons) (from reaches : Device → Type 0) (old new : O) (f : RunFault) → Frame o old new → Moves stream drawn
-        → Left (or_refused (TellsRefused (o.opened new) (o.honest new) (from (o.seen old).device) (o.seen new).device) (or_repeats (HasRepeats opening (o.honest new) (from (o.seen old).device) options stream) reasons)) (o.honest new) from (Underway opening) f (o.seen old) (o.seen new)
+        → Left (or_refused (TellsRefused (o.opened new) (o.honest new) (from (o.seen old).device) (o.seen new).device) (or_repeats (HasRepeats opening (o.opened new) (o.honest new) (from (o.seen old).device) options stream) reasons)) (o.honest new) from (Underway opening) f (o.seen old) (o.seen new)
         → DrawnStage o opening run options stream drawn reasons from reaches old new (Err f)
     drawn_left run options stream drawn reasons from reaches old new f frame moved part = record { stage = stage_left run _ from reaches old new f frame part; runs = tt; moved = moved }
 
@@ -96,7 +96,7 @@ module _ {O : Type 0} (o : Ghosts O) where
             part = part_weaker _ h from start (Underway opening) made_in (λ _. reaches) (λ _. reaches') s0 s1 r leads (λ x. ends) (part_told _ _ h from (Underway opening) made_in (λ _. reaches) s0 s1 r (record {
               changed = are.changed;
               keywords = are.keywords;
-              repeats = λ k. repeats_from opening h (from s0.device) (start s0.device) options stream (λ honest at. leads s0.device at) k;
+              repeats = λ k. repeats_from opening (o.opened new) h (from s0.device) (start s0.device) options stream (λ honest at. leads s0.device at) k;
               beyond = are.beyond;
               greatest = are.greatest;
               unread = are.unread;
@@ -143,7 +143,7 @@ module _ {O : Type 0} (o : Ghosts O) where
       record {
         by_files = boxed_answers run before (Ok pass) (subst (λ (b : Option Opened). AnswersTo run b pass) opened a.by_files);
         results = a.results;
-        told = λ h at. let l = leads h at in subst (λ (z : Opening o.ours o.alone). Report z pass d2) l.1 (a.told h l.0);
+        told = λ h at. let l = leads h at in subst (λ (z : Opening o.ours o.alone). Report z (o.opened new) pass d2) l.1 (a.told h l.0);
         found = finds_from o.ours before (o.opened mid) d0 d1 (Ok pass) (o.honest mid) (o.honest new) (from d1) (start d0) plan honest (λ h at. (leads h at).0) same a.found;
         named = λ h at. let l = leads h at in names_from y before (o.opened mid) pass d0 d1 d2 plan (named (honest h)) (subst (λ (z : Opening o.ours o.alone). NamesBy z (o.opened mid) pass d1 d2) l.1 (a.named h l.0));
       }
@@ -184,7 +184,7 @@ module _ {O : Type 0} (o : Ghosts O) where
     results_in (Ok pass) a = a.results
     results_in (Err f) a = tt
 
-    pub report_in : (r : Result Pass RunFault) → IfOk r (StageAnswer o opening run from old new) → IfOk r (λ pass. o.honest new → from (o.seen old).device → Report opening pass (o.seen new).device)
+    pub report_in : (r : Result Pass RunFault) → IfOk r (StageAnswer o opening run from old new) → IfOk r (λ pass. o.honest new → from (o.seen old).device → Report opening (o.opened new) pass (o.seen new).device)
     report_in (Ok pass) a = a.told
     report_in (Err f) a = tt
 

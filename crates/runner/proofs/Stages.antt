@@ -44,7 +44,7 @@ use Rattle.runner.proofs.Wholes.{removed_is}
 pub moment_map : {ours : List ℕ → Bool} {alone : Bool} (opening : Opening ours alone) (opened : Option Opened) (P Q : World → Type 0) → ((w : World) → Grows alone opening.world w → NamesBelow w → P w → Q w) → AtMoment opening opened P → AtMoment opening opened Q
 moment_map opening opened P Q f k =
     let s = k.since in
-    record { state = k.state; since = record { world = s.world; grows = s.grows; waited = s.waited; admitted = s.admitted; below = s.below; within = s.within; holds = f s.world s.grows s.below s.holds } }
+    record { state = k.state; since = record { world = s.world; listed = s.listed; grows = s.grows; waited = s.waited; admitted = s.admitted; below = s.below; within = s.within; holds = f s.world s.grows s.below s.holds } }
 
 -- a call that stopped or had another fault: with no effect, with a part of it, or with it
 pub left_by : {T : Type 0} (q : Device → Type 0) (does : T → Device → Device → Type 0) (part : Device → Device → Type 0) (e : OutsideFault) (m d' : Device) → LeavesBy does part e m d' → q m → (part m d' → q d') → ((x : T) → does x m d' → q d') → q d'
@@ -101,7 +101,7 @@ module _ {ours : List ℕ → Bool} {alone : Bool} (opening : Opening ours alone
   -- ---- each leaves a run underway
 
   pub planned : (P : World → Type 0) (d : Device) → ((w : World) → P w → PlannedAt ours alone opening.named w opening.options d) → AtMoment opening opened P → Underway opening d
-  planned P d f k = let s = k.since in inr (inl (record { world = s.world; grows = s.grows; waited = s.waited; admitted = s.admitted; below = s.below; within = s.within; holds = f s.world s.holds }))
+  planned P d f k = let s = k.since in inr (inl (record { world = s.world; listed = s.listed; grows = s.grows; waited = s.waited; admitted = s.admitted; below = s.below; within = s.within; holds = f s.world s.holds }))
 
   stands_at : (w : World) (d : Device) → Stands ours alone opening.named w opening.options version plan log false d → PlannedAt ours alone opening.named w opening.options d
   stands_at w d s = record { version = version; plan = plan; log = log; is_torn = false; stands = s }

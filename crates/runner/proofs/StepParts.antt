@@ -11,6 +11,7 @@ use Rattle.rules.specs.Outcome.{count_new}
 use Rattle.rules.specs.World.{scene_of}
 use Rattle.run_states.specs.Openings.{Opening, Since}
 use Rattle.runner.specs.declared.fault.RunFault.{RunFault}
+use Rattle.runner.specs.Before.{IsShown}
 use Rattle.runner.specs.Answers.{HasRepeats}
 use Rattle.runner.specs.Faults.{IsNextOf, Reasons, RefusedAt, TellsRefused, or_refused}
 use Rattle.runner.specs.Going.{HasUntorn, IsUntorn, number_at}
@@ -72,13 +73,13 @@ pub part_never : {T : Type 0} (c : Reasons) (h : Type 0) (a underway : Device �
 part_never c h a underway copies reaches s0 s1 r p = part_told Never c h a underway copies reaches s0 s1 r (never_told c) p
 
 -- marks repeat also where another condition leads to this one
-pub repeats_from : {ours : List ℕ → Bool} {alone : Bool} (opening : Opening ours alone) (honest from start : Type 0) (options : Options) (stream : Stream) → (honest → start → from) → HasRepeats opening honest from options stream → HasRepeats opening honest start options stream
-repeats_from opening honest from start options stream leads k = record { count = k.count; repeats = k.repeats; wanted = λ h at. k.wanted h (leads h at) }
+pub repeats_from : {ours : List ℕ → Bool} {alone : Bool} (opening : Opening ours alone) (now : Option Opened) (honest from start : Type 0) (options : Options) (stream : Stream) → (honest → start → from) → HasRepeats opening now honest from options stream → HasRepeats opening now honest start options stream
+repeats_from opening now honest from start options stream leads k = record { count = k.count; repeats = k.repeats; wanted = λ h at. k.wanted h (leads h at) }
 
 -- and for another opening, where both are one
-pub repeats_by : {ours : List ℕ → Bool} {alone : Bool} (x y : Opening ours alone) (honest from start : Type 0) (options : Options) (stream : Stream) → (honest → start → from × (x ≡ y)) → HasRepeats x honest from options stream → HasRepeats y honest start options stream
-repeats_by {ours} {alone} x y honest from start options stream leads k = record {
+pub repeats_by : {ours : List ℕ → Bool} {alone : Bool} (x y : Opening ours alone) (now : Option Opened) (honest from start : Type 0) (options : Options) (stream : Stream) → (honest → start → from × (x ≡ y)) → HasRepeats x now honest from options stream → HasRepeats y now honest start options stream
+repeats_by {ours} {alone} x y now honest from start options stream leads k = record {
   count = k.count;
   repeats = k.repeats;
-  wanted = λ h at. let l = leads h at in subst (λ (o : Opening ours alone). Since o (λ w. k.count ≡ count_new (scene_of w options))) l.1 (k.wanted h l.0);
+  wanted = λ h at. let l = leads h at in subst (λ (o : Opening ours alone). Since o (λ w. IsShown now w × (k.count ≡ count_new (scene_of w options)))) l.1 (k.wanted h l.0);
 }

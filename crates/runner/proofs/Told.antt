@@ -1,5 +1,5 @@
 -- What is reported of a run: the copies stand in the state that a commit makes, and the steps are those of the plan of its world.
-use Rattle.std.proofs.Common.{◌≡◌, ℕ, All, List, [], ◌∷◌, ◌++◌, length, drop, take, Bool, false, Option, Some, None, unwrap_or, Result, Ok, Err, IfOk, sym, ◌∙◌, ap, subst}
+use Rattle.std.proofs.Common.{◌≡◌, ℕ, All, List, [], ◌∷◌, ◌++◌, length, drop, take, Bool, false, Option, Some, None, unwrap_or, Result, Ok, Err, IfOk, refl, sym, ◌∙◌, ap, subst}
 use Rattle.std.specs.Prelude.{Contains, IsPermutation}
 use Rattle.std.proofs.lemmas.List.{take-append-drop}
 use Rattle.std.proofs.lemmas.List.Elements.{All-cons, All-contains_itself, All-head, All-nil, All-tail, All-weaker, Contains-append_left, Contains-append_right}
@@ -11,7 +11,8 @@ use Rattle.rules.specs.declared.plan.Plan.{Plan}
 use Rattle.rules.specs.declared.plan.Step.{Step}
 use Rattle.rules.specs.declared.plan.Step.TheVariants as step
 use Rattle.rules.specs.declared.state.SyncState.{SyncState}
-use Rattle.planner.specs.Listed.{marks_of}
+use Rattle.rules.specs.World.{World, scene_of}
+use Rattle.planner.specs.Listed.{all_unfit, marks_of}
 use Rattle.sync_state.specs.JournalText.{FitsStep}
 use Rattle.sync_state.specs.declared.journal.Logged.{Logged}
 use Rattle.book.specs.declared.book.Pending.{Pending}
@@ -36,8 +37,9 @@ use Rattle.runner.specs.declared.pass.Pass.{Pass}
 use Rattle.runner.specs.declared.performed.Performed.{Performed}
 use Rattle.runner.specs.declared.performed.StepResult.{StepResult}
 use Rattle.runner.specs.declared.performed.StepResult.TheVariants as did
+use Rattle.runner.specs.Before.{IsShown}
 use Rattle.runner.specs.Going.{BeforeStep, HasLogged, IsGoing, log_at, logged_of, logs_of, next_at, no_journal, plan_at, steps_of, version_at}
-use Rattle.runner.specs.Results.{AreResults, AreStepsOf, EndsBy, IsOtherResult, IsResult, RestReport, WholeReport, PassedOver}
+use Rattle.runner.specs.Results.{AreResults, AreStepsOf, EndsBy, IsOtherResult, IsResult, RestReport, WholeReport}
 use Rattle.runner.proofs.Logging.{of_book}
 use Rattle.runner.proofs.Stages.{ready_arrives, stands_of}
 
@@ -145,31 +147,45 @@ module _ {ours : List ℕ → Bool} {alone : Bool} (opening : Opening ours alone
       let last = ends.holds in
       subst (λ (p : Plan). NamedBy opening.named p.steps d.named) h.plan (named_by_plan ours ends.world opening.options (plan_at now) opening.named d.named last.planned last.ended.alike.named)
 
-  told_last : (old now : Option Opened) (ps : List Performed) (d : Device) → HasLogged old now (logs_of ps) → steps_of ps ≡ drop (length (log_at old)) (plan_at old).steps → EndsBy opening (plan_at now) (log_at now) d
-      → AreStepsOf opening (plan_at old) (take (length (log_at old)) (plan_at old).steps) ps d
+  told_last : (old now : Option Opened) (ps : List Performed) (d : Device) → HasLogged old now (logs_of ps) → steps_of ps ≡ drop (length (log_at old)) (plan_at old).steps → (ends : EndsBy opening (plan_at now) (log_at now) d)
+      → (all : AreStepsOf opening (plan_at old) (take (length (log_at old)) (plan_at old).steps) ps d) × (all.over.world ≡ ends.world)
   told_last old now ps d h steps ends =
       let n = length (log_at old) in
       let before = take n (plan_at old).steps in
       let last = ends.holds in
-      let logged : Fit (plan_at old).steps (results_of (log_at old ++ logs_of ps)) = subst (λ (l : List Logged). Fit (plan_at old).steps (results_of l)) h.log (subst (λ (p : Plan). Fit p.steps (results_of (log_at now))) h.plan last.fit) in
-      record {
-        steps = sym (take-append-drop n (plan_at old).steps) ∙ ap (λ (l : List Step). before ++ l) (sym steps);
-        copies = subst (λ (l : List Step). Fit l (results_of (logs_of ps))) (sym steps) (fit_rest (plan_at old).steps (log_at old) (logs_of ps) logged);
-        over = since_map opening _ _ (λ w grows k. (subst (λ (p : Plan). EndedUnder ours alone opening.named w opening.options (marks_of p.steps) d) h.plan k.ended, subst (λ (p : Plan). IsPlanned ours w opening.options p) h.plan k.planned)) ends;
-        named = named_last old now (logs_of ps) d h ends;
-      }
+      let logged : Fit (plan_at old).steps (results_of (log_at old ++ logs_of ps)) = subst (λ (l : List Logged). Fit (plan_at old).steps (results_of l)) h.log (subst (λ (p : Plan). Fit p.steps (results_of (log_at now))) h.plan last.fit) in (
+        record {
+          steps = sym (take-append-drop n (plan_at old).steps) ∙ ap (λ (l : List Step). before ++ l) (sym steps);
+          copies = subst (λ (l : List Step). Fit l (results_of (logs_of ps))) (sym steps) (fit_rest (plan_at old).steps (log_at old) (logs_of ps) logged);
+          over = record {
+            world = ends.world;
+            listed = ends.listed;
+            grows = ends.grows;
+            waited = ends.waited;
+            admitted = ends.admitted;
+            below = ends.below;
+            within = ends.within;
+            holds = (subst (λ (p : Plan). EndedUnder ours alone opening.named ends.world opening.options (marks_of p.steps) d) h.plan last.ended, subst (λ (p : Plan). IsPlanned ours ends.world opening.options p) h.plan last.planned);
+          };
+          named = named_last old now (logs_of ps) d h ends;
+        },
+        refl,
+      )
 
   pub told_rest : (old now : Option Opened) (ps : List Performed) (d : Device) → HasLogged old now (logs_of ps) → steps_of ps ≡ drop (length (log_at old)) (plan_at old).steps → EndsBy opening (plan_at now) (log_at now) d
       → RestReport opening ps d
-  told_rest old now ps d h steps ends = record { plan = plan_at old; before = take (length (log_at old)) (plan_at old).steps; last = told_last old now ps d h steps ends }
+  told_rest old now ps d h steps ends = record { plan = plan_at old; before = take (length (log_at old)) (plan_at old).steps; last = (told_last old now ps d h steps ends).0 }
 
-  pub told_whole : (old now : Option Opened) (ps : List Performed) (unfit : List (Side × ℕ)) (d : Device) → log_at old ≡ [] → HasLogged old now (logs_of ps) → steps_of ps ≡ drop (length (log_at old)) (plan_at old).steps → EndsBy opening (plan_at now) (log_at now) d
-      → PassedOver opening (plan_at old) unfit → WholeReport opening ps unfit d
-  told_whole old now ps unfit d none h steps ends passed = record {
-    plan = plan_at old;
-    all = subst (λ (l : List Logged). AreStepsOf opening (plan_at old) (take (length l) (plan_at old).steps) ps d) none (told_last old now ps d h steps ends);
-    passed_over = passed;
-  }
+  pub told_whole : (old now new : Option Opened) (ps : List Performed) (unfit : List (Side × ℕ)) (d : Device) → log_at old ≡ [] → HasLogged old now (logs_of ps) → steps_of ps ≡ drop (length (log_at old)) (plan_at old).steps → (ends : EndsBy opening (plan_at now) (log_at now) d)
+      → IsShown new ends.world → unfit ≡ all_unfit (scene_of ends.world opening.options) → WholeReport opening new ps unfit d
+  told_whole old now new ps unfit d none h steps ends shown skipped =
+      let whole = subst (λ (l : List Logged). (all : AreStepsOf opening (plan_at old) (take (length l) (plan_at old).steps) ps d) × (all.over.world ≡ ends.world)) none (told_last old now ps d h steps ends) in
+      record {
+        plan = plan_at old;
+        all = whole.0;
+        shown = subst (IsShown new) (sym whole.1) shown;
+        skipped = subst (λ (w : World). unfit ≡ all_unfit (scene_of w opening.options)) (sym whole.1) skipped;
+      }
 
 -- ---- from one condition to another
 

@@ -1,5 +1,5 @@
 -- What a run answers, and where it leads.
-use Rattle.std.specs.Prelude.{◌≡◌, ◌≢◌, ◌≤◌, ◌<◌, ◌+◌, ◌^◌, All, AllPairs, ℕ, Bool, true, false, List, drop, length, Option, None, Some}
+use Rattle.std.specs.Prelude.{◌≡◌, ◌≢◌, ◌≤◌, ◌<◌, ◌+◌, ◌^◌, All, AllPairs, ℕ, Bool, true, false, List, [], drop, length, Option, None, Some}
 use Rattle.rand_core.specs.Stream.{Stream}
 use Rattle.mailcore.specs.declared.side.Side.{Side}
 use Rattle.mailcore.specs.declared.listing.Listing.{Listing}
@@ -25,7 +25,7 @@ use Rattle.runner.specs.declared.fault.RunFault.TheVariants as run
 use Rattle.runner.specs.declared.pass.Pass.{Pass}
 use Rattle.runner.specs.declared.pass.Pass.TheVariants.{Already, Ran, Finished}
 use Rattle.runner.specs.declared.performed.Performed.{Performed}
-use Rattle.runner.specs.Before.{HasNone, ReadUnderway}
+use Rattle.runner.specs.Before.{HasNone, IsShown, ReadUnderway}
 use Rattle.runner.specs.Going.{made, steps_of}
 use Rattle.runner.specs.Maps.{HasMapIn}
 
@@ -58,11 +58,11 @@ abbrev pub RepeatsIn : Option Opened → Stream → (far near : Listing) → Opt
 RepeatsIn None stream far near options = ⊥
 RepeatsIn (Some o) stream far near options = RepeatsFor stream (count_new (scene far near o.state options))
 
--- one for each new message of some world since the opening, where the outside has behaved as specified and began so
-pub record HasRepeats {ours : List ℕ → Bool} {alone : Bool} (opening : Opening ours alone) (honest from : Type 0) (options : Options) (stream : Stream) : Type 0 where
+-- one for each new message of the world that the two last listings have shown, where the outside has behaved as specified and began so
+pub record HasRepeats {ours : List ℕ → Bool} {alone : Bool} (opening : Opening ours alone) (now : Option Opened) (honest from : Type 0) (options : Options) (stream : Stream) : Type 0 where
   pub count : ℕ
   pub repeats : RepeatsFor stream count
-  pub wanted : honest → from → Since opening (λ w. count ≡ count_new (scene_of w options))
+  pub wanted : honest → from → Since opening (λ w. IsShown now w × (count ≡ count_new (scene_of w options)))
 
 -- the steps that the rules call for on two listings, under the first marks of a generator
 abbrev pub IsDrawn : Option Opened → Stream → (far near : Listing) → Options → List Step → Type 0
@@ -114,7 +114,7 @@ IsRestOf (Some o) performed = IsRest o.pending performed
 
 -- what is read of files that hold this
 abbrev pub as_read : SyncState → Pending → Option Opened
-as_read s p = Some (record { state = s; pending = p; far = false; near = false })
+as_read s p = Some (record { state = s; pending = p; far = false; near = false; listed = [] })
 
 abbrev pub run_of : Option Opened → ℕ
 run_of None = 0

@@ -18,6 +18,8 @@ use Rattle.runner.specs.declared.fault.RunFault.{RunFault}
 use Rattle.runner.specs.declared.fault.RunFault.TheVariants as run
 use Rattle.runner.specs.declared.pass.Pass.{Pass}
 use Rattle.runner.specs.Answers.{Answers, Inputs, Moves, RepeatsFor, RunsBy, as_read}
+use Rattle.outside.specs.Opened.{Opened}
+use Rattle.runner.specs.Before.{IsShown}
 use Rattle.runner.specs.Validities.{HasChanged, IsKept}
 
 -- ---- where a run stands between two attempts
@@ -108,14 +110,14 @@ pub record KeptLast {ours : List ℕ → Bool} {alone : Bool} (opening : Opening
   pub kept : IsKept alone (began_on began.reopens.since old.device) new.device
 
 -- in an attempt marks repeat: so many draws do from where the generator stood then, which was between these two, before there is a mark for
--- each new message of some world since the opening
-pub record HaveRepeated (honest : Type 0) {ours : List ℕ → Bool} {alone : Bool} (opening : Opening ours alone) (options : Options) (stream after : Stream) (start : Device) : Type 0 where
+-- each new message of the world that the two last listings have shown
+pub record HaveRepeated (honest : Type 0) {ours : List ℕ → Bool} {alone : Bool} (opening : Opening ours alone) (now : Option Opened) (options : Options) (stream after : Stream) (start : Device) : Type 0 where
   pub drawn : Stream
   pub moved : Moves stream drawn
   pub on : Moves drawn after
   pub count : ℕ
   pub repeats : RepeatsFor drawn count
-  pub wanted : FromOpening honest opening options stream start (Since opening (λ w. count ≡ count_new (scene_of w options)))
+  pub wanted : FromOpening honest opening options stream start (Since opening (λ w. IsShown now w × (count ≡ count_new (scene_of w options))))
 
 -- ---- the greatest number
 

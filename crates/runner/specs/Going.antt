@@ -17,7 +17,7 @@ use Rattle.sync_state.specs.declared.journal.Logged.TheVariants.{Copied, Done, V
 use Rattle.book.specs.declared.book.Pending.{Pending}
 use Rattle.book.specs.declared.book.Pending.TheVariants.{Missing, Useless, Planned}
 use Rattle.outside.specs.Devices.{Device, Named}
-use Rattle.outside.specs.Opened.{IsOpen, Opened, journal_of, state_of}
+use Rattle.outside.specs.Opened.{IsOpen, Opened, journal_of, listed_of, state_of}
 use Rattle.run_states.specs.Moments.{HasBegun, IsSought, Midway, Stands}
 use Rattle.run_states.specs.Openings.{Opening, Since}
 use Rattle.run_states.specs.Plans.{next_of}
@@ -129,6 +129,7 @@ pub record HasLogged (old new : Option Opened) (results : List Logged) : Type 0 
   pub version : version_at new ≡ version_at old
   pub plan : plan_at new ≡ plan_at old
   pub log : log_at new ≡ log_at old ++ results
+  pub listed : listed_of new ≡ listed_of old
 
 -- ---- where the next step stands, for the plan that is pending, on some world since the opening
 

@@ -4,6 +4,8 @@ use Rattle.rand_core.specs.Stream.{Stream}
 use Rattle.mailcore.specs.declared.keywords.Keyword.{Keyword}
 use Rattle.mailcore.specs.declared.side.Side.{Side}
 use Rattle.rules.specs.declared.options.Options.{Options}
+use Rattle.rules.specs.World.{scene_of}
+use Rattle.planner.specs.Listed.{all_unfit}
 use Rattle.outside.specs.declared.outside.Outside.{Ghosts}
 use Rattle.outside.specs.Devices.{Device}
 use Rattle.outside.specs.Opened.{AreCommitted, IsBook, IsHeld}
@@ -12,14 +14,14 @@ use Rattle.run_states.specs.Openings.{Opening}
 use Rattle.runner.specs.declared.fault.RunFault.{RunFault}
 use Rattle.runner.specs.declared.pass.Pass.{Pass}
 use Rattle.runner.specs.Answers.{AnswersTo, HasRepeats, IsRun, Moves, PlanStart, ReadPassStart, RunsBy, made_in, run_of}
-use Rattle.runner.specs.Before.{HasNoPlan, IsEmptied}
+use Rattle.runner.specs.Before.{HasNoPlan, IsEmptied, IsShown, world_shown}
 use Rattle.runner.specs.ChangedMaps.{TellsMap}
 use Rattle.runner.specs.Faults.{ReadsBeyond, Reasons, because, or_beyond, or_keywords, or_repeats}
 use Rattle.runner.specs.Finding.{FindsBy, OfSame}
 use Rattle.runner.specs.Going.{AreOpen, BeforeStep, IsGoing, log_at, plan_at}
 use Rattle.runner.specs.Naming.{NamesBy}
 use Rattle.runner.specs.Parts.{RunPart}
-use Rattle.runner.specs.Results.{EndsBy, HasResults, PassedOver, Report}
+use Rattle.runner.specs.Results.{EndsBy, HasResults, Report}
 use Rattle.runner.specs.Validities.{IsCompared, LeavesBoxes, TellsChange, TellsUnlessSame}
 
 module _ {O : Type 0} (o : Ghosts O) where
@@ -77,7 +79,7 @@ module _ {O : Type 0} (o : Ghosts O) where
     pub record StageAnswer (run : ℕ) (from : Device → Type 0) (old new : O) (pass : Pass) : Type 0 where
       pub by_files : AnswersTo run (o.opened old) pass
       pub results : o.honest new → HasResults pass (o.seen new).device
-      pub told : o.honest new → from (o.seen old).device → Report opening pass (o.seen new).device
+      pub told : o.honest new → from (o.seen old).device → Report opening (o.opened new) pass (o.seen new).device
       pub found : o.honest new → from (o.seen old).device → OfSame o.ours (o.seen old).device (λ d. FindsBy (o.opened old) d pass)
       pub named : o.honest new → from (o.seen old).device → NamesBy opening (o.opened old) pass (o.seen old).device (o.seen new).device
 
@@ -89,7 +91,7 @@ module _ {O : Type 0} (o : Ghosts O) where
 
     -- A stage that may make a plan, by these options and with the marks that a generator gives from here on: marks may repeat too.
     pub record DrawnStage (run : ℕ) (options : Options) (stream drawn : Stream) (reasons : Reasons) (from reaches : Device → Type 0) (old new : O) (result : Result Pass RunFault) : Type 0 where
-      pub stage : Stage run (or_repeats (HasRepeats opening (o.honest new) (from (o.seen old).device) options stream) reasons) from reaches old new result
+      pub stage : Stage run (or_repeats (HasRepeats opening (o.opened new) (o.honest new) (from (o.seen old).device) options stream) reasons) from reaches old new result
       pub runs : IfOk result (RunsBy (o.opened old) options stream)
       pub moved : Moves stream drawn
 
@@ -99,12 +101,13 @@ module _ {O : Type 0} (o : Ghosts O) where
 
     -- ---- a plan
 
-    -- one was made and written, and these messages were skipped, for some world since the opening
+    -- one was made and written, and these messages of the world that both listings have shown were skipped
     pub record Proposed (options : Options) (stream : Stream) (old new : O) (unfit : List (Side × ℕ)) : Type 0 where
       pub going : IsGoing (o.opened new)
       pub log : log_at (o.opened new) ≡ []
       pub run : IsRun (o.opened old) options stream (plan_at (o.opened new)).steps unfit
-      pub passed_over : o.honest new → PlanStart opening (o.opened old) options stream (o.seen old).device → PassedOver opening (plan_at (o.opened new)) unfit
+      pub shown : IsShown (o.opened new) (world_shown (o.opened new))
+      pub skipped : o.honest new → PlanStart opening (o.opened old) options stream (o.seen old).device → unfit ≡ all_unfit (scene_of (world_shown (o.opened new)) opening.options)
 
     -- its state is committed, and the files hold it; the run is over by that plan, if its steps were done
     pub record Concluded (is_resumed : Bool) (old new : O) : Type 0 where

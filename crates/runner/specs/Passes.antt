@@ -26,8 +26,8 @@ use Rattle.runner.specs.Validities.{IsCompared, LeavesBoxes, TellsChanged}
 -- first step that was not logged alone, and none where the plan was made in this pass. Where nobody else adds messages, and the run is not
 -- an older one, both mailboxes and the state are alike to the outcome that the rules name for the opening. Calls have named only what steps
 -- of that plan are to change or to remove, and each other message stands as it did.
-pub record TellsRun {ours : List ℕ → Bool} {alone : Bool} (opening : Opening ours alone) (run : ℕ) (pass : Pass) (old new : Device) : Type 0 where
-  pub told : Report opening pass new
+pub record TellsRun {ours : List ℕ → Bool} {alone : Bool} (opening : Opening ours alone) (run : ℕ) (now : Option Opened) (pass : Pass) (old new : Device) : Type 0 where
+  pub told : Report opening now pass new
   pub found : FindsAt ours old pass
   pub named : NamesAt opening pass old new
   pub others : (s : SyncState) (p : Pending) → Holds old.files s p → OthersStand opening (as_read s p) pass old new
@@ -48,4 +48,4 @@ pub record LeavesMade (honest : Type 0) (alone : Bool) (old new : Device) : Type
 abbrev pub pass_reasons : (now : Option Opened) → (honest : Type 0) → {ours : List ℕ → Bool} {alone : Bool} → Opening ours alone → (run : ℕ) → Options → Stream → (old new : Device) → Reasons
 pass_reasons now honest {ours} {alone} opening run options stream old new =
     or_unread (TellsUnread honest new) (or_beyond (TellsBeyond now honest run old) (or_keywords (TellsOtherMap now honest alone options.keywords old new)
-    (because (λ side. TellsChanged honest alone old new side × IsCompared now side) (HasRepeats opening honest (PassStart opening run options stream old) options stream))))
+    (because (λ side. TellsChanged honest alone old new side × IsCompared now side) (HasRepeats opening now honest (PassStart opening run options stream old) options stream))))

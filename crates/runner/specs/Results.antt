@@ -1,5 +1,5 @@
 -- What is reported of a run: where the copies stand, of which plan the steps are, and which messages were skipped.
-use Rattle.std.specs.Prelude.{◌≡◌, ℕ, All, Bool, Contains, List, [], ◌++◌, Some}
+use Rattle.std.specs.Prelude.{◌≡◌, ℕ, All, Bool, Contains, List, [], ◌++◌, Option, Some}
 use Rattle.mailcore.specs.declared.side.Side.{Side}
 use Rattle.mailcore.specs.declared.side.Direction.{Direction}
 use Rattle.mailcore.specs.declared.side.Direction.TheVariants.{Pull, Push}
@@ -17,6 +17,7 @@ use Rattle.book.specs.Books.{Holds}
 use Rattle.law_steps.specs.Steps.{Fit}
 use Rattle.law_outcome.specs.CommitLaws.{results_of}
 use Rattle.outside.specs.Devices.{Device, Named}
+use Rattle.outside.specs.Opened.{Opened}
 use Rattle.run_states.specs.Endings.{EndedUnder}
 use Rattle.run_states.specs.Openings.{Opening, Since}
 use Rattle.run_states.specs.Plans.{IsPlanned, NamedBy}
@@ -25,6 +26,7 @@ use Rattle.runner.specs.declared.pass.Pass.TheVariants.{Already, Ran, Finished}
 use Rattle.runner.specs.declared.performed.Performed.{Performed}
 use Rattle.runner.specs.declared.performed.StepResult.{StepResult}
 use Rattle.runner.specs.declared.performed.StepResult.TheVariants as did
+use Rattle.runner.specs.Before.{IsShown}
 use Rattle.runner.specs.Going.{logs_of, steps_of}
 
 -- ---- where the copies stand
@@ -77,10 +79,6 @@ pub record IsOverBy (ours : List ℕ → Bool) (alone : Bool) (earlier : List Na
 abbrev pub EndsBy : {ours : List ℕ → Bool} {alone : Bool} → Opening ours alone → Plan → List Logged → Device → Type 0
 EndsBy {ours} {alone} opening plan log d = Since opening (λ w. IsOverBy ours alone opening.named w opening.options plan log d)
 
--- some world since the opening has this plan, and these messages of it, which only want fitness to be new, were skipped
-abbrev pub PassedOver : {ours : List ℕ → Bool} {alone : Bool} → Opening ours alone → Plan → List (Side × ℕ) → Type 0
-PassedOver {ours} {alone} opening plan unfit = Since opening (λ w. IsPlanned ours w opening.options plan × (unfit ≡ all_unfit (scene_of w opening.options)))
-
 -- The steps reported are those of this plan after these ones. The run is over for a world that has this plan, the copies bear its marks,
 -- and each new message that is reported, and no other step, has the UID of a copy. Calls have named no message since the opening but those
 -- that the steps of this plan are to change or to remove.
@@ -90,11 +88,13 @@ pub record AreStepsOf {ours : List ℕ → Bool} {alone : Bool} (opening : Openi
   pub over : Since opening (λ w. EndedUnder ours alone opening.named w opening.options (marks_of plan.steps) d × IsPlanned ours w opening.options plan)
   pub named : NamedBy opening.named plan.steps d.named
 
--- what is reported of a run that was planned in this pass: all steps of its plan, and the messages of the world that was listed for it
-pub record WholeReport {ours : List ℕ → Bool} {alone : Bool} (opening : Opening ours alone) (performed : List Performed) (unfit : List (Side × ℕ)) (d : Device) : Type 0 where
+-- what is reported of a run that was planned in this pass: all steps of its plan. The world that the run is over for is the one that the two
+-- last listings have shown, and the messages that were skipped are those of it which only want fitness to be new.
+pub record WholeReport {ours : List ℕ → Bool} {alone : Bool} (opening : Opening ours alone) (now : Option Opened) (performed : List Performed) (unfit : List (Side × ℕ)) (d : Device) : Type 0 where
   pub plan : Plan
   pub all : AreStepsOf opening plan [] performed d
-  pub passed_over : PassedOver opening plan unfit
+  pub shown : IsShown now all.over.world
+  pub skipped : unfit ≡ all_unfit (scene_of all.over.world opening.options)
 
 -- of one that was resumed: the last steps of its plan
 pub record RestReport {ours : List ℕ → Bool} {alone : Bool} (opening : Opening ours alone) (performed : List Performed) (d : Device) : Type 0 where
@@ -102,7 +102,7 @@ pub record RestReport {ours : List ℕ → Bool} {alone : Bool} (opening : Openi
   pub before : List Step
   pub last : AreStepsOf opening plan before performed d
 
-abbrev pub Report : {ours : List ℕ → Bool} {alone : Bool} → Opening ours alone → Pass → Device → Type 0
-Report opening Already d = Unit {0}
-Report {ours} {alone} opening (Ran performed unfit) d = WholeReport opening performed.items unfit.items d
-Report {ours} {alone} opening (Finished performed) d = RestReport opening performed.items d
+abbrev pub Report : {ours : List ℕ → Bool} {alone : Bool} → Opening ours alone → (now : Option Opened) → Pass → Device → Type 0
+Report opening now Already d = Unit {0}
+Report {ours} {alone} opening now (Ran performed unfit) d = WholeReport opening now performed.items unfit.items d
+Report {ours} {alone} opening now (Finished performed) d = RestReport opening performed.items d

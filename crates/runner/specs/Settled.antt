@@ -34,12 +34,12 @@ use Rattle.runner.specs.Validities.{IsCompared}
 -- other one was made by it. Calls have named only what steps of that plan are to change or to remove, and the last attempt none, where the
 -- run was made already. Each message that stood when this began, or when an attempt did, and that no step is to change or to remove, stands
 -- as it did.
-pub record IsSettled {ours : List ℕ → Bool} {alone : Bool} (opening : Opening ours alone) (options : Options) (stream : Stream) (settled : Settled) (old new : Seen) : Type 0 where
+pub record IsSettled {ours : List ℕ → Bool} {alone : Bool} (opening : Opening ours alone) (now : Option Opened) (options : Options) (stream : Stream) (settled : Settled) (old new : Seen) : Type 0 where
   pub over : IsOver opening new.device
   pub alike : alone ≡ true → IsOpening opening.world → IsDone opening.world opening.options new.device
   pub began : LastAttempt opening settled.stops old new stream
   pub answers : AnswersAt (opening.world.state.run + 1) options settled.last (began_on began.reopens.since old.device) began.drawn
-  pub told : Report opening settled.last new.device
+  pub told : Report opening now settled.last new.device
   pub found : FindsAt ours (began_on began.reopens.since old.device) settled.last
   pub named : NamesAt opening settled.last (began_on began.reopens.since old.device) new.device
   pub others : (s : SyncState) (p : Pending) → Holds (began_on began.reopens.since old.device).files s p →
@@ -62,7 +62,7 @@ pub record IsUnsettled {ours : List ℕ → Bool} {alone : Bool} (opening : Open
 abbrev pub settle_reasons : (now : Option Opened) → (honest : Type 0) → {ours : List ℕ → Bool} {alone : Bool} → Opening ours alone → Options → (stream after : Stream) → (old new : Device) → Reasons
 settle_reasons now honest {ours} {alone} opening options stream after old new =
     or_unread (TellsUnread honest new) (or_greatest (TellsLastRun now honest new) (or_refused (IsNextOf now) (or_beyond (IsRead now × (honest → ⊥))
-    (or_keywords (HasOtherMapIn options.keywords now × (honest → HoldsOtherMap options.keywords new)) (because (IsCompared now) (HaveRepeated honest opening options stream after old))))))
+    (or_keywords (HasOtherMapIn options.keywords now × (honest → HoldsOtherMap options.keywords new)) (because (IsCompared now) (HaveRepeated honest opening now options stream after old))))))
 
 -- a fault that is no stop has its reason; a refusal or a fault of a box is the last that was reported, unless it is that of a copy that was
 -- lost

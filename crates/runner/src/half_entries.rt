@@ -229,7 +229,7 @@ fn list_far<O: Outside>(outside: &mut O) -> Result<Listing, RunFault>
     ensures kept { O.honest outside.new → KeepsAll O.ours O.alone (O.seen outside.old).device (O.seen outside.new).device }
     ensures counted { Counted Never (O.honest outside.new) (O.seen outside.old) (O.seen outside.new) result }
 {
-    match outside.list_far() {
+    match outside.look_far() {
         Ok(far) => Ok(far),
         Err(fault) => Err(call_fault(fault)),
     }
@@ -247,7 +247,7 @@ fn list_near<O: Outside>(alloc: Global, outside: &mut O) -> Result<Listing, RunF
     ensures counted { Counted Never (O.honest outside.new) (O.seen outside.old) (O.seen outside.new) result }
 {
     let all = Spared::of(u32::MAX, Vec::new(alloc));
-    match outside.list_near(&all) {
+    match outside.look_near(&all) {
         Ok(near) => Ok(near),
         Err(fault) => Err(call_fault(fault)),
     }

@@ -6,15 +6,16 @@ ghost use Rattle.book.specs.Books.{mended};
 ghost use Rattle.book.specs.BookLogs.{begun};
 ghost use Rattle.mailbox.specs.Operations.{HasNumbers};
 ghost use Rattle.mailcore.specs.Spared.{spares};
-ghost use Rattle.outside.specs.Opened.{IsBook, IsHeld, IsOpen, IsRead, TakesPlan, state_of, turned, with_box};
+ghost use Rattle.outside.specs.Opened.{IsBook, IsHeld, IsOpen, IsRead, TakesPlan, shown_far, state_of, turned, with_box, with_listing};
 ghost use Rattle.run_states.specs.Conditions.{Underway};
-ghost use Rattle.run_states.specs.Openings.{Opening};
+ghost use Rattle.run_states.specs.Openings.{Opening, once_listed};
 ghost use Rattle.runner.specs.Faults.{TellsUnread, because, or_unread};
 ghost use Rattle.runner.specs.Parts.{IsStuck, Part, PartOr, Never};
 ghost use Rattle.runner.specs.Validities.{BothSame, HasSame, HaveValidities, IsCompared, IsKept, KeepsValidities, LeavesBoxes, TellsChange, TellsOther, recorded_in};
 ghost use Rattle.runner.specs.Going.{AreOpen, BeforeStep};
 ghost use Rattle.runner.specs.Finding.{FindsSame};
-ghost use Rattle.runner.specs.Before.{BothListed, FarListed, SparesOld, HasNoJournal, HasNoPlan, HasNone, HasPlan, IsClear, IsEmptied, ReadUnderway, IsMade, Resumed};
+ghost use Rattle.runner.specs.Before.{BothListed, FarListed, SparesOld, HasNoJournal, HasNoPlan, HasNone, HasPlan, IsClear, IsEmptied, ReadUnderway, IsMade, Resumed, world_shown};
+ghost use Rattle.outside.specs.Devices.{Device};
 
 use crate::fault::{RunFault, call_fault};
 use crate::old_messages::old_messages;
@@ -143,12 +144,12 @@ fn list_far<O: Outside>(outside: &mut O) -> Result<Listing, RunFault>
     requires map { opening.options.keywords ≡ O.keywords outside.old }
     ensures was_honest { O.honest outside.new → O.honest outside.old }
     ensures keywords { O.keywords outside.new ≡ O.keywords outside.old }
-    ensures opened { O.opened outside.new ≡ O.opened outside.old }
+    ensures opened { IfOk result (λ far. O.opened outside.new ≡ with_listing (shown_far far.next (O.seen outside.new).device) (O.opened outside.old)) }
     ensures numbers { IfOk result HasNumbers }
     ensures validities { OnOk result (O.honest outside.new → KeepsValidities (O.seen outside.old).device (O.seen outside.new).device) }
     ensures validity { IfOk result (λ far. O.honest outside.new → far.validity ≡ (O.seen outside.new).device.far.validity) }
     ensures part { Part (O.honest outside.new) (IsClear opening (O.opened outside.old) true) (Underway opening)
-        (λ _. 0) (λ far. FarListed opening (O.opened outside.old) far) (O.seen outside.old) (O.seen outside.new) result }
+        (λ _. 0) (λ far. FarListed opening (O.opened outside.new) far) (O.seen outside.old) (O.seen outside.new) result }
 {
     match outside.list_far() {
         Ok(far) => Ok(far),
@@ -168,12 +169,12 @@ fn list_near<O: Outside>(
     requires map { opening.options.keywords ≡ O.keywords outside.old }
     ensures was_honest { O.honest outside.new → O.honest outside.old }
     ensures keywords { O.keywords outside.new ≡ O.keywords outside.old }
-    ensures opened { O.opened outside.new ≡ O.opened outside.old }
+    ensures opened { OnOk result (O.opened outside.new ≡ with_listing (O.seen outside.new).device (O.opened outside.old)) }
     ensures numbers { IfOk result HasNumbers }
     ensures validities { OnOk result (O.honest outside.new → KeepsValidities (O.seen outside.old).device (O.seen outside.new).device) }
     ensures validity { IfOk result (λ near. O.honest outside.new → near.validity ≡ (O.seen outside.new).device.near.store.validity) }
     ensures part { Part (O.honest outside.new) (FarListed opening (O.opened outside.old) far.now) (Underway opening)
-        (λ _. 0) (λ near. BothListed opening (O.opened outside.old) far.now near) (O.seen outside.old) (O.seen outside.new)
+        (λ _. 0) (λ near. BothListed opening (O.opened outside.new) far.now near) (O.seen outside.old) (O.seen outside.new)
         result }
 {
     match outside.list_near(spared) {
@@ -199,12 +200,12 @@ pub(crate) fn list_both<O: Outside>(alloc: Global, outside: &mut O) -> Result<Li
     requires map { opening.options.keywords ≡ O.keywords outside.old }
     ensures was_honest { O.honest outside.new → O.honest outside.old }
     ensures keywords { O.keywords outside.new ≡ O.keywords outside.old }
-    ensures opened { O.opened outside.new ≡ O.opened outside.old }
+    ensures opened { OnOk result ((far near : Device) × (O.opened outside.new ≡ with_listing near (with_listing far (O.opened outside.old)))) }
     ensures far_numbers { IfOk result (λ both. HasNumbers both.far) }
     ensures near_numbers { IfOk result (λ both. HasNumbers both.near) }
     ensures validities { IfOk result (λ both. O.honest outside.new → HaveValidities both.far both.near (O.seen outside.old).device) }
     ensures part { Part (O.honest outside.new) (IsClear opening (O.opened outside.old) true) (Underway opening)
-        (λ _. 0) (λ both. BothListed opening (O.opened outside.old) both.far both.near) (O.seen outside.old)
+        (λ _. 0) (λ both. BothListed opening (O.opened outside.new) both.far both.near) (O.seen outside.old)
         (O.seen outside.new) result }
 {
     let far = list_far(outside)?;
@@ -222,8 +223,8 @@ pub(crate) fn write_plan<O: Outside>(outside: &mut O, plan: Plan) -> Result<(), 
     ensures was_honest { O.honest outside.new → O.honest outside.old }
     ensures keywords { O.keywords outside.new ≡ O.keywords outside.old }
     ensures opened { OnOk result (O.opened outside.new ≡ turned (λ _. begun plan) (O.opened outside.old)) }
-    ensures part { Part (O.honest outside.new) (IsMade opening (O.opened outside.old) plan) (Underway opening)
-        (λ _. 0) (λ _. BeforeStep opening (O.opened outside.new) false) (O.seen outside.old) (O.seen outside.new) result }
+    ensures part { Part (O.honest outside.new) (IsMade opening (O.opened outside.old) plan) (Underway opening) (λ _. 0)
+        (λ _. BeforeStep (once_listed opening (world_shown (O.opened outside.new))) (O.opened outside.new) false) (O.seen outside.old) (O.seen outside.new) result }
 {
     match outside.begin(plan) {
         Ok(()) => Ok(()),

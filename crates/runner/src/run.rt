@@ -3,13 +3,13 @@
 ghost use Rattle.std.specs.Prelude.{◌≡◌, ◌<◌, ◌+◌, ◌^◌, None, IsErr, OnOk, IfOk, true, false};
 ghost use Rattle.outside.specs.Opened.{IsBook, IsRead, TakesCommit};
 ghost use Rattle.run_states.specs.Conditions.{Underway};
-ghost use Rattle.run_states.specs.Openings.{Opening};
+ghost use Rattle.run_states.specs.Openings.{Opening, once_listed};
 ghost use Rattle.runner.specs.Maps.{HasMapIn};
 ghost use Rattle.runner.specs.Faults.{or_repeats};
 ghost use Rattle.runner.specs.Parts.{IsStuck, Part, PartOr, RunPart, Never};
 ghost use Rattle.runner.specs.Validities.{IsKept};
 ghost use Rattle.runner.specs.Going.{AreOpen, BeforeStep, IsGoing, next_at};
-ghost use Rattle.runner.specs.Before.{HasPlan, ReadUnderway, Resumed};
+ghost use Rattle.runner.specs.Before.{HasPlan, ReadUnderway, Resumed, world_shown};
 ghost use Rattle.runner.specs.Results.{HasResults};
 ghost use Rattle.runner.specs.Answers.{RunEnd, HasRepeats, PlanStart, PassStart, Moves, OfFiles, PassEnd, made_in, run_of};
 ghost use Rattle.runner.specs.Attempts.{AnswersAt};
@@ -60,10 +60,11 @@ fn propose<O: Outside, R: Rng>(
     ensures moved { Moves (R.stream rng.old) (R.stream rng.new) }
     ensures proposed { IfOk result (λ unfit. Proposed O.Outside opening options.now (R.stream rng.old) outside.old outside.new
         unfit.items) }
-    ensures part { PartOr (or_repeats (HasRepeats opening (O.honest outside.new) (PlanStart opening (O.opened outside.old) options.now
-        (R.stream rng.old) (O.seen outside.old).device) options.now (R.stream rng.old)) (plan_reasons O.Outside outside.old outside.new))
+    ensures part { PartOr (or_repeats (HasRepeats opening (O.opened outside.new) (O.honest outside.new) (PlanStart opening (O.opened outside.old)
+        options.now (R.stream rng.old) (O.seen outside.old).device) options.now (R.stream rng.old)) (plan_reasons O.Outside outside.old outside.new))
         (O.honest outside.new) (PlanStart opening (O.opened outside.old) options.now (R.stream rng.old)) (Underway opening) (λ _. 0)
-        (λ _. BeforeStep opening (O.opened outside.new) false) (O.seen outside.old) (O.seen outside.new) result }
+        (λ _. BeforeStep (once_listed opening (world_shown (O.opened outside.new))) (O.opened outside.new) false) (O.seen outside.old)
+        (O.seen outside.new) result }
 {
     clear(outside)?;
     let both = list_both(alloc, outside)?;
@@ -226,7 +227,7 @@ pub fn pass<O: Outside, R: Rng, P: Progress>(
 
     // If the run was underway, the answer reports its steps, and the end is what the rules prescribe for the world that it began with.
     ensures told { IfOk result (λ pass. O.honest outside.new → PassStart opening run options.now (R.stream rng.old)
-        (O.seen outside.old).device → TellsRun opening run pass (O.seen outside.old).device (O.seen outside.new).device) }
+        (O.seen outside.old).device → TellsRun opening run (O.opened outside.new) pass (O.seen outside.old).device (O.seen outside.new).device) }
 
     // A run that was made before is not made again. A run after the next one is refused, and nothing has changed. On an outside that had
     // failed before, it stops.

@@ -3,17 +3,17 @@ use Rattle.run_trial.proofs.devices.settle_from.Goals as goal
 
 pub returns-clause-done : goal.returns-clause-done
 returns-clause-done g c = λ honest alone ours at sound.
-    done_from g.opening c.args.options.now (g.O.Outside.honest c.settle_trial-settled.new.outside)
+    done_from g.opening c.args.options.now _ (g.O.Outside.honest c.settle_trial-settled.new.outside)
     (g.O.Outside.seen c.args.outside) (g.O.Outside.seen c.settle_trial-settled.new.outside) c.settle_trial-settled.result c.settle_trial-settled.ensures.done honest alone ours at sound
 
 pub returns-clause-over : goal.returns-clause-over
 returns-clause-over g c = λ honest ours at.
-    over_from g.opening c.args.options.now (g.O.Outside.honest c.settle_trial-settled.new.outside)
+    over_from g.opening c.args.options.now _ (g.O.Outside.honest c.settle_trial-settled.new.outside)
     (g.O.Outside.seen c.args.outside) (g.O.Outside.seen c.settle_trial-settled.new.outside) c.settle_trial-settled.result c.settle_trial-settled.ensures.done honest ours at
 
 pub returns-clause-others : goal.returns-clause-others
 returns-clause-others g c = λ honest ours at order.
-    others_from g.opening c.args.options.now (g.O.Outside.honest c.settle_trial-settled.new.outside)
+    others_from g.opening c.args.options.now _ (g.O.Outside.honest c.settle_trial-settled.new.outside)
     (g.O.Outside.seen c.args.outside) (g.O.Outside.seen c.settle_trial-settled.new.outside) c.settle_trial-settled.result c.settle_trial-settled.ensures.done honest ours at order
 
 pub returns-clause-left : goal.returns-clause-left

@@ -3,8 +3,8 @@ use Rattle.runner.proofs.KeptBoxes.{all_read}
 use Rattle.runner.proofs.PartCalls.{left_call, line_of_opening, opening_unrefused, passed_call}
 use Rattle.runner.proofs.half_entries.list_far.Goals as goal
 
-pub list_far-requires : goal.list_far-requires
-list_far-requires g c = record { is_open = c.requires.boxes Far }
+pub look_far-requires : goal.look_far-requires
+look_far-requires g c = record { is_open = c.requires.boxes Far }
 
 pub returns-in-Ok-clause-shows : goal.returns-in-Ok-clause-shows
 returns-in-Ok-clause-shows g c = λ honest. let w = c.in-Ok.ensures.call in let acts = w.acts in let e = acts.effect honest in let l = e.behind.1 in rw e.behind.0 l.shows.items

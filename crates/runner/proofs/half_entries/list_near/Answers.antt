@@ -7,8 +7,8 @@ use Rattle.runner.proofs.KeptBoxes.{all_read}
 use Rattle.runner.proofs.PartCalls.{left_call, line_of_opening, opening_unrefused, passed_call}
 use Rattle.runner.proofs.half_entries.list_near.Goals as goal
 
-pub list_near-requires : goal.list_near-requires
-list_near-requires g c = record { is_open = c.requires.boxes Near }
+pub look_near-requires : goal.look_near-requires
+look_near-requires g c = record { is_open = c.requires.boxes Near }
 
 pub returns-in-Ok-clause-shows : goal.returns-in-Ok-clause-shows
 returns-in-Ok-clause-shows g c = λ honest uid. let w = c.in-Ok.ensures.call in let acts = w.acts in let e = acts.effect honest in let l = e.behind.1 in

@@ -13,7 +13,7 @@ list_far-requires g c = record { is_open = c.requires.1.0 Far }
 pub returns-in-Ok-clause-part : goal.returns-in-Ok-clause-part
 returns-in-Ok-clause-part g c =
     let s1 = g.O.Outside.seen c.list_far.new.self in
-    passed_told _ _ _ _ _ _ _ _ _ _ _ c.in-Ok.ensures.call (λ h m at a own. far_listed g.opening _ _ _ m s1.device (subst (λ (ks : List Keyword). ListsWithin ks c.in-Ok.far) (sym c.requires.1.1) (c.in-Ok.ensures.within h)) a at own.0 own.1)
+    rw c.in-Ok.ensures.opened (passed_told _ _ _ _ _ _ _ _ _ _ _ c.in-Ok.ensures.call (λ h m at a own. far_listed g.opening _ _ _ m s1.device (subst (λ (ks : List Keyword). ListsWithin ks c.in-Ok.far) (sym c.requires.1.1) (c.in-Ok.ensures.within h)) a at own.0 own.1))
 
 pub returns-in-Err-clause-part : goal.returns-in-Err-clause-part
 returns-in-Err-clause-part g c =

@@ -1,12 +1,23 @@
-use Rattle.std.proofs.Common.{List, arith, rules, subst, sym, ◌∙◌}
+use Rattle.std.proofs.Common.{◌≡◌, ℕ, Bool, false, List, None, Option, arith, refl, rules, subst, sym, ◌∙◌}
 use Rattle.std.proofs.lemmas.Result.{err_from_is_err_and}
 use Rattle.rules.specs.declared.plan.Step.{Step}
 use Rattle.run_states.specs.Plans.{NamedBy}
-use Rattle.runner.specs.Answers.{IsRun, PlanStart}
-use Rattle.runner.specs.Going.{log_at, logs_of, made, plan_at}
+use Rattle.rand_core.specs.Stream.{Stream}
+use Rattle.rules.specs.declared.options.Options.{Options}
+use Rattle.rules.specs.World.{World, scene_of}
+use Rattle.planner.specs.Listed.{all_unfit}
+use Rattle.outside.specs.Devices.{Device}
+use Rattle.outside.specs.Opened.{Opened}
+use Rattle.run_states.specs.Conditions.{Underway}
+use Rattle.run_states.specs.Openings.{Opening, once_listed}
+use Rattle.run_states.proofs.Growth.{since_any, since_any_world, underway_any}
+use Rattle.runner.specs.Answers.{IsRun, PlanStart, RunEnd}
+use Rattle.runner.specs.Before.{IsShown, world_shown}
+use Rattle.runner.specs.Going.{BeforeStep, log_at, logs_of, made, plan_at}
 use Rattle.runner.specs.Results.{EndsBy}
 use Rattle.runner.proofs.StepParts.{left_never, refused_from, steps_told, unrefused_told}
-use Rattle.runner.proofs.PartCalls.{left_after, left_told, passed_after, passed_weaker}
+use Rattle.runner.proofs.Listings.{committed_listed, is_shown_by, same_shown}
+use Rattle.runner.proofs.PartCalls.{left_after, left_knowing, left_told, passed_after, passed_knowing, passed_weaker}
 use Rattle.runner.proofs.Passes.{none_few, ran_answers, takes_commit, whole_steps}
 use Rattle.runner.proofs.Told.{named_last, told, told_whole}
 use Rattle.runner.proofs.Finding.{all_new, same_none}
@@ -35,14 +46,19 @@ returns-in_err-unfit g c =
     let e = err_from_is_err_and c.from_residual.result c.from_residual.ensures.1 in
     rw (e.1, e.2) (record { stage = drawn_left g.O.Outside g.opening _ _ _ _ _ _ _ _ _ _ c.in_err-unfit.ensures.frame c.in_err-unfit.ensures.moved (left_told _ _ _ _ _ _ _ _ (unrefused_told _ _ (λ step n. n)) c.in_err-unfit.ensures.part) })
 
+-- the run is underway for some world, if it is for the one that was listed
+anyhow : {ours : List ℕ → Bool} {alone : Bool} (opening : Opening ours alone) (opened : Option Opened) (options : Options) (stream : Stream) (listed : World) (d0 : Device) → PlanStart opening opened options stream d0 → (d : Device) → Underway (once_listed opening listed) d → Underway opening d
+anyhow opening opened options stream listed d0 k d u = let n = k.none in underway_any opening listed d n.unplanned.unlisted u
+
 pub returns-in_err-performed : goal.returns-in_err-performed
 returns-in_err-performed g c =
     let e = err_from_is_err_and c.from_residual-in_err-performed.result c.from_residual-in_err-performed.ensures.1 in
     let s1 = g.O.Outside.seen c.propose.new.outside in
     let honest = c.in_err-performed.ensures.was_honest in
     let proposed = c.in_ok-unfit.ensures.part in
+    let listed = world_shown (g.O.Outside.opened c.propose.new.outside) in
     let frame = frame_then g.O.Outside _ _ _ c.in_ok-unfit.ensures.frame (frame_of g.O.Outside _ _ honest c.in_err-performed.ensures.keywords) in
-    rw (e.1, e.2) (record { stage = drawn_left g.O.Outside g.opening _ _ _ _ _ _ _ _ _ _ frame c.in_ok-unfit.ensures.moved (left_after _ _ _ _ _ _ _ _ s1 _ honest proposed (left_told _ _ _ _ _ _ _ _ (steps_told _ _ (refused_from _ _ _ _ _ (λ h at. proposed.reaches (honest h) at))) c.in_err-performed.ensures.part)) })
+    rw (e.1, e.2) (record { stage = drawn_left g.O.Outside g.opening _ _ _ _ _ _ _ _ _ _ frame c.in_ok-unfit.ensures.moved (left_knowing _ _ _ _ _ _ _ (anyhow g.opening _ _ _ listed _) (left_after _ _ _ _ (Underway (once_listed g.opening listed)) _ _ _ s1 _ honest proposed (left_told _ _ _ _ _ _ _ _ (steps_told _ _ (refused_from _ _ _ _ _ (λ h at. proposed.reaches (honest h) at))) c.in_err-performed.ensures.part))) })
 
 pub returns-in_err-conclude : goal.returns-in_err-conclude
 returns-in_err-conclude g c =
@@ -51,9 +67,14 @@ returns-in_err-conclude g c =
     let s2 = g.O.Outside.seen c.carry_out.new.outside in
     let performed = c.in_ok-performed.ensures in
     let last = c.in_err-conclude.ensures.frame in
+    let ready = g.O.Outside.opened c.propose.new.outside in
+    let done = g.O.Outside.opened c.carry_out.new.outside in
+    let logged = performed.opened in
+    let same : world_shown done ≡ world_shown ready = same_shown done ready logged.state logged.listed in
     let so_far = passed_after _ _ _ _ _ _ _ _ s1 _ performed.was_honest c.in_ok-unfit.ensures.part performed.part in
+    let here = passed_knowing _ _ _ (BeforeStep (once_listed g.opening (world_shown done)) done false) _ _ _ (λ k d at. subst (λ (w : World). BeforeStep (once_listed g.opening w) done false d) (sym same) at) so_far in
     let frame = frame_then g.O.Outside _ _ _ (frame_then g.O.Outside _ _ _ c.in_ok-unfit.ensures.frame (frame_of g.O.Outside _ _ performed.was_honest performed.keywords)) last in
-    rw (e.1, e.2) (record { stage = drawn_left g.O.Outside g.opening _ _ _ _ _ _ _ _ _ _ frame c.in_ok-unfit.ensures.moved (left_never _ _ _ _ _ _ (left_after _ _ _ _ _ _ _ _ s2 _ last.was_honest so_far c.in_err-conclude.ensures.part)) })
+    rw (e.1, e.2) (record { stage = drawn_left g.O.Outside g.opening _ _ _ _ _ _ _ _ _ _ frame c.in_ok-unfit.ensures.moved (left_never _ _ _ _ _ _ (left_knowing _ _ _ _ _ _ _ (anyhow g.opening _ _ _ (world_shown done) _) (left_after _ _ _ _ (Underway (once_listed g.opening (world_shown done))) _ _ _ s2 _ last.was_honest here c.in_err-conclude.ensures.part))) })
 
 pub returns : goal.returns
 returns g c =
@@ -76,9 +97,17 @@ returns g c =
     let concluded = c.in_ok-conclude.ensures.concluded in
     let part = c.in_ok-unfit.ensures.part in
     let from = PlanStart g.opening old options stream in
+    let logged = carried.opened in
+    let shown = world_shown ready in
+    let same : world_shown done ≡ shown = same_shown done ready logged.state logged.listed in
+    let listed = once_listed g.opening (world_shown done) in
     let so_far = passed_after _ _ _ _ _ _ _ _ s1 _ carried.was_honest part carried.part in
+    let here = passed_knowing _ from _ (BeforeStep listed done false) _ _ _ (λ k d at. subst (λ (w : World). BeforeStep (once_listed g.opening w) done false d) (sym same) at) so_far in
     let whole = whole_steps ready performed.items proposed.log carried.steps in
-    let over : g.O.Outside.honest c.conclude.new.outside → from d0 → EndsBy g.opening (plan_at done) (log_at done) d2 = (λ h k. concluded.ends h (so_far.reaches (last.was_honest h) k)) in
+    let unlisted : from d0 → g.opening.listed ≡ None = (λ k. let n = k.none in n.unplanned.unlisted) in
+    let ends : g.O.Outside.honest c.conclude.new.outside → from d0 → EndsBy listed (plan_at done) (log_at done) d2 = (λ h k. concluded.ends h (here.reaches (last.was_honest h) k)) in
+    let over : g.O.Outside.honest c.conclude.new.outside → from d0 → EndsBy g.opening (plan_at done) (log_at done) d2 = (λ h k. since_any g.opening (world_shown done) _ (unlisted k) (ends h k)) in
+    let is : (h : g.O.Outside.honest c.conclude.new.outside) (k : from d0) → (over h k).world ≡ shown = (λ h k. since_any_world g.opening (world_shown done) _ (unlisted k) (ends h k) ∙ (ends h k).listed (world_shown done) refl ∙ same) in
     record {
       stage = record {
         stage = record {
@@ -86,13 +115,15 @@ returns g c =
           answer = record {
             by_files = ran_answers old performed unfit may.none;
             results = λ h. told ready done new performed.items _ carried.opened carried.steps carried.fits concluded.committed (concluded.held h);
-            told = λ h k. told_whole g.opening ready done performed.items unfit.items _ proposed.log carried.opened carried.steps (over h k) (proposed.passed_over (carried.was_honest (last.was_honest h)) k);
+            told = λ h k. told_whole g.opening ready done new performed.items unfit.items _ proposed.log carried.opened carried.steps (over h k)
+                (is_shown_by ready new _ (committed_listed done new concluded.committed ∙ logged.listed) (subst (IsShown ready) (sym (is h k)) proposed.shown))
+                (subst (λ (w : World). unfit.items ≡ all_unfit (scene_of w g.opening.options)) (sym (is h k)) (proposed.skipped (carried.was_honest (last.was_honest h)) k));
             found = λ h k d to.
                 let at = part.reaches (carried.was_honest (last.was_honest h)) k in
-                all_new g.opening ready performed.items s1.device carried.steps at (carried.found (last.was_honest h) at s1.device (same_none g.O.Outside.ours s1.device));
+                all_new (once_listed g.opening shown) ready performed.items s1.device carried.steps at (carried.found (last.was_honest h) at s1.device (same_none g.O.Outside.ours s1.device));
             named = λ h k. subst (λ (ss : List Step). NamedBy g.opening.named ss d2.named) (sym whole) (named_last g.opening ready done (logs_of performed.items) d2 carried.opened (over h k));
           };
-          part = passed_weaker _ from from _ _ _ (made performed.items) _ _ (omega arith) (λ d k. k) (λ d k. k) (passed_after _ _ _ _ _ _ _ _ s2 _ last.was_honest so_far c.in_ok-conclude.ensures.part);
+          part = passed_weaker _ from from _ _ _ (made performed.items) _ _ (omega arith) (λ d k. k) (λ d k. k) (passed_knowing _ from _ (RunEnd g.opening) _ _ _ (λ k d at. since_any g.opening (world_shown done) _ (unlisted k) at) (passed_after _ _ _ _ _ _ _ _ s2 _ last.was_honest here c.in_ok-conclude.ensures.part));
         };
         runs = subst (λ (ss : List Step). IsRun old options stream ss unfit.items) (sym whole) proposed.run;
         moved = c.in_ok-unfit.ensures.moved;

@@ -96,7 +96,7 @@ returns g c =
               (part_told _ _ _ _ _ _ _ _ _ _ (record {
                 changed = λ side t. (same_told _ _ _ old new s0.device s1.device s2.device side frame.was_honest boxes.opened boxes.kept t.0, t.1);
                 keywords = λ n. absurd n;
-                repeats = λ k. repeats_by here g.opening _ _ _ options stream leads k;
+                repeats = λ k. repeats_by here g.opening _ _ _ _ options stream leads k;
                 beyond = λ n. n;
                 greatest = λ n. n;
                 unread = λ e n. n;

@@ -78,7 +78,7 @@ returns-clause-part g c =
     let stream = g.R.Rng.stream c.args.rng.now in
     let with = passed_with ((run ≤ g.opening.world.state.run + 1) × Inputs g.opening options stream) _ _ _ _ _ _ c.in_ok-recall.ensures.part in
     let ready = passed_weaker _ _ (PassStart g.opening run options stream) _ (ReadPassStart g.opening opened run options stream) _ 0 _ s1 refl (λ d k. ((k.most, k.asked), k.underway)) (λ d k. record { most = k.0.0; asked = k.0.1; known = k.1 }) with in
-    part_after _ _ _ _ _ _ _ _ _ s1 _ _ frame.was_honest ready (part_told _ _ _ _ _ _ _ _ _ _ (record { changed = λ side t. (files_changed alone _ _ opened s0.device s1.device s2.device side frame.was_honest c.in_ok-recall.ensures.held c.in_ok-recall.ensures.kept t.0, t.1); keywords = λ t. files_map alone _ _ options.keywords opened _ s0.device s1.device s2.device frame.was_honest c.in_ok-recall.ensures.held c.in_ok-recall.ensures.kept t; repeats = λ k. repeats_from g.opening _ _ _ options stream (λ h at. ready.reaches (frame.was_honest h) at) k; beyond = λ n. (n.1, λ h. beyond_read opened s0.device run (c.in_ok-recall.ensures.held (frame.was_honest h)) n.0); greatest = λ n. n; unread = λ e n. absurd n; refused = refused_from _ _ _ _ _ (λ h at. ready.reaches (frame.was_honest h) at) }) stage.part)
+    part_after _ _ _ _ _ _ _ _ _ s1 _ _ frame.was_honest ready (part_told _ _ _ _ _ _ _ _ _ _ (record { changed = λ side t. (files_changed alone _ _ opened s0.device s1.device s2.device side frame.was_honest c.in_ok-recall.ensures.held c.in_ok-recall.ensures.kept t.0, t.1); keywords = λ t. files_map alone _ _ options.keywords opened _ s0.device s1.device s2.device frame.was_honest c.in_ok-recall.ensures.held c.in_ok-recall.ensures.kept t; repeats = λ k. repeats_from g.opening _ _ _ _ options stream (λ h at. ready.reaches (frame.was_honest h) at) k; beyond = λ n. (n.1, λ h. beyond_read opened s0.device run (c.in_ok-recall.ensures.held (frame.was_honest h)) n.0); greatest = λ n. n; unread = λ e n. absurd n; refused = refused_from _ _ _ _ _ (λ h at. ready.reaches (frame.was_honest h) at) }) stage.part)
 
 pub returns-in_err-recall-clause-moved : goal.returns-in_err-recall-clause-moved
 returns-in_err-recall-clause-moved g c = moved_none _
@@ -108,7 +108,7 @@ returns-clause-told g c =
     let d1 = (g.O.Outside.seen c.recall.new.outside).device in
     let leads : g.O.Outside.honest c.make_or_resume.new.outside → PassStart g.opening run options stream d0 → ReadPassStart g.opening opened run options stream d1
     = (λ h k. record { most = k.most; asked = k.asked; known = part.reaches (before h) k.underway }) in
-    tells_so g.opening run _ _ d0 _ c.make_or_resume.result
+    tells_so g.opening run _ _ _ d0 _ c.make_or_resume.result
     (told_from c.make_or_resume.result _ _ _ _ leads (report_in g.O.Outside g.opening _ _ _ _ c.make_or_resume.result stage.answer))
     (finds_held ours opened d0 d1 c.make_or_resume.result _ _ _ _ before leads c.in_ok-recall.ensures.same c.in_ok-recall.ensures.held (copies_in g.O.Outside g.opening _ _ _ _ c.make_or_resume.result stage.answer))
     (names_held g.opening opened d0 d1 _ c.make_or_resume.result _ _ _ _ before leads (λ h. c.in_ok-recall.ensures.kept h) c.in_ok-recall.ensures.held (names_in g.O.Outside g.opening _ _ _ _ c.make_or_resume.result stage.answer))

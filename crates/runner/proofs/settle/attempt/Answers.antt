@@ -65,9 +65,9 @@ returns g c =
         answer = attempt_answer g.O.Outside g.opening options old c.args.run.now c.args.outside.now c.pass.new.outside result
             (attempt_answers g.opening _ _ options _ run n s0.device s1.device c.args.run.now result fixed honest number.kept part.reaches passed.answers)
             passed.results
-            (told_from result _ _ _ _ leads (told_in g.opening _ _ _ _ _ result passed.told))
-            (finds_tried ours s0.device s1.device result _ _ _ _ honest leads (λ h. let k = number.kept h in k.files) number.same (found_in g.opening _ _ _ _ _ result passed.told))
-            (names_tried g.opening s0.device s1.device s2.device result _ _ _ _ honest leads number.kept (named_in g.opening _ _ _ _ _ result passed.told));
+            (told_from result _ _ _ _ leads (told_in g.opening _ _ _ _ _ _ result passed.told))
+            (finds_tried ours s0.device s1.device result _ _ _ _ honest leads (λ h. let k = number.kept h in k.files) number.same (found_in g.opening _ _ _ _ _ _ result passed.told))
+            (names_tried g.opening s0.device s1.device s2.device result _ _ _ _ honest leads number.kept (named_in g.opening _ _ _ _ _ _ result passed.told));
         number = record {
           reached = λ h at. fixed_on run n _ _ fixed (goes_on _ _ _ _ _ _ _ _ result passed.part h).files (number.number (honest h) at);
           greatest = λ none h s p held is. absurd ((number.greatest none (honest h) s p held is).0);
@@ -82,7 +82,7 @@ returns g c =
             (part_with _ p _ _ _ _ _ _ _ _ (part_told _ _ _ _ _ _ _ _ _ _ (record {
               changed = λ side t. (attempt_changed alone _ _ s0.device s1.device s2.device side honest number.kept t.0, t.1);
               keywords = λ t. attempt_map (g.O.Outside.opened c.pass.new.outside) alone _ _ options.keywords s0.device s1.device s2.device honest number.kept t;
-              repeats = λ k. repeats_from g.opening _ _ _ options old leads k;
+              repeats = λ k. repeats_from g.opening _ _ _ _ options old leads k;
               beyond = λ b. (beyond_is_read _ n b.0, λ h at. never_beyond n s1.device (number.number (honest h) at) (b.1 h));
               greatest = λ n. absurd n;
               unread = λ e t. t;

@@ -89,7 +89,7 @@ returns-in-Ok-clause-done g c = λ h asked at.
     let t = i.left before asked at in
     let here = subst (AttemptStart g.opening c.args.options.now drawn c.loop-tried.run) (sym (found_device tried now s1 c.again.ensures.seen)) t in
     let began = began_at g.opening _ tried c.loop-tried.run s0 now s1 s2 stream drawn i.first i.undrawn i.moved c.again.ensures.seen i.reopened (before, asked, at) t.tried (part.goes_on h) part.reopened in
-    settled_so g.opening s0 s1 s2 stream drawn c.args.options.now (record { stops = tried; last = c.in-Ok.last }) at began (part.reaches h here) (said.by_files h here.tried) (said.told h here) (said.found h here) (said.named h here)
+    settled_so g.opening s0 s1 s2 stream drawn (g.O.Outside.opened c.attempt.new.outside) c.args.options.now (record { stops = tried; last = c.in-Ok.last }) at began (part.reaches h here) (said.by_files h here.tried) (said.told h here) (said.found h here) (said.named h here)
 
 pub returns-in-Ok-clause-greatest : goal.returns-in-Ok-clause-greatest
 returns-in-Ok-clause-greatest g c = λ h s p held is.

@@ -28,7 +28,7 @@ returns-in-Far g c =
     record {
       was_honest = λ h. (b.ensures.was_honest h.0, h.1, h.2);
       keywords = b.ensures.keywords;
-      opened = rw c.in-Far.is (on_ok side.Far _ _ (unstepped b.result) e.result e.ensures.same (far_opened _ _ (g.N.Mailbox.is_open p.near) (kept_of p.book)) (on_answer _ b.result b.ensures.open));
+      opened = rw c.in-Far.is (on_ok side.Far _ _ (unstepped b.result) e.result e.ensures.same (far_opened _ _ (g.N.Mailbox.is_open p.near) p.listed.devices (kept_of p.book)) (on_answer _ b.result b.ensures.open));
       call = rw c.in-Far.is (opening_call side.Far b.result e.result e.ensures.same ends.call);
       why = rw c.in-Far.is ends.why;
       tallied = ends.tallied;
@@ -50,7 +50,7 @@ returns-in-Near g c =
     record {
       was_honest = λ h. (h.0, b.ensures.was_honest h.1, h.2);
       keywords = refl;
-      opened = rw c.in-Near.is (on_ok side.Near _ _ (unstepped b.result) e.result e.ensures.same (near_opened (g.F.Mailbox.is_open p.far) _ _ (kept_of p.book)) (on_answer _ b.result b.ensures.open));
+      opened = rw c.in-Near.is (on_ok side.Near _ _ (unstepped b.result) e.result e.ensures.same (near_opened (g.F.Mailbox.is_open p.far) _ _ p.listed.devices (kept_of p.book)) (on_answer _ b.result b.ensures.open));
       call = rw c.in-Near.is (opening_call side.Near b.result e.result e.ensures.same ends.call);
       why = rw c.in-Near.is ends.why;
       tallied = ends.tallied;

@@ -17,16 +17,16 @@ use denote.Triple.Clauses.{Ended}
 use denote.Triple.Entry.{alive}
 use denote.Triple.Walked.{says, Stays, stay_dropped, walk_of, ends_at, Goes-dropped}
 use Rattle.run_pair.proofs.Walks.{bare, owns_none}
-use Rattle.run_pair.specs.contracts.reopened.Reopened as Reopened
-use Rattle.run_pair.specs.contracts.reopened.Reopened.and as f
-use Rattle.run_pair.proofs.reopened.Reopened.and.Statement.{statement}
-use Rattle.run_pair.proofs.reopened.Reopened.and.Code as code
+use Rattle.run_pair.specs.contracts.device_history.DeviceHistory as DeviceHistory
+use Rattle.run_pair.specs.contracts.device_history.DeviceHistory.and as f
+use Rattle.run_pair.proofs.device_history.DeviceHistory.and.Statement.{statement}
+use Rattle.run_pair.proofs.device_history.DeviceHistory.and.Code as code
 
 pub and_spec : {M : Type 1} → statement M
 and_spec 𝓤 𝓛 𝓜 𝓡 wired =
     let ended : Ended = f.ended in
     let c = f.clauses 𝓛 𝓜.mem 𝓡.returns in
-    let list = RefOf (0 ∷ []) tt (plain (λ _. Reopened.the_row)) (λ _. tt) in
+    let list = RefOf (0 ∷ []) tt (plain (λ _. DeviceHistory.the_row)) (λ _. tt) in
     let stayed : Stays ended.signature.params ended.kept = (stay_dropped list yes, tt) in
     let W = walk_of 𝓛 ended stayed c in
     let 𝓣 = tables 𝓤 𝓛.H 𝓜 𝓡 𝓡.env in
@@ -34,7 +34,7 @@ and_spec 𝓤 𝓛 𝓜 𝓡 wired =
     proved_at 𝓛 ended stayed c 𝓜 𝓡 (Goes-dropped 𝓛 1 list yes (λ κs x w. refl), tt)
     f.Key.name e (code.unfolded 𝓤 𝓛.H 𝓜 𝓡 wired) (λ y are.
     let a = y.0.3 in let vss = y.0.4 in
-    let made : Reopened.the_row.Denot = record { devices = y.1 ∷ a.0.now.devices } in
+    let made : DeviceHistory.the_row.Denot = record { devices = y.1 ∷ a.0.now.devices } in
     qed 𝓛 ((raw (alive 𝓛 ended.signature y.0.0 y.0.1) ⊛ ‵ (owns (types_at ended.signature.params y.0.0) a vss)) ∷ raw ((c y.0.0 a).requires y.1) ∷ []) ∵
     keep ! (0 ∷ []) $ split ! $ move ! (1 ∷ []) $
     fsplit ! $ fsplit ! $ feq_l ! (λ is₀. drop ! $ drop ! $

@@ -1,4 +1,4 @@
-//! How the device of an outside was each time it was opened again.
+//! How the device of an outside was at moments of its life, for contracts alone.
 
 ghost use Rattle.std.specs.Prelude.{◌≡◌, List, [], ◌∷◌};
 ghost use Rattle.std.specs.Borrow.{ftrue};
@@ -6,29 +6,29 @@ ghost use Rattle.outside.specs.Devices.{Device};
 
 use std::marker::Model;
 
-/// How the device was each time its outside was opened again, the last time first. Contracts alone read it: it takes no memory.
+/// How the device of an outside was at several moments, the last first. Contracts alone read it: it takes no memory.
 #[derive(Drop)]
-pub struct Reopened {
+pub struct DeviceHistory {
     pub ghost devices: { List Device },
 }
 
-impl Model for Reopened {
+impl Model for DeviceHistory {
     ghost also_owns = { λ _. ftrue };
 }
 
-impl Reopened {
-    /// It was not opened again.
+impl DeviceHistory {
+    /// At no moment.
     pub fn new() -> Self
         ensures { result.devices ≡ [] }
     {
-        Reopened {}
+        DeviceHistory {}
     }
 
-    /// It is opened again, with this device.
+    /// One moment more, with this device.
     pub fn and(&self) -> Self
         ghost device: { Device }
         ensures { result.devices ≡ device ∷ self.now.devices }
     {
-        Reopened {}
+        DeviceHistory {}
     }
 }

@@ -12,10 +12,10 @@ use denote.Triple.Clauses.{Ended}
 use denote.Triple.Entry.{alive}
 use denote.Triple.Walked.{says, walk_of, ends_at}
 use Rattle.run_pair.proofs.Walks.{bare, owns_none}
-use Rattle.run_pair.specs.contracts.reopened.Reopened as Reopened
-use Rattle.run_pair.specs.contracts.reopened.Reopened.new as f
-use Rattle.run_pair.proofs.reopened.Reopened.new.Statement.{statement}
-use Rattle.run_pair.proofs.reopened.Reopened.new.Code as code
+use Rattle.run_pair.specs.contracts.device_history.DeviceHistory as DeviceHistory
+use Rattle.run_pair.specs.contracts.device_history.DeviceHistory.new as f
+use Rattle.run_pair.proofs.device_history.DeviceHistory.new.Statement.{statement}
+use Rattle.run_pair.proofs.device_history.DeviceHistory.new.Code as code
 
 pub new_spec : {M : Type 1} → statement M
 new_spec 𝓤 𝓛 𝓜 𝓡 wired =
@@ -25,7 +25,7 @@ new_spec 𝓤 𝓛 𝓜 𝓡 wired =
     proved 𝓛 ended tt c 𝓜 𝓡 tt f.Key.name code.function (code.unfolded 𝓤 𝓛.H 𝓜 𝓡 wired)
     (λ κs. tt) (λ κs. tt) (λ κs qs bounds a none are.
     let y : W.Ghost = ((κs, qs, bounds, a, tt), none) in
-    let made : Reopened.the_row.Denot = record { devices = [] } in
+    let made : DeviceHistory.the_row.Denot = record { devices = [] } in
     qed 𝓛 ((raw (alive 𝓛 ended.signature κs qs) ⊛ ‵ (owns (types_at ended.signature.params κs) a tt)) ∷ raw ((c κs a).requires none) ∷ []) ∵
     keep ! (0 ∷ []) $ split ! $ keep ! (0 ∷ []) $
     enter ! _ _ _ _ _ $ alloc_all ! (λ l. pass_all ! refl tt $

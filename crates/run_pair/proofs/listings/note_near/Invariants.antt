@@ -1,0 +1,4 @@
+use Rattle.run_pair.proofs.listings.note_near.Given as goal
+
+abbrev pub ghost-and : goal.ghost-and
+ghost-and g a = g.device
