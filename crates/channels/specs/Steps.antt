@@ -1,6 +1,7 @@
 -- Which step of a plan that is pending a number names.
-use Rattle.std.specs.Prelude.{◌≡◌, ◌+◌, ℕ, zero, suc, length, slice_get, Option, None, Some}
+use Rattle.std.specs.Prelude.{◌≡◌, ◌+◌, ℕ, zero, suc, Bool, false, length, slice_get, Option, None, Some}
 use Rattle.rules.specs.declared.plan.Step.{Step}
+use Rattle.outside.specs.Opened.{IsRead, Opened, journal_of}
 use Rattle.runner.specs.declared.fault.RunFault.{RunFault}
 use Rattle.sync_state.specs.declared.journal.Journal.{Journal}
 use Rattle.channels.specs.declared.fault.BoxFault.{BoxFault}
@@ -22,6 +23,11 @@ abbrev pub NamesNext : Option Journal → RunFault → BoxFault → Type 0
 NamesNext journal fault (AtStep told number step) = (told ≡ fault) × (number ≡ logged_in journal + 1) × (step_at number journal ≡ Some step)
 NamesNext journal fault (Run told) = told ≡ fault
 NamesNext journal fault _ = ⊥
+
+-- beside the number of a refused step stands the step, if the plan could be read again
+abbrev pub NamesRefused : (is_broken : Bool) → Option Opened → BoxFault → Type 0
+NamesRefused is_broken opened (Refused number step) = is_broken ≡ false → IsRead opened × (step ≡ step_at number (journal_of opened))
+NamesRefused is_broken opened _ = Unit {0}
 
 -- the step that is named beside a number is the one of this number
 abbrev pub NamesItsStep : Option Journal → BoxFault → Type 0

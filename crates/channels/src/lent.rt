@@ -1,14 +1,14 @@
 //! One run over a mailbox that was lent.
 
 ghost use Rattle.std.specs.Prelude.{◌≡◌, ◌+◌, Err, IfErr, IfSome, OnOk, Some};
-ghost use Rattle.outside.specs.Opened.{journal_of};
+ghost use Rattle.outside.specs.Opened.{IsRead, journal_of};
 ghost use Rattle.run_states.specs.Conditions.{IsOver};
 ghost use Rattle.run_states.specs.Openings.{Opening};
 ghost use Rattle.runner.specs.Answers.{Inputs};
 ghost use Rattle.runner.specs.Attempts.{AtOpening, FromOpening, MetStops};
 ghost use Rattle.channels.specs.Asks.{run_attempts};
 ghost use Rattle.channels.specs.Openings.{first_on};
-ghost use Rattle.channels.specs.Steps.{NamesItsStep, NamesNext, logged_in, step_at};
+ghost use Rattle.channels.specs.Steps.{NamesItsStep, NamesNext, NamesRefused, logged_in, step_at};
 
 use crate::fault::BoxFault;
 use crate::stores::Work;
@@ -80,6 +80,7 @@ fn settle_lent<O: Outside, R: Rng, P: Progress>(
     ensures done { OnOk result (O.honest outside.new → Inputs opening options.now (R.stream rng.old)
         → AtOpening opening (O.seen outside.old).device → IsOver opening (O.seen outside.new).device) }
     ensures names { IfErr result (NamesItsStep (journal_of (O.opened outside.new))) }
+    ensures refused { IfErr result (NamesRefused (O.seen outside.new).is_broken (O.opened outside.new)) }
     ensures stopped { result ≡ Err (BoxFault.Run RunFault.Stopped) → MetStops run_attempts (O.seen outside.old) (O.seen outside.new) }
 {
     match settle(alloc, outside, options, TRIES, rng, progress) {
@@ -117,12 +118,23 @@ fn next_step<O: Outside>(outside: &mut O) -> Option<(usize, Step)>
     Some((logged.checked_add(1)?, step))
 }
 
-/// The step of this number, counted from 1, of the plan that is pending.
+/// The step of this number, counted from 1, of the plan that is pending, if the book can be read.
 fn step_of<O: Outside>(outside: &mut O, number: usize) -> Option<Step>
-    ensures { IfSome result (λ step. step_at number (journal_of (O.opened outside.new)) ≡ Some step) }
+    ensures step { IfSome result (λ step. step_at number (journal_of (O.opened outside.new)) ≡ Some step) }
+    ensures refused { NamesRefused (O.seen outside.new).is_broken (O.opened outside.new) (BoxFault.Refused number result) }
 {
     outside.reopen();
-    outside.open_book().ok()?;
+    match outside.open_book() {
+        Ok(()) => pending_step(outside, number),
+        Err(_) => None,
+    }
+}
+
+/// The step of this number, counted from 1, of the plan that is pending.
+fn pending_step<O: Outside>(outside: &O, number: usize) -> Option<Step>
+    requires read { IsRead (O.opened outside.now) }
+    ensures { result ≡ step_at number (journal_of (O.opened outside.now)) }
+{
     let journal = outside.pending()?;
     let place = number.checked_sub(1)?;
     journal.plan.steps.as_slice().get(place).copied()
