@@ -168,7 +168,7 @@ def usage(tally):
         scene.server.stop()
         tally.same("no words", scene.run(), [2, "mbsync: no channel", "  name a channel or a group of the configuration, or give -a for all channels"])
         tally.same("words of Sync that are refused", scene.run("--pull", "--noop", "c"), SYNC_WORDS)
-        unknown = "  the configuration has no channel or group of this name: mbsync -al lists what it has"
+        unknown = "  the configuration has no channel or group of this name: its lines Channel and Group say which it has"
         tally.same("unknown names", scene.run("c", "nope", "none"), [2, "mbsync: unknown nope", unknown])
         tally.same("an unknown option", scene.run("--nope", "c")[0], 2)
         got = scene.run("-h")

@@ -41,7 +41,7 @@ refusal_text NoMemory = codes "no memory"
 
 -- what to do about it, on a line after a line end
 abbrev pub refusal_advice : Refusal → List ℕ
-refusal_advice (Unknown name) = 10 ∷ codes "  the configuration has no channel or group of this name: mbsync -al lists what it has"
+refusal_advice (Unknown name) = 10 ∷ codes "  the configuration has no channel or group of this name: its lines Channel and Group say which it has"
 refusal_advice SyncWords = []
 refusal_advice NoMemory = []
 

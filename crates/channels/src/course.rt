@@ -55,7 +55,7 @@ impl Refusal<'_> {
     {
         match self {
             Refusal::Unknown(_) => {
-                "\n  the configuration has no channel or group of this name: mbsync -al lists what it has"
+                "\n  the configuration has no channel or group of this name: its lines Channel and Group say which it has"
             }
             Refusal::SyncWords | Refusal::NoMemory => "",
         }
