@@ -1,8 +1,9 @@
 #!/usr/bin/env python3
 """Checks what people read of this repository against what it is read about: that generated pages are current, that each link leads
 somewhere, those to lines of code to the clause or function that they name, that words explained in READING.md are defined, that README and
-docs/ keep their limits, that they and the comments of crates have no words that CONTRIBUTING.md replaces, that calls whose errors say too
-little are listed, and that each planted bug can still be planted. Builds nothing. Ends with the line `N passed, M failed`."""
+docs/ keep their limits, that they, the comments of crates and the names in their code have no words that CONTRIBUTING.md replaces, that no
+two crates have types of one name, that calls whose errors say too little are listed, and that each planted bug can still be planted.
+Builds nothing. Ends with the line `N passed, M failed`."""
 import glob
 import os
 import pathlib
@@ -22,6 +23,14 @@ COMMENT = {
     ".rt": re.compile(r"""(?:[^"'/]|"(?:\\.|[^"\\])*"|'(?:\\.|[^'\\])'|'|/(?!/))*//[/!]?(.*)"""),
     ".antt": re.compile(r"(?:.*?\s)?--(?=\s|$)(.*)"),
 }
+# The same words in names, as parts of `snake_case` and `CamelCase`. Names of the Rattle kit stay as they are.
+UNUSUAL_PART = re.compile(r"(?<![A-Za-z])(?:un|re)?(?:behind|told|tells?|telling|tak(?:e|es|en|ing)_up|kept_alike|passed_over)(?![a-z])"
+                          r"|(?:Behind|Told|Tells?|Telling|Tak(?:e|es|en|ing)Up|KeptAlike|PassedOver)(?![a-z])")
+# Comments and literals, in which no names stand.
+NO_CODE = re.compile(r"""//.*|\bb?r(#*)".*?"\1|b?"(?:\\[\s\S]|[^"\\])*"|b?'(?:\\[^'\n]+|[^'\\\n])'(?!\w)""")
+TYPE = re.compile(r"^(?:pub(?:\([a-z]+\))? )?(?:enum|struct|trait|type) (\w+)", re.M)
+# Names of types that two crates of the program may have, each with the reason.
+TWICE = {}
 LINK = re.compile(r"(?<!!)\[[^\]]*\]\(([^)\s]+)\)|!\[[^\]]*\]\(([^)\s]+)\)")
 
 LINE_LINK = re.compile(r"\[`(?:\w+::)*(\w+)`\]\(([^)\s#]+)#L(\d+)\)")
@@ -147,6 +156,28 @@ def words(tally):
             tally.passes()
 
 
+def names(tally):
+    """Names in the program's code have no unusual words, and the name of a type means one thing in all of its crates."""
+    types = {}
+    for path in sorted(glob.glob("crates/*/src/**/*.rt", root_dir=TOP, recursive=True)):
+        crate = path.split(os.sep)[1]
+        if crate.startswith("test"):
+            continue
+        code = NO_CODE.sub("", read(os.path.join(TOP, path)))
+        found = sorted({name for name in re.findall(r"\w+", code) if UNUSUAL_PART.search(name)})
+        if found:
+            tally.fails(f"{path} has the names {', '.join(found)}")
+        else:
+            tally.passes()
+        for name in TYPE.findall(code):
+            types.setdefault(name, set()).add(crate)
+    for name, crates in sorted(types.items()):
+        if len(crates) == 1 or name in TWICE:
+            tally.passes()
+        else:
+            tally.fails(f"{name} is a type in {', '.join(sorted(crates))}")
+
+
 def planted(edit):
     """What a planted bug replaces, in turn: a file, the text there, and the text that it puts there, each of one line, as rt reads them."""
     found, file, old = [], None, None
@@ -193,6 +224,7 @@ def main():
     terms(tally)
     sizes(tally)
     words(tally)
+    names(tally)
     bugs(tally)
     tally.end()
 
