@@ -77,8 +77,8 @@ it_is c = ap (λ (b : Bool). is_side c.0 c.0 && b) (eq-eqb c.1 c.1 refl) ∙ by_
 other_copies : (entries : List Entry) (plan : List Step) (copies more : List Copy) (c : Copy) → is_taken entries plan (copies ++ more) c ≡ false
     → (list_any (is_it c) copies || list_any (is_it c) more) ≡ false
 other_copies entries plan copies more c h =
-    let behind = or_last (is_named entries c.0 c.1) _ h in
-    sym (list_any-append (is_it c) copies more) ∙ or_last (list_any (is_source_of c.0 c.1) plan) _ behind
+    let following = or_last (is_named entries c.0 c.1) _ h in
+    sym (list_any-append (is_it c) copies more) ∙ or_last (list_any (is_source_of c.0 c.1) plan) _ following
 
 -- what is not taken after more copies is not taken after these
 fewer : (entries : List Entry) (plan : List Step) (copies more : List Copy) (c : Copy) → is_taken entries plan (copies ++ more) c ≡ false → is_taken entries plan copies c ≡ false
@@ -133,11 +133,11 @@ agreed entries j is =
     let B = map (note_agrees entries) j.plan.notes in
     let C = true ∷ log_agrees entries j.plan.steps [] j.plan.steps j.log in
     let all = all_true 0 (lines_agree entries j) (sym (place_from_zero not (lines_agree entries j)) ∙ none_mapped (first_line j) (position not (lines_agree entries j)) is) in
-    let behind = last_true A (B ++ C) all in
-    let log = (last_true B C behind).1 in
+    let following = last_true A (B ++ C) all in
+    let log = (last_true B C following).1 in
     record {
       steps = All-from_recursion (λ s. step_agrees entries s ≡ true) j.plan.steps (each_true (step_agrees entries) j.plan.steps (first_true A (B ++ C) all));
-      notes = All-from_recursion (λ n. note_agrees entries n ≡ true) j.plan.notes (each_true (note_agrees entries) j.plan.notes (first_true B C behind));
+      notes = All-from_recursion (λ n. note_agrees entries n ≡ true) j.plan.notes (each_true (note_agrees entries) j.plan.notes (first_true B C following));
       new = each_new entries j.plan.steps [] j.plan.steps j.log log;
       once = each_once entries j.plan.steps [] j.plan.steps j.log log;
     }

@@ -54,14 +54,14 @@ place_append t k (x ∷ xs) ys =
       by_test false e = e
 
 -- after a number of lines
-place_behind : {X : Type 0} (t : X → Bool) (n : ℕ) (xs : List X) → position_from t n xs ≡ option_map (λ i. i + n) (position t xs)
-place_behind t n xs =
+place_after : {X : Type 0} (t : X → Bool) (n : ℕ) (xs : List X) → position_from t n xs ≡ option_map (λ i. i + n) (position t xs)
+place_after t n xs =
     let number : n ≡ 0 + n = omega arith in
     ap (λ (m : ℕ). position_from t m xs) number ∙ place_add t 0 n xs ∙ ap (λ (r : Option ℕ). option_map (λ i. i + n) r) (sym (place_from_zero t xs))
 
 -- as many as a list has
-mapped_behind : {X : Type 0} (f : X → Bool) (n : ℕ) (xs : List X) → position_from not n (map f xs) ≡ option_map (λ i. i + n) (position (λ x. not (f x)) xs)
-mapped_behind f n xs = place_map not f n xs ∙ place_behind (λ x. not (f x)) n xs
+mapped_after : {X : Type 0} (f : X → Bool) (n : ℕ) (xs : List X) → position_from not n (map f xs) ≡ option_map (λ i. i + n) (position (λ x. not (f x)) xs)
+mapped_after f n xs = place_map not f n xs ∙ place_after (λ x. not (f x)) n xs
 
 abbrev pub bad_step : List Entry → Journal → Option ℕ
 bad_step entries j = position (λ step. not (step_agrees entries step)) j.plan.steps
@@ -83,10 +83,10 @@ disagreement_is entries j =
     let in_steps : position_from not 0 A ≡ bad_step entries j = place_map not (step_agrees entries) 0 steps ∙ sym (place_from_zero _ steps) in
     let size_steps : 0 + length A ≡ length steps = omega (arith, length-map steps (step_agrees entries)) in
     let in_notes : position_from not (0 + length A) B ≡ option_map (λ i. i + length steps) (bad_note entries j) =
-    ap (λ (m : ℕ). position_from not m B) size_steps ∙ mapped_behind (note_agrees entries) (length steps) notes in
+    ap (λ (m : ℕ). position_from not m B) size_steps ∙ mapped_after (note_agrees entries) (length steps) notes in
     let number : 0 + length A + length B + 1 ≡ length steps + length notes + 1 = omega (arith, length-map steps (step_agrees entries), length-map notes (note_agrees entries)) in
     let in_log : position_from not (0 + length A + length B + 1) C ≡ option_map (λ i. i + (length steps + length notes + 1)) (bad_copy entries j) =
-    ap (λ (m : ℕ). position_from not m C) number ∙ place_behind not (length steps + length notes + 1) C in
+    ap (λ (m : ℕ). position_from not m C) number ∙ place_after not (length steps + length notes + 1) C in
     let whole = place_append not 0 A (B ++ true ∷ C) ∙ ap (λ (r : Option ℕ). or_later (position_from not 0 A) r) (place_append not (0 + length A) B (true ∷ C)) in
     ap (λ (r : Option ℕ). option_map (λ i. i + first_line j) r) (place_from_zero not (lines_agree entries j) ∙ whole
     ∙ rw (in_steps, in_notes, in_log) refl)
@@ -176,16 +176,16 @@ none_logged entries plan copies [] = refl
 none_logged entries plan copies (s ∷ steps) = refl
 
 -- nothing is left after the end of one of the two
-behind_either : (m n i : ℕ) → min m n ≤ i → (m ≤ i) ⊎ (n ≤ i)
-behind_either zero n i h = inl (omega arith)
-behind_either (suc m) zero i h = inr (omega arith)
-behind_either (suc m) (suc n) zero h = absurd (omega arith)
-behind_either (suc m) (suc n) (suc i) h = elim (behind_either m n i (omega arith)) [ inl a ↦ inl (omega arith) | inr b ↦ inr (omega arith) ]
+after_either : (m n i : ℕ) → min m n ≤ i → (m ≤ i) ⊎ (n ≤ i)
+after_either zero n i h = inl (omega arith)
+after_either (suc m) zero i h = inr (omega arith)
+after_either (suc m) (suc n) zero h = absurd (omega arith)
+after_either (suc m) (suc n) (suc i) h = elim (after_either m n i (omega arith)) [ inl a ↦ inl (omega arith) | inr b ↦ inr (omega arith) ]
 
 pub none_left : (entries : List Entry) (steps : List Step) (log : List Logged) (i : ℕ) → min (length steps) (length log) ≤ i → left entries steps log i ≡ []
 none_left entries steps log i h =
     let copies = copies_of steps (take i log) in
-    elim (behind_either (length steps) (length log) i h) [
+    elim (after_either (length steps) (length log) i h) [
       | inl a ↦ ap (λ (z : List Step). log_agrees entries steps copies z (drop i log)) (drop_all i steps a)
       | inr b ↦ ap (λ (z : List Logged). log_agrees entries steps copies (drop i steps) z) (drop_all i log b) ∙ none_logged entries steps copies (drop i steps)
     ]

@@ -7,7 +7,7 @@ use Rattle.std.proofs.lemmas.List.Elements.{All-nil}
 use Rattle.rules.specs.declared.plan.Plan.{Plan}
 use Rattle.rules.specs.declared.state.SyncState.{SyncState}
 use Rattle.sync_state.specs.declared.journal.WrittenJournal.{WrittenJournal}
-use Rattle.book.specs.declared.shelf.File.TheVariants.{Journal}
+use Rattle.book.specs.declared.shelf.ShelfFile.TheVariants.{Journal}
 use Rattle.book.specs.declared.book.Pending.TheVariants.{Missing, Useless}
 use Rattle.sync_state.specs.Lines.{lines_text, OneLine}
 use Rattle.sync_state.specs.declared.version.Version.TheVariants.{Two}
@@ -43,29 +43,29 @@ fresh_is_written p is =
       is_torn = refl;
     }
 
-pub plan_behind_nothing : (state : SyncState) (file : Option (List ℕ)) (p : Plan) (text : List ℕ) → IsPlan p → p.run ≡ state.run + 1 → Agrees state.entries (fresh p) → text ≡ lines_text (plan_lines Two p)
+pub plan_after_nothing : (state : SyncState) (file : Option (List ℕ)) (p : Plan) (text : List ℕ) → IsPlan p → p.run ≡ state.run + 1 → Agrees state.entries (fresh p) → text ≡ lines_text (plan_lines Two p)
     → HoldsJournal state file Missing → HoldsJournal state (Some (unwrap_or file [] ++ text)) (begun p)
-plan_behind_nothing state None p text is next agrees e h = record {
+plan_after_nothing state None p text is next agrees e h = record {
   is_next = record { written_is = subst (λ (t : List ℕ). IsWritten (written_fresh p) t) (sym e) (fresh_is_written p is); next = next };
   agrees = agrees;
 }
-plan_behind_nothing state (Some t) p text is next agrees e h = absurd h
+plan_after_nothing state (Some t) p text is next agrees e h = absurd h
 
-part_behind_nothing : (state : SyncState) (file : Option (List ℕ)) (p : Plan) (text : List ℕ) (count : ℕ) → IsPlan p → text ≡ lines_text (plan_lines Two p) → count < length text
+part_after_nothing : (state : SyncState) (file : Option (List ℕ)) (p : Plan) (text : List ℕ) (count : ℕ) → IsPlan p → text ≡ lines_text (plan_lines Two p) → count < length text
     → HoldsJournal state file Missing → HoldsJournal state (Some (unwrap_or file [] ++ take count text)) Useless
-part_behind_nothing state None p text count is e part h = record { old = λ g. absurd (no_go_in_plan Two p text count is e part g) }
-part_behind_nothing state (Some t) p text count is e part h = absurd h
+part_after_nothing state None p text count is e part h = record { old = λ g. absurd (no_go_in_plan Two p text count is e part g) }
+part_after_nothing state (Some t) p text count is e part h = absurd h
 
 pub begun_or_not : (old new : Files) (state : SyncState) (p : Plan) (text : List ℕ) → (new ≡ old) ⊎ (Appends Journal text old new ⊎ AppendsPart Journal text old new)
     → IsPlan p → p.run ≡ state.run + 1 → Agrees state.entries (fresh p) → text ≡ lines_text (plan_lines Two p) → Holds old state Missing
     → Holds new state Missing ⊎ (Holds new state (begun p) ⊎ Holds new state Useless)
 begun_or_not old new state p text (inl same) is next agrees e h = inl (same_files old new state Missing same h)
 begun_or_not old new state p text (inr (inl puts)) is next agrees e h =
-    inr (inl (journal_put _ old new state Missing (begun p) puts (plan_behind_nothing state old.journal p text is next agrees e) h))
+    inr (inl (journal_put _ old new state Missing (begun p) puts (plan_after_nothing state old.journal p text is next agrees e) h))
 begun_or_not old new state p text (inr (inr part)) is next agrees e h = elim (cases_lt part.count (length text)) [
-  | inl less ↦ inr (inr (journal_put _ old new state Missing Useless part.part (part_behind_nothing state old.journal p text part.count is e less) h))
+  | inl less ↦ inr (inr (journal_put _ old new state Missing Useless part.part (part_after_nothing state old.journal p text part.count is e less) h))
   | inr all ↦ inr (inl (journal_put _ old new state Missing (begun p) part.part
-      (plan_behind_nothing state old.journal p (take part.count text) is next agrees (take_all part.count text all ∙ e)) h))
+      (plan_after_nothing state old.journal p (take part.count text) is next agrees (take_all part.count text all ∙ e)) h))
 ]
 
 pub begun_fits : (state : SyncState) (p : Plan) → IsPlan p → p.run ≡ state.run + 1 → Agrees state.entries (fresh p) → Fits state (begun p)

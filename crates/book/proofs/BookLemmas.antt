@@ -5,7 +5,7 @@ use Rattle.std.proofs.lemmas.List.{append-nil}
 use Rattle.std.proofs.lemmas.List.Elements.{All-nil}
 use Rattle.rules.specs.declared.state.SyncState.{SyncState}
 use Rattle.sync_state.specs.declared.journal.WrittenJournal.{WrittenJournal}
-use Rattle.book.specs.declared.shelf.File.TheVariants.{Journal}
+use Rattle.book.specs.declared.shelf.ShelfFile.TheVariants.{Journal}
 use Rattle.book.specs.declared.book.Pending.{Pending}
 use Rattle.book.specs.declared.book.Pending.TheVariants.{Missing, Useless, Planned}
 use Rattle.sync_state.specs.Lines.{lines_text}

@@ -13,7 +13,7 @@ use Rattle.rules.specs.declared.plan.Note.{Note}
 use Rattle.rules.specs.declared.plan.Note.TheVariants as note
 use Rattle.sync_state.specs.JournalText.{bottom, is_below, note_place, rises}
 use Rattle.sync_state.specs.declared.journal.Journal.{Journal}
-use Rattle.book.specs.declared.changes.Pair.{Pair}
+use Rattle.book.specs.declared.changes.UidPair.{UidPair}
 use Rattle.book.specs.declared.changes.Gones.{Gones}
 use Rattle.book.specs.declared.changes.Walk.{Walk}
 use Rattle.book.specs.Changes.{HasPassed, PairNotAfter, Passed, Reached, gone_place, is_of, pair_place, record_place}
@@ -74,10 +74,10 @@ recorded_past e notes at rise reached past = by_sides (is_full e) refl where
 
 -- ---- pairs
 
-below_before : (a b : Pair) (k : ℕ × ℕ × ℕ) → PairNotAfter a b → is_below (pair_place b) k ≡ true → is_below (pair_place a) k ≡ true
+below_before : (a b : UidPair) (k : ℕ × ℕ × ℕ) → PairNotAfter a b → is_below (pair_place b) k ≡ true → is_below (pair_place a) k ≡ true
 below_before a b (x, y, z) order h = grind (arith, nat_tests, order.0, order.1, h)
 
-pub pairs_parted : (k : ℕ × ℕ × ℕ) (ps : List Pair) → AllPairs PairNotAfter ps → IsPartitionedBy (λ p. is_below (pair_place p) k) ps
+pub pairs_parted : (k : ℕ × ℕ × ℕ) (ps : List UidPair) → AllPairs PairNotAfter ps → IsPartitionedBy (λ p. is_below (pair_place p) k) ps
 pairs_parted k ps order i j d upto within h = elim (cases_lt i j) [
   | inl less ↦ below_before (get_or ps i d) (get_or ps j d) k (order i j d less within) h
   | inr at_least ↦
@@ -85,13 +85,13 @@ pairs_parted k ps order i j d upto within h = elim (cases_lt i j) [
       subst (λ (n : ℕ). is_below (pair_place (get_or ps n d)) k ≡ true) same h
 ]
 
-of_place : (e : Entry) (p : Pair) → is_of e p ≡ true → pair_place p ≡ gone_place e
+of_place : (e : Entry) (p : UidPair) → is_of e p ≡ true → pair_place p ≡ gone_place e
 of_place e p h =
     let same = pair_is (Some p.far) (Some p.near) e h in
     rw (same.0, same.1) refl
 
 -- pairs that stand in order, at and after the place of an entry
-same_pair : (e : Entry) (a b : Pair) → is_of e b ≡ true → PairNotAfter a b → is_below (pair_place a) (gone_place e) ≡ false → is_of e a ≡ true
+same_pair : (e : Entry) (a b : UidPair) → is_of e b ≡ true → PairNotAfter a b → is_below (pair_place a) (gone_place e) ≡ false → is_of e a ≡ true
 same_pair e a b here order h =
     let same = pair_is (Some b.far) (Some b.near) e here in
     let place : pair_place b ≡ gone_place e = of_place e b here in
@@ -100,23 +100,23 @@ same_pair e a b here order h =
     let near : a.near ≡ b.near = grind (arith, nat_tests, order.1, far, above) in
     rw (far, near) here
 
-module _ (e : Entry) (ps : List Pair) (at : ℕ) (order : AllPairs PairNotAfter ps) (reached : Reached pair_place (gone_place e) ps at) where
-  not_before : (i : ℕ) (d : Pair) → i < at → is_of e (get_or ps i d) ≡ false
+module _ (e : Entry) (ps : List UidPair) (at : ℕ) (order : AllPairs PairNotAfter ps) (reached : Reached pair_place (gone_place e) ps at) where
+  not_before : (i : ℕ) (d : UidPair) → i < at → is_of e (get_or ps i d) ≡ false
   not_before i d less = false_from_ne_true (is_of e (get_or ps i d)) (λ h.
       below_itself (gone_place e) (subst (λ (p : ℕ × ℕ × ℕ). is_below p (gone_place e) ≡ true) (of_place e (get_or ps i d) h) (reached.0 i d (omega arith) less)))
 
   pub none_gone : length ps ≤ at → list_any (is_of e) ps ≡ false
   none_gone past = list_any_none (is_of e) ps (λ i d within. not_before i d (omega arith))
 
-  pub one_gone : (p : Pair) → at < length ps → p ≡ get_or ps at p → list_any (is_of e) ps ≡ is_of e p
+  pub one_gone : (p : UidPair) → at < length ps → p ≡ get_or ps at p → list_any (is_of e) ps ≡ is_of e p
   one_gone p within is = by_test (is_of e p) refl where
     by_test : (b : Bool) → is_of e p ≡ b → list_any (is_of e) ps ≡ b
-    by_test true t = list_any_at (is_of e) ps at p within (subst (λ (q : Pair). is_of e q ≡ true) is t)
+    by_test true t = list_any_at (is_of e) ps at p within (subst (λ (q : UidPair). is_of e q ≡ true) is t)
     by_test false t = list_any_none (is_of e) ps (λ i d inside. elim (cases_lt i at) [
       | inl less ↦ not_before i d less
       | inr at_least ↦ false_from_ne_true (is_of e (get_or ps i d)) (λ h.
           let first : p ≡ get_or ps at d = get_or_read ps at p within is d in
-          let other : is_of e (get_or ps at d) ≡ false = subst (λ (q : Pair). is_of e q ≡ false) first t in
+          let other : is_of e (get_or ps at d) ≡ false = subst (λ (q : UidPair). is_of e q ≡ false) first t in
           both_ways _ other (elim (cases_lt at i) [
             | inl more ↦ same_pair e (get_or ps at d) (get_or ps i d) h (order at i d more inside) (reached.1 at d (omega arith) within)
             | inr upto ↦

@@ -3,7 +3,7 @@ use Rattle.std.proofs.Common.{◌≡◌, ◌⊎◌, inl, inr, ℕ, List, Option,
 use Rattle.std.proofs.Math.Logic.{∥∥₁_map}
 use Rattle.rules.specs.declared.state.SyncState.{SyncState}
 use Rattle.sync_state.specs.declared.journal.WrittenJournal.{WrittenJournal}
-use Rattle.book.specs.declared.shelf.File.TheVariants.{State, Journal}
+use Rattle.book.specs.declared.shelf.ShelfFile.TheVariants.{State, Journal}
 use Rattle.book.specs.declared.book.Pending.TheVariants.{Missing, Useless, Planned}
 use Rattle.sync_state.specs.declared.version.Version.TheVariants.{Two}
 use Rattle.sync_state.specs.StateText.{IsStateText}

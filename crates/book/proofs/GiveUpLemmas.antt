@@ -8,7 +8,7 @@ use Rattle.sync_state.specs.declared.version.Version.TheVariants.{Two}
 use Rattle.sync_state.specs.StateText.{IsHighest, IsStateText}
 use Rattle.book.specs.declared.book.Pending.{Pending}
 use Rattle.book.specs.declared.book.Pending.TheVariants.{Useless, Planned}
-use Rattle.book.specs.declared.shelf.File.TheVariants.{State, Journal}
+use Rattle.book.specs.declared.shelf.ShelfFile.TheVariants.{State, Journal}
 use Rattle.book.specs.Shelves.{Files, Puts}
 use Rattle.book.specs.Books.{Holds, HoldsStateIn, IsSound}
 use Rattle.book.specs.GivingUp.{GivesUp, GivesUpHalf, GivesUpTo, HoldsGivenUp, LeavesGivingUp}

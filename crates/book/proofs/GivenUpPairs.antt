@@ -24,7 +24,7 @@ use Rattle.sync_state.specs.JournalText.{HasJournal, bottom}
 use Rattle.book.specs.Agreement.{Agrees, is_pair}
 use Rattle.book.specs.Committed.{entries_of_copies}
 use Rattle.book.specs.EntryOrders.{IsNotAfter}
-use Rattle.book.specs.GivingUp.{entry_behind, flags_at, flags_behind, half_of, left_entry, loses, without}
+use Rattle.book.specs.GivingUp.{entry_past, flags_at, flags_after, half_of, left_entry, loses, without}
 use Rattle.book.specs.LostSides.{Lost, lost_on}
 use Rattle.book.proofs.EntryPairLemmas.{Apart, AllPairs-append, AllPairs-map, ArePairs-from, apart_from_pairs, apart_moved}
 use Rattle.book.proofs.CopiedUids.{Fresh, copies_are}
@@ -36,11 +36,11 @@ deleted_fits : (x : ℕ) → with_deleted x < 2 ^ FLAGS
 unfolding with_deleted
 deleted_fits x = union-lt x (2 ^ DELETED)
 
-behind_fits : (s : Step) (e : Entry) → e.flags < 2 ^ FLAGS → flags_behind s e < 2 ^ FLAGS
-behind_fits (step.New direction uid flags mark) e h = h
-behind_fits (step.Gone direction far near) e h = cond_both (is_pair (Some far) (Some near) e) (with_deleted e.flags) e.flags (λ (n : ℕ). n < 2 ^ FLAGS) (λ _. deleted_fits e.flags) (λ _. h)
-behind_fits (step.Flags direction far near set cleared) e h = cond_both (is_pair (Some far) (Some near) e) (minus (union e.flags set) cleared) e.flags (λ (n : ℕ). n < 2 ^ FLAGS) (λ _. minus-lt (union e.flags set) cleared) (λ _. h)
-behind_fits (step.Expunge side uid) e h = h
+past_fits : (s : Step) (e : Entry) → e.flags < 2 ^ FLAGS → flags_after s e < 2 ^ FLAGS
+past_fits (step.New direction uid flags mark) e h = h
+past_fits (step.Gone direction far near) e h = cond_both (is_pair (Some far) (Some near) e) (with_deleted e.flags) e.flags (λ (n : ℕ). n < 2 ^ FLAGS) (λ _. deleted_fits e.flags) (λ _. h)
+past_fits (step.Flags direction far near set cleared) e h = cond_both (is_pair (Some far) (Some near) e) (minus (union e.flags set) cleared) e.flags (λ (n : ℕ). n < 2 ^ FLAGS) (λ _. minus-lt (union e.flags set) cleared) (λ _. h)
+past_fits (step.Expunge side uid) e h = h
 
 at_fits : (s : Step) (e : Entry) → e.flags < 2 ^ FLAGS → flags_at s e < 2 ^ FLAGS
 at_fits (step.New direction uid flags mark) e h = h
@@ -53,12 +53,12 @@ pub record IsSamePair (e b : Entry) : Type 0 where
   pub near : b.near ≡ e.near
   pub flags : e.flags < 2 ^ FLAGS → b.flags < 2 ^ FLAGS
 
-pub same_pair : (steps : List Step) (log : List Logged) (e : Entry) → IsSamePair e (entry_behind steps log e)
+pub same_pair : (steps : List Step) (log : List Logged) (e : Entry) → IsSamePair e (entry_past steps log e)
 same_pair [] log e = record { far = refl; near = refl; flags = λ h. h }
 same_pair (s ∷ steps) [] e = record { far = refl; near = refl; flags = at_fits s e }
 same_pair (s ∷ steps) (l ∷ log) e =
-    let k = same_pair steps log (record e { flags = flags_behind s e }) in
-    record { far = k.far; near = k.near; flags = λ h. k.flags (behind_fits s e h) }
+    let k = same_pair steps log (record e { flags = flags_after s e }) in
+    record { far = k.far; near = k.near; flags = λ h. k.flags (past_fits s e h) }
 
 pub same_uid : (side : Side) (e b : Entry) → IsSamePair e b → uid_of side b ≡ uid_of side e
 same_uid Far e b k = rw k.far refl
@@ -93,7 +93,7 @@ half_kept side false e b other k full kept = kept
 
 pub left_kept : (j : Journal) (lost : Lost) (e : Entry) → IsKeptPair e (left_entry j lost e)
 left_kept j lost e =
-    let b = entry_behind j.plan.steps j.log e in
+    let b = entry_past j.plan.steps j.log e in
     let same = same_pair j.plan.steps j.log e in
     let full : (side : Side) → loses lost side b ≡ true → is_full b ≡ true = λ side t. (and_parts (is_full b) (list_any (λ u. u == uid_of Far b) (lost_on lost side)) t).0 in
     half_kept Far (loses lost Far b) e b (cond (loses lost Near b) (without Near b) b) same (full Far)
@@ -118,8 +118,8 @@ kept_fits e b k f = record { far = side_fits e.far b.far k.far f.far; near = sid
 -- ---- all of them
 
 module _ (f : Entry → Entry) (keeps : (e : Entry) → IsKeptPair e (f e)) where
-  apart_behind : (side : Side) (a b : Entry) → Apart side a b → Apart side (f a) (f b)
-  apart_behind side a b h = apart_numbers (uid_of side a) (uid_of side b) (uid_of side (f a)) (uid_of side (f b)) h (kept_uid side a (f a) (keeps a)) (kept_uid side b (f b) (keeps b))
+  apart_past : (side : Side) (a b : Entry) → Apart side a b → Apart side (f a) (f b)
+  apart_past side a b h = apart_numbers (uid_of side a) (uid_of side b) (uid_of side (f a)) (uid_of side (f b)) h (kept_uid side a (f a) (keeps a)) (kept_uid side b (f b) (keeps b))
 
   old_and_copies : (side : Side) (es copies : List Entry) → All (IsUnnamed es side) copies → All (λ k. All (Apart side k) copies) (map f es)
   old_and_copies side es copies h = All-map (λ (k : Entry). All (Apart side k) copies) f es
@@ -138,7 +138,7 @@ module _ (f : Entry → Entry) (keeps : (e : Entry) → IsKeptPair e (f e)) wher
       let unnamed : (side : Side) → All (IsUnnamed old side) copies = λ side.
       All-weaker (Fresh old j.plan.steps [] j.plan.steps) (IsUnnamed old side) (λ x k. fresh_unnamed old j.plan.steps x lines.steps k side) copies are.fresh in
       let apart : (side : Side) → AllPairs (Apart side) new = λ side. apart_moved side (kept ++ copies) new moves
-      (AllPairs-append (Apart side) kept copies (AllPairs-map (Apart side) f (apart_behind side) old (apart_from_pairs side old pairs)) (are.apart side) (old_and_copies side old copies (unnamed side))) in
+      (AllPairs-append (Apart side) kept copies (AllPairs-map (Apart side) f (apart_past side) old (apart_from_pairs side old pairs)) (are.apart side) (old_and_copies side old copies (unnamed side))) in
       let each : All (λ e. IsWhole (f e)) old = λ i d within.
       (let w : IsWhole (f (get_or old i d)) = record {
         fits = kept_fits (get_or old i d) (f (get_or old i d)) (keeps (get_or old i d)) (fits i d within);
@@ -167,16 +167,16 @@ pub record AreLeft (j : Journal) (lost : Lost) (old new : List Entry) : Type 0 w
 -- by the list after each step: first the old entries, with the flags that were given, without lost sides, with the copies, and sorted
 pub left_so : (j : Journal) (lost : Lost) (old first noted halves all new : List Entry) (steps : List Step) (log : List Logged)
     → HasJournal j → ArePairs old → All (IsEntry Two) old → Agrees old j → steps ≡ j.plan.steps → log ≡ j.log
-    → first ≡ old → noted ≡ map (entry_behind steps log) first → halves ≡ map (half_of lost) noted → all ≡ halves ++ entries_of_copies steps log
+    → first ≡ old → noted ≡ map (entry_past steps log) first → halves ≡ map (half_of lost) noted → all ≡ halves ++ entries_of_copies steps log
     → IsPermutation all new → AllPairs IsNotAfter new → AreLeft j lost old new
 left_so j lost old first noted halves all new steps log journal pairs fits agrees steps_are log_are first_is noted_is halves_are all_are same order =
-    let kept : noted ≡ map (entry_behind j.plan.steps j.log) old = noted_is
-    ∙ ap (λ (l : List Entry). map (entry_behind steps log) l) first_is
-    ∙ ap (λ (l : List Step). map (entry_behind l log) old) steps_are
-    ∙ ap (λ (l : List Logged). map (entry_behind j.plan.steps l) old) log_are in
+    let kept : noted ≡ map (entry_past j.plan.steps j.log) old = noted_is
+    ∙ ap (λ (l : List Entry). map (entry_past steps log) l) first_is
+    ∙ ap (λ (l : List Step). map (entry_past l log) old) steps_are
+    ∙ ap (λ (l : List Logged). map (entry_past j.plan.steps l) old) log_are in
     let left : halves ≡ map (left_entry j lost) old = halves_are
     ∙ ap (λ (l : List Entry). map (half_of lost) l) kept
-    ∙ map_twice (entry_behind j.plan.steps j.log) (half_of lost) old in
+    ∙ map_twice (entry_past j.plan.steps j.log) (half_of lost) old in
     let whole : all ≡ map (left_entry j lost) old ++ entries_of_copies j.plan.steps j.log = all_are
     ∙ ap (λ (l : List Entry). l ++ entries_of_copies steps log) left
     ∙ ap (λ (l : List Step). map (left_entry j lost) old ++ entries_of_copies l log) steps_are
@@ -187,40 +187,40 @@ left_so j lost old first noted halves all new steps log journal pairs fits agree
 -- ---- one step after another
 
 -- what is left to be done with an entry after the first so many
-behind_more : (i : ℕ) (steps : List Step) (log : List Logged) (s : Step) (e : Entry) → i < length steps → i < length log → s ≡ get_or steps i s
-    → entry_behind (drop i steps) (drop i log) e ≡ entry_behind (drop (suc i) steps) (drop (suc i) log) (record e { flags = flags_behind s e })
-behind_more i [] log s e below within is = absurd (omega arith)
-behind_more i (t ∷ steps) [] s e below within is = absurd (omega arith)
-behind_more zero (t ∷ steps) (l ∷ log) s e below within is = ap (λ (x : Step). entry_behind steps log (record e { flags = flags_behind x e })) (sym is)
-behind_more (suc i) (t ∷ steps) (l ∷ log) s e below within is = behind_more i steps log s e (omega arith) (omega arith) is
+after_more : (i : ℕ) (steps : List Step) (log : List Logged) (s : Step) (e : Entry) → i < length steps → i < length log → s ≡ get_or steps i s
+    → entry_past (drop i steps) (drop i log) e ≡ entry_past (drop (suc i) steps) (drop (suc i) log) (record e { flags = flags_after s e })
+after_more i [] log s e below within is = absurd (omega arith)
+after_more i (t ∷ steps) [] s e below within is = absurd (omega arith)
+after_more zero (t ∷ steps) (l ∷ log) s e below within is = ap (λ (x : Step). entry_past steps log (record e { flags = flags_after x e })) (sym is)
+after_more (suc i) (t ∷ steps) (l ∷ log) s e below within is = after_more i steps log s e (omega arith) (omega arith) is
 
-pub behind_next : (i : ℕ) (steps : List Step) (log : List Logged) (s : Step) (e : Entry) → i < length steps → i < length log → s ≡ get_or steps i s
-    → entry_behind (drop i steps) (drop i log) e ≡ entry_behind (drop (i + 1) steps) (drop (i + 1) log) (record e { flags = flags_behind s e })
-behind_next i steps log s e below within is = rw add-one (behind_more i steps log s e below within is)
+pub after_next : (i : ℕ) (steps : List Step) (log : List Logged) (s : Step) (e : Entry) → i < length steps → i < length log → s ≡ get_or steps i s
+    → entry_past (drop i steps) (drop i log) e ≡ entry_past (drop (i + 1) steps) (drop (i + 1) log) (record e { flags = flags_after s e })
+after_next i steps log s e below within is = rw add-one (after_more i steps log s e below within is)
 
 -- after all that are logged: the next step
-at_next : (i : ℕ) (steps : List Step) (s : Step) (e : Entry) → i < length steps → s ≡ get_or steps i s → entry_behind (drop i steps) [] e ≡ record e { flags = flags_at s e }
+at_next : (i : ℕ) (steps : List Step) (s : Step) (e : Entry) → i < length steps → s ≡ get_or steps i s → entry_past (drop i steps) [] e ≡ record e { flags = flags_at s e }
 at_next i [] s e below is = absurd (omega arith)
 at_next zero (t ∷ steps) s e below is = ap (λ (x : Step). record e { flags = flags_at x e }) (sym is)
 at_next (suc i) (t ∷ steps) s e below is = at_next i steps s e (omega arith) is
 
-pub behind_at : (i : ℕ) (steps : List Step) (log : List Logged) (s : Step) (e : Entry) → i < length steps → length log ≤ i → s ≡ get_or steps i s
-    → entry_behind (drop i steps) (drop i log) e ≡ record e { flags = flags_at s e }
-behind_at zero steps [] s e below past is = at_next zero steps s e below is
-behind_at zero steps (l ∷ log) s e below past is = absurd (omega arith)
-behind_at (suc i) steps [] s e below past is = at_next (suc i) steps s e below is
-behind_at (suc i) [] (l ∷ log) s e below past is = absurd (omega arith)
-behind_at (suc i) (t ∷ steps) (l ∷ log) s e below past is = behind_at i steps log s e (omega arith) (omega arith) is
+pub after_at : (i : ℕ) (steps : List Step) (log : List Logged) (s : Step) (e : Entry) → i < length steps → length log ≤ i → s ≡ get_or steps i s
+    → entry_past (drop i steps) (drop i log) e ≡ record e { flags = flags_at s e }
+after_at zero steps [] s e below past is = at_next zero steps s e below is
+after_at zero steps (l ∷ log) s e below past is = absurd (omega arith)
+after_at (suc i) steps [] s e below past is = at_next (suc i) steps s e below is
+after_at (suc i) [] (l ∷ log) s e below past is = absurd (omega arith)
+after_at (suc i) (t ∷ steps) (l ∷ log) s e below past is = after_at i steps log s e (omega arith) (omega arith) is
 
 -- none is left
-behind_none : (i : ℕ) (log : List Logged) (e : Entry) → entry_behind (drop i []) log e ≡ e
-behind_none zero log e = refl
-behind_none (suc i) log e = refl
+after_none : (i : ℕ) (log : List Logged) (e : Entry) → entry_past (drop i []) log e ≡ e
+after_none zero log e = refl
+after_none (suc i) log e = refl
 
-none_left : (i : ℕ) (steps : List Step) (log : List Logged) (e : Entry) → length steps ≤ i → entry_behind (drop i steps) log e ≡ e
-none_left i [] log e past = behind_none i log e
+none_left : (i : ℕ) (steps : List Step) (log : List Logged) (e : Entry) → length steps ≤ i → entry_past (drop i steps) log e ≡ e
+none_left i [] log e past = after_none i log e
 none_left zero (t ∷ steps) log e past = absurd (omega arith)
 none_left (suc i) (t ∷ steps) log e past = none_left i steps log e (omega arith)
 
-pub behind_past : (i : ℕ) (steps : List Step) (log : List Logged) (e : Entry) → length steps ≤ i → entry_behind (drop i steps) (drop i log) e ≡ e
-behind_past i steps log e past = none_left i steps (drop i log) e past
+pub after_past : (i : ℕ) (steps : List Step) (log : List Logged) (e : Entry) → length steps ≤ i → entry_past (drop i steps) (drop i log) e ≡ e
+after_past i steps log e past = none_left i steps (drop i log) e past

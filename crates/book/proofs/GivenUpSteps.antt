@@ -9,11 +9,11 @@ use Rattle.rules.specs.declared.plan.Step.{Step}
 use Rattle.rules.specs.Entries.{ArePairs, EntryBefore, has_a_side}
 use Rattle.sync_state.specs.declared.journal.Logged.{Logged}
 use Rattle.book.specs.Agreement.{is_pair}
-use Rattle.book.specs.GivingUp.{entry_behind, flags_at, flags_behind}
+use Rattle.book.specs.GivingUp.{entry_past, flags_at, flags_after}
 use Rattle.book.specs.GivenUpParts.{HasNoPair, HasPairAt, IsOfNone, IsOfOne, with_next, with_step}
 use Rattle.book.proofs.CommittedPlaces.{pair_is}
 use Rattle.book.proofs.EntryPairLemmas.{AllPairs-map}
-use Rattle.book.proofs.GivenUpPairs.{behind_at, behind_next, behind_past}
+use Rattle.book.proofs.GivenUpPairs.{after_at, after_next, after_past}
 
 -- with its own flags an entry is itself
 own_flags : (n : ℕ) (e : Entry) → n ≡ e.flags → record e { flags = n } ≡ e
@@ -64,20 +64,20 @@ other_pair es far near at i d pairs here within other = false_from_ne_true (is_p
 
 module _ (es : List Entry) (s : Step) where
   pub step_none : IsOfNone s → es ≡ map (with_step s) es
-  step_none none = sym (map_none (with_step s) es (λ i d within. own_flags (flags_behind s (get_or es i d)) (get_or es i d) (none.logged (get_or es i d))))
+  step_none none = sym (map_none (with_step s) es (λ i d within. own_flags (flags_after s (get_or es i d)) (get_or es i d) (none.logged (get_or es i d))))
 
   pub next_none : IsOfNone s → es ≡ map (with_next s) es
   next_none none = sym (map_none (with_next s) es (λ i d within. own_flags (flags_at s (get_or es i d)) (get_or es i d) (none.next (get_or es i d))))
 
   pub step_gone : (far near : ℕ) → IsOfOne s far near → HasNoPair es far near → es ≡ map (with_step s) es
-  step_gone far near one gone = sym (map_none (with_step s) es (λ i d within. own_flags (flags_behind s (get_or es i d)) (get_or es i d) (one.logged (get_or es i d) (none_pair es far near i d gone within))))
+  step_gone far near one gone = sym (map_none (with_step s) es (λ i d within. own_flags (flags_after s (get_or es i d)) (get_or es i d) (one.logged (get_or es i d) (none_pair es far near i d gone within))))
 
   pub next_gone : (far near : ℕ) → IsOfOne s far near → HasNoPair es far near → es ≡ map (with_next s) es
   next_gone far near one gone = sym (map_none (with_next s) es (λ i d within. own_flags (flags_at s (get_or es i d)) (get_or es i d) (one.next (get_or es i d) (none_pair es far near i d gone within))))
 
   pub step_set : (far near at : ℕ) (y : Entry) → ArePairs es → IsOfOne s far near → HasPairAt es far near at → ((d : Entry) → y ≡ with_step s (get_or es at d)) → set es at y ≡ map (with_step s) es
   step_set far near at y pairs one here is = map_at (with_step s) es at y here.0 is
-      (λ i d within other. own_flags (flags_behind s (get_or es i d)) (get_or es i d) (one.logged (get_or es i d) (other_pair es far near at i d pairs here within other)))
+      (λ i d within other. own_flags (flags_after s (get_or es i d)) (get_or es i d) (one.logged (get_or es i d) (other_pair es far near at i d pairs here within other)))
 
   pub next_set : (far near at : ℕ) (y : Entry) → ArePairs es → IsOfOne s far near → HasPairAt es far near at → ((d : Entry) → y ≡ with_next s (get_or es at d)) → set es at y ≡ map (with_next s) es
   next_set far near at y pairs one here is = map_at (with_next s) es at y here.0 is
@@ -97,7 +97,7 @@ step_pairs s es p = record {
 
 pub record NotesSoFar (steps : List Step) (log : List Logged) (i : ℕ) (first now : List Entry) : Type 0 where
   pub pairs : ArePairs now
-  pub rest : map (entry_behind (drop i steps) (drop i log)) now ≡ map (entry_behind steps log) first
+  pub rest : map (entry_past (drop i steps) (drop i log)) now ≡ map (entry_past steps log) first
 
 map_twice : (f g h : Entry → Entry) → ((e : Entry) → f e ≡ g (h e)) → (xs : List Entry) → map f xs ≡ map g (map h xs)
 map_twice f g h same [] = refl
@@ -111,16 +111,16 @@ pub notes_next : (steps : List Step) (log : List Logged) (i : ℕ) (s : Step) (f
     → then ≡ map (with_step s) now → NotesSoFar steps log (i + 1) first then
 notes_next steps log i s first now then below within is notes e = record {
   pairs = subst (λ (l : List Entry). ArePairs l) (sym e) (step_pairs s now notes.pairs);
-  rest = ap (λ (l : List Entry). map (entry_behind (drop (i + 1) steps) (drop (i + 1) log)) l) e
-      ∙ sym (map_twice (entry_behind (drop i steps) (drop i log)) (entry_behind (drop (i + 1) steps) (drop (i + 1) log)) (with_step s) (λ x. behind_next i steps log s x below within is) now)
+  rest = ap (λ (l : List Entry). map (entry_past (drop (i + 1) steps) (drop (i + 1) log)) l) e
+      ∙ sym (map_twice (entry_past (drop i steps) (drop i log)) (entry_past (drop (i + 1) steps) (drop (i + 1) log)) (with_step s) (λ x. after_next i steps log s x below within is) now)
       ∙ notes.rest;
 }
 
 pub notes_last : (steps : List Step) (log : List Logged) (i : ℕ) (s : Step) (first now then : List Entry) → i < length steps → length log ≤ i → s ≡ get_or steps i s → NotesSoFar steps log i first now
-    → then ≡ map (with_next s) now → then ≡ map (entry_behind steps log) first
+    → then ≡ map (with_next s) now → then ≡ map (entry_past steps log) first
 notes_last steps log i s first now then below past is notes e =
-    e ∙ sym (map_alike (entry_behind (drop i steps) (drop i log)) (with_next s) (λ x. behind_at i steps log s x below past is) now) ∙ notes.rest
+    e ∙ sym (map_alike (entry_past (drop i steps) (drop i log)) (with_next s) (λ x. after_at i steps log s x below past is) now) ∙ notes.rest
 
-pub notes_past : (steps : List Step) (log : List Logged) (i : ℕ) (first now : List Entry) → length steps ≤ i → NotesSoFar steps log i first now → now ≡ map (entry_behind steps log) first
+pub notes_past : (steps : List Step) (log : List Logged) (i : ℕ) (first now : List Entry) → length steps ≤ i → NotesSoFar steps log i first now → now ≡ map (entry_past steps log) first
 notes_past steps log i first now past notes =
-    sym (map_none (entry_behind (drop i steps) (drop i log)) now (λ k d within. behind_past i steps log (get_or now k d) past)) ∙ notes.rest
+    sym (map_none (entry_past (drop i steps) (drop i log)) now (λ k d within. after_past i steps log (get_or now k d) past)) ∙ notes.rest

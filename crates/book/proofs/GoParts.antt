@@ -17,32 +17,32 @@ abbrev IsOther : List ℕ → Type 0
 IsOther line = line ≢ go_line
 
 -- a text whose last line alone is `go` has nothing after a `go`
-none_behind : (ls before : List (List ℕ)) (behind : List ℕ) → All OneLine ls → All IsOther ls → All OneLine before
-    → lines_text (ls ++ go_line ∷ []) ≡ lines_text before ++ (go_line ++ 10 ∷ behind) → [] ≡ behind
-none_behind [] [] behind one other whole e =
-    let s = same_cut 10 go_line go_line [] behind go_is_one_line go_is_one_line e in s.behind
-none_behind [] (l ∷ before) behind one other whole e =
-    let rest : List ℕ = lines_text before ++ (go_line ++ 10 ∷ behind) in
-    let s = same_cut 10 go_line l [] rest go_is_one_line (All-head OneLine l before whole) (e ∙ append_assoc l (10 ∷ lines_text before) (go_line ++ 10 ∷ behind)) in
-    let none : 0 ≡ length rest = ap (λ (x : List ℕ). length x) s.behind in
-    absurd (omega (arith, length-append (lines_text before) (go_line ++ 10 ∷ behind)))
-none_behind (a ∷ ls) [] behind one other whole e =
-    let s = same_cut 10 a go_line (lines_text (ls ++ go_line ∷ [])) behind (All-head OneLine a ls one) go_is_one_line e in
+none_after : (ls before : List (List ℕ)) (following : List ℕ) → All OneLine ls → All IsOther ls → All OneLine before
+    → lines_text (ls ++ go_line ∷ []) ≡ lines_text before ++ (go_line ++ 10 ∷ following) → [] ≡ following
+none_after [] [] following one other whole e =
+    let s = same_cut 10 go_line go_line [] following go_is_one_line go_is_one_line e in s.following
+none_after [] (l ∷ before) following one other whole e =
+    let rest : List ℕ = lines_text before ++ (go_line ++ 10 ∷ following) in
+    let s = same_cut 10 go_line l [] rest go_is_one_line (All-head OneLine l before whole) (e ∙ append_assoc l (10 ∷ lines_text before) (go_line ++ 10 ∷ following)) in
+    let none : 0 ≡ length rest = ap (λ (x : List ℕ). length x) s.following in
+    absurd (omega (arith, length-append (lines_text before) (go_line ++ 10 ∷ following)))
+none_after (a ∷ ls) [] following one other whole e =
+    let s = same_cut 10 a go_line (lines_text (ls ++ go_line ∷ [])) following (All-head OneLine a ls one) go_is_one_line e in
     absurd (All-head IsOther a ls other s.front)
-none_behind (a ∷ ls) (l ∷ before) behind one other whole e =
-    let s = same_cut 10 a l (lines_text (ls ++ go_line ∷ [])) (lines_text before ++ (go_line ++ 10 ∷ behind)) (All-head OneLine a ls one) (All-head OneLine l before whole)
-    (e ∙ append_assoc l (10 ∷ lines_text before) (go_line ++ 10 ∷ behind)) in
-    none_behind ls before behind (All-tail OneLine a ls one) (All-tail IsOther a ls other) (All-tail OneLine l before whole) s.behind
+none_after (a ∷ ls) (l ∷ before) following one other whole e =
+    let s = same_cut 10 a l (lines_text (ls ++ go_line ∷ [])) (lines_text before ++ (go_line ++ 10 ∷ following)) (All-head OneLine a ls one) (All-head OneLine l before whole)
+    (e ∙ append_assoc l (10 ∷ lines_text before) (go_line ++ 10 ∷ following)) in
+    none_after ls before following (All-tail OneLine a ls one) (All-tail IsOther a ls other) (All-tail OneLine l before whole) s.following
 
 no_go_in_part : (ls : List (List ℕ)) (text : List ℕ) (count : ℕ) → All OneLine ls → All IsOther ls → text ≡ lines_text (ls ++ go_line ∷ [])
     → count < length text → HasGo (take count text) → ⊥
 no_go_in_part ls text count one other e part g =
     let rest : List ℕ = drop count text in
-    let parts : text ≡ lines_text g.before ++ (go_line ++ 10 ∷ (g.behind ++ rest)) =
-    sym (take-append-drop count text) ∙ ap (λ (x : List ℕ). x ++ rest) g.lines.parts ∙ append_assoc (lines_text g.before) (go_line ++ 10 ∷ g.behind) rest in
-    let none = none_behind ls g.before (g.behind ++ rest) one other g.lines.whole (sym e ∙ parts) in
-    let size : 0 ≡ length (g.behind ++ rest) = ap (λ (x : List ℕ). length x) none in
-    absurd (omega (arith, length-append g.behind rest, length-drop count text))
+    let parts : text ≡ lines_text g.before ++ (go_line ++ 10 ∷ (g.following ++ rest)) =
+    sym (take-append-drop count text) ∙ ap (λ (x : List ℕ). x ++ rest) g.lines.parts ∙ append_assoc (lines_text g.before) (go_line ++ 10 ∷ g.following) rest in
+    let none = none_after ls g.before (g.following ++ rest) one other g.lines.whole (sym e ∙ parts) in
+    let size : 0 ≡ length (g.following ++ rest) = ap (λ (x : List ℕ). length x) none in
+    absurd (omega (arith, length-append g.following rest, length-drop count text))
 
 begins_otherwise : (line : List ℕ) (first : ℕ) → get_or line 0 0 ≡ first → first ≢ 103 → IsOther line
 begins_otherwise line first is other e = other (sym is ∙ ap (λ (x : List ℕ). get_or x 0 0) e)

@@ -19,7 +19,7 @@ use Rattle.sync_state.specs.JournalText.{journal_lines, IsBadJournal, HasGo}
 use Rattle.sync_state.specs.JournalReading.{IsWritten}
 use Rattle.book.specs.Agreement.{disagreement}
 use Rattle.book.specs.Shelves.{Files}
-use Rattle.book.specs.Books.{HoldsState, HoldsJournal, IsUseless, IsPending, IsRefused, Held, Holds, TellsStateFile, TellsJournalFile, TellsOpen}
+use Rattle.book.specs.Books.{HoldsState, HoldsJournal, IsUseless, IsPending, IsRefused, Held, Holds, ReportsStateFile, ReportsJournalFile, ReportsOpen}
 use Rattle.sync_state.proofs.KnownStates.{state_is_lines}
 use Rattle.sync_state.proofs.KnownJournals.{written_known}
 use Rattle.book.proofs.KnownBooks.{state_of_file, written_has_go}
@@ -67,7 +67,7 @@ first_lines (l ∷ ls) [] end rest wl wm one e = inl (record {
 first_lines (l ∷ ls) (m ∷ ms) end rest wl wm one e =
     let s = same_cut 10 l m (lines_text ls ++ end) (lines_text ms ++ rest) (All-head OneLine l ls wl) (All-head OneLine m ms wm)
     (sym (append_assoc l (10 ∷ lines_text ls) end) ∙ (e ∙ append_assoc m (10 ∷ lines_text ms) rest)) in
-    one_more l m ls ms end rest s.front (first_lines ls ms end rest (All-tail OneLine l ls wl) (All-tail OneLine m ms wm) one s.behind)
+    one_more l m ls ms end rest s.front (first_lines ls ms end rest (All-tail OneLine l ls wl) (All-tail OneLine m ms wm) one s.following)
 
 -- ---- a state's text
 
@@ -84,9 +84,9 @@ good_state s text line has bad = in_version has.version has.is_text where
         })
         by_lines (inr a) = bad.ends_early a.rest_is (record { version = v; state = s; fits = is.fits; same = sym a.lines_are })
 
-good_state_file : (file : Option (List ℕ)) (s : SyncState) (line : ℕ) → HoldsState file s → TellsStateFile file (BadState line) → ⊥
-good_state_file None s line held told = told
-good_state_file (Some text) s line held told = good_state s text line held told
+good_state_file : (file : Option (List ℕ)) (s : SyncState) (line : ℕ) → HoldsState file s → ReportsStateFile file (BadState line) → ⊥
+good_state_file None s line held reported = reported
+good_state_file (Some text) s line held reported = good_state s text line held reported
 
 -- ---- a journal's text
 
@@ -131,34 +131,34 @@ good_useless s text line held refused =
     let old = held.old (refused_has_go s text line refused) in
     not_of_text s old.0 text line old.1 (λ ahead. absurd (omega (arith, ahead, old.2))) (λ next some. absurd (omega (arith, next, old.2))) refused
 
-good_journal_file : (s : SyncState) (file : Option (List ℕ)) (p : Pending) (line : ℕ) → HoldsJournal s file p → TellsJournalFile s file (BadJournal line) → ⊥
-good_journal_file s None p line held told = told
-good_journal_file s (Some text) Missing line held told = held
-good_journal_file s (Some text) Useless line held told = good_useless s text line held told
-good_journal_file s (Some text) (Planned w) line held told = good_pending s w text line held told
+good_journal_file : (s : SyncState) (file : Option (List ℕ)) (p : Pending) (line : ℕ) → HoldsJournal s file p → ReportsJournalFile s file (BadJournal line) → ⊥
+good_journal_file s None p line held reported = reported
+good_journal_file s (Some text) Missing line held reported = held
+good_journal_file s (Some text) Useless line held reported = good_useless s text line held reported
+good_journal_file s (Some text) (Planned w) line held reported = good_pending s w text line held reported
 
 -- ---- both files
 
-no_bad_state_told : (files : Files) (s : SyncState) (line : ℕ) → HoldsState files.state s → TellsOpen files (BadState line) → ⊥
-no_bad_state_told files s line held (inl told) = good_state_file files.state s line held told
-no_bad_state_told files s line held (inr refused) = refused.journal_file
+no_bad_state_reported : (files : Files) (s : SyncState) (line : ℕ) → HoldsState files.state s → ReportsOpen files (BadState line) → ⊥
+no_bad_state_reported files s line held (inl reported) = good_state_file files.state s line held reported
+no_bad_state_reported files s line held (inr refused) = refused.journal_file
 
-bad_journal_told_of_state : (file : Option (List ℕ)) (line : ℕ) → TellsStateFile file (BadJournal line) → ⊥
-bad_journal_told_of_state None line told = told
-bad_journal_told_of_state (Some text) line told = told
+bad_journal_reported_of_state : (file : Option (List ℕ)) (line : ℕ) → ReportsStateFile file (BadJournal line) → ⊥
+bad_journal_reported_of_state None line reported = reported
+bad_journal_reported_of_state (Some text) line reported = reported
 
-no_bad_journal_told : (files : Files) (s : SyncState) (p : Pending) (line : ℕ) → Held files s p → TellsOpen files (BadJournal line) → ⊥
-no_bad_journal_told files s p line held (inl told) = bad_journal_told_of_state files.state line told
-no_bad_journal_told files s p line held (inr refused) =
+no_bad_journal_reported : (files : Files) (s : SyncState) (p : Pending) (line : ℕ) → Held files s p → ReportsOpen files (BadJournal line) → ⊥
+no_bad_journal_reported files s p line held (inl reported) = bad_journal_reported_of_state files.state line reported
+no_bad_journal_reported files s p line held (inr refused) =
     let same = state_of_file files.state refused.state s refused.state_file held.state_file in
     good_journal_file s files.journal p line held.journal_file
-    (subst (λ (x : SyncState). TellsJournalFile x files.journal (BadJournal line)) same refused.journal_file)
+    (subst (λ (x : SyncState). ReportsJournalFile x files.journal (BadJournal line)) same refused.journal_file)
 
 nothing : IsProp ⊥
 nothing = hlevel props
 
-pub held_open : (files : Files) (s : SyncState) (p : Pending) (fault : BookFault) → Holds files s p → TellsOpen files fault → (fault ≡ Stopped) ⊎ (fault ≡ NoMemory)
-held_open files s p Stopped h told = inl refl
-held_open files s p NoMemory h told = inr refl
-held_open files s p (BadState line) h told = absurd (∥∥₁_elim h nothing (λ held. no_bad_state_told files s line held.state_file told))
-held_open files s p (BadJournal line) h told = absurd (∥∥₁_elim h nothing (λ held. no_bad_journal_told files s p line held told))
+pub held_open : (files : Files) (s : SyncState) (p : Pending) (fault : BookFault) → Holds files s p → ReportsOpen files fault → (fault ≡ Stopped) ⊎ (fault ≡ NoMemory)
+held_open files s p Stopped h reported = inl refl
+held_open files s p NoMemory h reported = inr refl
+held_open files s p (BadState line) h reported = absurd (∥∥₁_elim h nothing (λ held. no_bad_state_reported files s line held.state_file reported))
+held_open files s p (BadJournal line) h reported = absurd (∥∥₁_elim h nothing (λ held. no_bad_journal_reported files s p line held reported))

@@ -40,7 +40,7 @@ written_has_go w text is =
     let parts = is.spelled.lines.parts in
     record {
       before = front;
-      behind = lines_text more ++ is.torn;
+      following = lines_text more ++ is.torn;
       lines = record {
         parts = parts ∙ ap (λ (x : List (List ℕ)). lines_text x ++ is.torn) (go_is_there w.version w.journal)
             ∙ ap (λ (x : List ℕ). x ++ is.torn) (lines_text-append front (go_line ∷ more))

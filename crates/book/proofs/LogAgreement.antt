@@ -29,19 +29,19 @@ none_mapped first (Some i) h = cc
 
 -- ---- one step more
 
-abbrev free_behind : List Entry → List Step → List Copy → Step → Logged → Bool
-free_behind entries plan copies s l = list_all (λ c. not (is_taken entries plan copies c)) (copy_of s l)
+abbrev free_after : List Entry → List Step → List Copy → Step → Logged → Bool
+free_after entries plan copies s l = list_all (λ c. not (is_taken entries plan copies c)) (copy_of s l)
 
 log_agrees-push : (entries : List Entry) (plan : List Step) (copies : List Copy) (steps : List Step) (log : List Logged) (l : Logged) → FitsAt steps (length log) l
     → log_agrees entries plan copies steps (log ++ l ∷ [])
-    ≡ log_agrees entries plan copies steps log ++ at_step (λ s. free_behind entries plan (copies ++ copies_of steps log) s l) steps (length log) ∷ []
+    ≡ log_agrees entries plan copies steps log ++ at_step (λ s. free_after entries plan (copies ++ copies_of steps log) s l) steps (length log) ∷ []
 log_agrees-push entries plan copies [] log l f = absurd f
-log_agrees-push entries plan copies (s ∷ []) [] l f = ap (λ (cs : List Copy). free_behind entries plan cs s l ∷ []) (sym (append-nil copies))
-log_agrees-push entries plan copies (s ∷ t ∷ steps) [] l f = ap (λ (cs : List Copy). free_behind entries plan cs s l ∷ []) (sym (append-nil copies))
+log_agrees-push entries plan copies (s ∷ []) [] l f = ap (λ (cs : List Copy). free_after entries plan cs s l ∷ []) (sym (append-nil copies))
+log_agrees-push entries plan copies (s ∷ t ∷ steps) [] l f = ap (λ (cs : List Copy). free_after entries plan cs s l ∷ []) (sym (append-nil copies))
 log_agrees-push entries plan copies (s ∷ steps) (x ∷ log) l f =
-    ap (λ (bs : List Bool). free_behind entries plan copies s x ∷ bs)
+    ap (λ (bs : List Bool). free_after entries plan copies s x ∷ bs)
     (log_agrees-push entries plan (copies ++ copy_of s x) steps log l f
-    ∙ ap (λ (cs : List Copy). log_agrees entries plan (copies ++ copy_of s x) steps log ++ at_step (λ y. free_behind entries plan cs y l) steps (length log) ∷ [])
+    ∙ ap (λ (cs : List Copy). log_agrees entries plan (copies ++ copy_of s x) steps log ++ at_step (λ y. free_after entries plan cs y l) steps (length log) ∷ [])
     (append_assoc copies (copy_of s x) (copies_of steps log)))
 
 pub agrees_more : (entries : List Entry) (j : Journal) (l : Logged) → FitsAt j.plan.steps (length j.log) l → is_free entries j l ≡ true → Agrees entries j

@@ -13,7 +13,7 @@ use Rattle.sync_state.specs.declared.journal.Logged.{Logged}
 use Rattle.sync_state.specs.declared.journal.Logged.TheVariants.{Void}
 use Rattle.sync_state.specs.declared.journal.Journal.{Journal as Planned_journal}
 use Rattle.sync_state.specs.declared.journal.WrittenJournal.{WrittenJournal}
-use Rattle.book.specs.declared.shelf.File.TheVariants.{Journal}
+use Rattle.book.specs.declared.shelf.ShelfFile.TheVariants.{Journal}
 use Rattle.book.specs.declared.book.Pending.{Pending}
 use Rattle.book.specs.declared.book.Pending.TheVariants.{Missing, Useless, Planned}
 use Rattle.sync_state.specs.Lines.{lines_text, OneLine}
@@ -103,31 +103,31 @@ not_refused false h = absurd (false≢true (sym h))
 
 -- ---- the file
 
-pub more_behind : (state : SyncState) (file : Option (List ℕ)) (p : Pending) (step : ℕ) (l : Logged) (line : List ℕ) → MayLog p step l → is_refused state.entries p l ≡ false → step < 2 ^ 64
+pub more_after : (state : SyncState) (file : Option (List ℕ)) (p : Pending) (step : ℕ) (l : Logged) (line : List ℕ) → MayLog p step l → is_refused state.entries p l ≡ false → step < 2 ^ 64
     → line ≡ log_line step l ++ 10 ∷ [] → HoldsJournal state file p → HoldsJournal state (Some (unwrap_or file [] ++ line)) (logged_more p l)
-more_behind state file Missing step l line next free small e h = absurd next
-more_behind state file Useless step l line next free small e h = absurd next
-more_behind state None (Planned w) step l line next free small e h = absurd h
-more_behind state (Some text) (Planned w) step l line next free small e h =
+more_after state file Missing step l line next free small e h = absurd next
+more_after state file Useless step l line next free small e h = absurd next
+more_after state None (Planned w) step l line next free small e h = absurd h
+more_after state (Some text) (Planned w) step l line next free small e h =
     record {
       is_next = record { written_is = more_is_written w step l text line next small e h.is_next.written_is; next = h.is_next.next };
       agrees = agrees_more state.entries w.journal l next.fits (not_refused (is_free state.entries w.journal l) free) h.agrees;
     }
 
-torn_behind : (state : SyncState) (file : Option (List ℕ)) (p : Pending) (step : ℕ) (l : Logged) (line : List ℕ) (count : ℕ) → MayLog p step l → step < 2 ^ 64 → line ≡ log_line step l ++ 10 ∷ []
+torn_after : (state : SyncState) (file : Option (List ℕ)) (p : Pending) (step : ℕ) (l : Logged) (line : List ℕ) (count : ℕ) → MayLog p step l → step < 2 ^ 64 → line ≡ log_line step l ++ 10 ∷ []
     → 0 < count → count < length line → HoldsJournal state file p → HoldsJournal state (Some (unwrap_or file [] ++ take count line)) (torn p)
-torn_behind state file Missing step l line count next small e some less h = absurd next
-torn_behind state file Useless step l line count next small e some less h = absurd next
-torn_behind state None (Planned w) step l line count next small e some less h = absurd h
-torn_behind state (Some text) (Planned w) step l line count next small e some less h =
+torn_after state file Missing step l line count next small e some less h = absurd next
+torn_after state file Useless step l line count next small e some less h = absurd next
+torn_after state None (Planned w) step l line count next small e some less h = absurd h
+torn_after state (Some text) (Planned w) step l line count next small e some less h =
     record { is_next = record { written_is = torn_is_written w step l text line count next small e some less h.is_next.written_is; next = h.is_next.next }; agrees = h.agrees }
 
-nothing_behind : (state : SyncState) (file : Option (List ℕ)) (p : Pending) (step : ℕ) (l : Logged) (part : List ℕ) → MayLog p step l → part ≡ []
+nothing_after : (state : SyncState) (file : Option (List ℕ)) (p : Pending) (step : ℕ) (l : Logged) (part : List ℕ) → MayLog p step l → part ≡ []
     → HoldsJournal state file p → HoldsJournal state (Some (unwrap_or file [] ++ part)) p
-nothing_behind state file Missing step l part next e h = absurd next
-nothing_behind state file Useless step l part next e h = absurd next
-nothing_behind state None (Planned w) step l part next e h = absurd h
-nothing_behind state (Some text) (Planned w) step l part next e h =
+nothing_after state file Missing step l part next e h = absurd next
+nothing_after state file Useless step l part next e h = absurd next
+nothing_after state None (Planned w) step l part next e h = absurd h
+nothing_after state (Some text) (Planned w) step l part next e h =
     subst (λ (t : List ℕ). HoldsJournal state (Some t) (Planned w)) (sym (ap (λ (x : List ℕ). text ++ x) e ∙ append-nil text)) h
 
 -- ---- the call
@@ -139,13 +139,13 @@ part_logged : (old new : Files) (state : SyncState) (p : Pending) (step : ℕ) (
     → line ≡ log_line step l ++ 10 ∷ [] → Holds old state p → OneOfThree new state p (logged_more p l) (torn p)
 part_logged old new state p step l line part next free small e h = elim (cases_lt part.count (length line)) [
   | inr all ↦ inr (inl (journal_put _ old new state p (logged_more p l) part.part
-      (more_behind state old.journal p step l (take part.count line) next free small (take_all part.count line all ∙ e)) h))
+      (more_after state old.journal p step l (take part.count line) next free small (take_all part.count line all ∙ e)) h))
   | inl less ↦ elim (cases_lt 0 part.count) [
-    | inl some ↦ inr (inr (journal_put _ old new state p (torn p) part.part (torn_behind state old.journal p step l line part.count next small e some less) h))
+    | inl some ↦ inr (inr (journal_put _ old new state p (torn p) part.part (torn_after state old.journal p step l line part.count next small e some less) h))
     | inr none ↦
         let count : part.count ≡ 0 = omega (arith, none) in
         inl (journal_put _ old new state p p part.part
-        (nothing_behind state old.journal p step l (take part.count line) next (ap (λ (n : ℕ). take n line) count)) h)
+        (nothing_after state old.journal p step l (take part.count line) next (ap (λ (n : ℕ). take n line) count)) h)
   ]
 ]
 
@@ -154,7 +154,7 @@ pub logged_or_not : (old new : Files) (state : SyncState) (p : Pending) (step : 
     → line ≡ log_line step l ++ 10 ∷ [] → Holds old state p → OneOfThree new state p (logged_more p l) (torn p)
 logged_or_not old new state p step l line (inl same) next free small e h = inl (same_files old new state p same h)
 logged_or_not old new state p step l line (inr (inl puts)) next free small e h =
-    inr (inl (journal_put _ old new state p (logged_more p l) puts (more_behind state old.journal p step l line next free small e) h))
+    inr (inl (journal_put _ old new state p (logged_more p l) puts (more_after state old.journal p step l line next free small e) h))
 logged_or_not old new state p step l line (inr (inr part)) next free small e h = part_logged old new state p step l line part next free small e h
 
 -- ---- a longer log still fits

@@ -71,8 +71,8 @@ module _ {X : Type 0} (place : X → ℕ × ℕ × ℕ) (k : ℕ × ℕ × ℕ) 
   before_fails i d less within = false_from_ne_true (test (get_or xs i d)) (λ t.
       below_itself k (subst (λ (p : ℕ × ℕ × ℕ). is_below p k ≡ true) (only (get_or xs i d) t) (below i d (omega arith) less)))
 
-  behind_fails : (i : ℕ) (d : X) → at < i → i < length xs → test (get_or xs i d) ≡ false
-  behind_fails i d more within = false_from_ne_true (test (get_or xs i d)) (λ t.
+  after_fails : (i : ℕ) (d : X) → at < i → i < length xs → test (get_or xs i d) ≡ false
+  after_fails i d more within = false_from_ne_true (test (get_or xs i d)) (λ t.
       both_ways _ (above at d (omega arith) (omega arith))
       (subst (λ (p : ℕ × ℕ × ℕ). is_below (place (get_or xs at d)) p ≡ true) (only (get_or xs i d) t) (rising at i d more within)))
 
@@ -84,7 +84,7 @@ module _ {X : Type 0} (place : X → ℕ × ℕ × ℕ) (k : ℕ × ℕ × ℕ) 
   by_test x false t within is = list_any_none test xs (λ i d inside. elim (cases_lt i at) [
     | inl less ↦ before_fails i d less inside
     | inr at_least ↦ elim (cases_lt at i) [
-      | inl more ↦ behind_fails i d more inside
+      | inl more ↦ after_fails i d more inside
       | inr upto ↦
           let same : i ≡ at = omega arith in
           let here : x ≡ get_or xs i d = get_or_read xs at x within is d ∙ ap (λ (n : ℕ). get_or xs n d) (sym same) in

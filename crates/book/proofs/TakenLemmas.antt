@@ -61,14 +61,14 @@ more_known es p w l t is knows =
 
 -- ---- a step that makes a copy
 
-some_behind : (a b : Bool) → b ≡ true → (a || b) ≡ true
-some_behind true b h = refl
-some_behind false b h = h
+some_after : (a b : Bool) → b ≡ true → (a || b) ≡ true
+some_after true b h = refl
+some_after false b h = h
 
 pub one_copies : (steps : List Step) (k : ℕ) (s : Step) → k < length steps → s ≡ get_or steps k s → copies_one s ≡ true → list_any copies_one steps ≡ true
 one_copies [] k s h e is = absurd (omega arith)
 one_copies (x ∷ steps) zero s h e is = ap (λ (b : Bool). b || list_any copies_one steps) (subst (λ (y : Step). copies_one y ≡ true) e is)
-one_copies (x ∷ steps) (suc k) s h e is = some_behind (copies_one x) (list_any copies_one steps) (one_copies steps k s (omega arith) e is)
+one_copies (x ∷ steps) (suc k) s h e is = some_after (copies_one x) (list_any copies_one steps) (one_copies steps k s (omega arith) e is)
 
 -- ---- the first steps of a log
 

@@ -66,8 +66,8 @@ IsLog-prop (s ∷ steps) [] = Prim.hlevel props
 IsLog-prop [] (l ∷ log) = Prim.hlevel props
 IsLog-prop (s ∷ steps) (l ∷ log) =
     let here = FitsStep-prop s l in
-    let behind = IsLog-prop steps log in
-    Prim.hlevel (here, behind, props)
+    let following = IsLog-prop steps log in
+    Prim.hlevel (here, following, props)
 
 HasJournal-prop : (j : Journal) → IsProp (HasJournal j)
 HasJournal-prop j = Prim.hlevel (IsPlan-prop, IsLog-prop, props)

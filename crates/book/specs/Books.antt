@@ -83,12 +83,12 @@ Fits state Useless = Unit {0}
 Fits state (Planned written) = IsFitting state written.journal
 
 -- why a state's file was not read
-abbrev pub TellsStateFile : Option (List ℕ) → BookFault → Type 0
-TellsStateFile file Stopped = Unit {0}
-TellsStateFile None (BadState line) = ⊥
-TellsStateFile (Some text) (BadState line) = IsBadLine StateLines text line
-TellsStateFile file (BadJournal line) = ⊥
-TellsStateFile file NoMemory = Unit {0}
+abbrev pub ReportsStateFile : Option (List ℕ) → BookFault → Type 0
+ReportsStateFile file Stopped = Unit {0}
+ReportsStateFile None (BadState line) = ⊥
+ReportsStateFile (Some text) (BadState line) = IsBadLine StateLines text line
+ReportsStateFile file (BadJournal line) = ⊥
+ReportsStateFile file NoMemory = Unit {0}
 
 -- the shelf was whole and is, and no call has stopped in between
 pub record IsUnstopped (old new : Seen Files) : Type 0 where
@@ -98,14 +98,14 @@ pub record IsUnstopped (old new : Seen Files) : Type 0 where
 
 -- Files are not read. A stop is reported where the shelf stopped then, which is broken from then on, or was broken before and
 -- is as it was. Where a file is refused no call has stopped; where memory ran out none need have.
-abbrev pub StopsTold : BookFault → Seen Files → Seen Files → Type 0
-StopsTold Stopped old new =
+abbrev pub StopsReported : BookFault → Seen Files → Seen Files → Type 0
+StopsReported Stopped old new =
     (new.is_broken ≡ true)
     × (old.is_broken ≡ true → new ≡ old)
     × (old.is_broken ≡ false → old.stops < new.stops)
-StopsTold (BadState line) old new = IsUnstopped old new
-StopsTold (BadJournal line) old new = IsUnstopped old new
-StopsTold NoMemory old new = (old.is_broken ≡ false) × (old.stops ≤ new.stops)
+StopsReported (BadState line) old new = IsUnstopped old new
+StopsReported (BadJournal line) old new = IsUnstopped old new
+StopsReported NoMemory old new = (old.is_broken ≡ false) × (old.stops ≤ new.stops)
 
 -- a plan of a run above the next one
 pub record IsAhead (run : ℕ) (text : List ℕ) : Type 0 where
@@ -124,29 +124,29 @@ abbrev pub IsRefused : SyncState → List ℕ → (line : ℕ) → Type 0
 IsRefused s text line = (HasGo text × IsBadJournal text line) ⊎ (((line ≡ 2) × IsAhead s.run text) ⊎ IsDisagreeing s text line)
 
 -- why a journal's text was not read
-abbrev pub TellsPending : SyncState → List ℕ → BookFault → Type 0
-TellsPending s text Stopped = ⊥
-TellsPending s text (BadState line) = ⊥
-TellsPending s text (BadJournal line) = IsRefused s text line
-TellsPending s text NoMemory = Unit {0}
+abbrev pub ReportsPending : SyncState → List ℕ → BookFault → Type 0
+ReportsPending s text Stopped = ⊥
+ReportsPending s text (BadState line) = ⊥
+ReportsPending s text (BadJournal line) = IsRefused s text line
+ReportsPending s text NoMemory = Unit {0}
 
 -- why a journal's file was not read
-abbrev pub TellsJournalFile : SyncState → Option (List ℕ) → BookFault → Type 0
-TellsJournalFile s file Stopped = Unit {0}
-TellsJournalFile s file (BadState line) = ⊥
-TellsJournalFile s None (BadJournal line) = ⊥
-TellsJournalFile s (Some text) (BadJournal line) = IsRefused s text line
-TellsJournalFile s file NoMemory = Unit {0}
+abbrev pub ReportsJournalFile : SyncState → Option (List ℕ) → BookFault → Type 0
+ReportsJournalFile s file Stopped = Unit {0}
+ReportsJournalFile s file (BadState line) = ⊥
+ReportsJournalFile s None (BadJournal line) = ⊥
+ReportsJournalFile s (Some text) (BadJournal line) = IsRefused s text line
+ReportsJournalFile s file NoMemory = Unit {0}
 
 -- the state's file was read, and the journal's was not
 pub record JournalRefused (files : Files) (fault : BookFault) : Type 0 where
   pub state : SyncState
   pub state_file : HoldsState files.state state
-  pub journal_file : TellsJournalFile state files.journal fault
+  pub journal_file : ReportsJournalFile state files.journal fault
 
 -- why a book was not opened
-abbrev pub TellsOpen : Files → BookFault → Type 0
-TellsOpen files fault = TellsStateFile files.state fault ⊎ JournalRefused files fault
+abbrev pub ReportsOpen : Files → BookFault → Type 0
+ReportsOpen files fault = ReportsStateFile files.state fault ⊎ JournalRefused files fault
 
 -- without a torn line, in the same version
 abbrev pub mended : Pending → Pending

@@ -10,7 +10,7 @@ use Rattle.rules.specs.declared.plan.Step.{Step}
 use Rattle.rules.specs.Entries.{uid_of, is_full}
 use Rattle.sync_state.specs.JournalText.{note_place, is_below}
 use Rattle.sync_state.specs.declared.journal.Journal.{Journal}
-use Rattle.book.specs.declared.changes.Pair.{Pair}
+use Rattle.book.specs.declared.changes.UidPair.{UidPair}
 use Rattle.book.specs.declared.changes.Gones.{Gones}
 use Rattle.book.specs.declared.changes.Walk.{Walk}
 use Rattle.book.specs.Agreement.{is_pair}
@@ -20,15 +20,15 @@ use Rattle.book.specs.PlacedLists.{entry_place}
 -- ---- the entries whose source has vanished
 
 -- the entry has these UIDs
-abbrev pub is_of : Entry → Pair → Bool
+abbrev pub is_of : Entry → UidPair → Bool
 is_of e p = is_pair (Some p.far) (Some p.near) e
 
 -- by far and then near UID
-abbrev pub PairNotAfter : Pair → Pair → Type 0
+abbrev pub PairNotAfter : UidPair → UidPair → Type 0
 PairNotAfter a b = (a.far ≤ b.far) × (a.far ≡ b.far → a.near ≤ b.near)
 
 -- in order, and the steps say of just these entries that their source of the direction has vanished
-pub record AreGone (steps : List Step) (d : Direction) (pairs : List Pair) : Type 0 where
+pub record AreGone (steps : List Step) (d : Direction) (pairs : List UidPair) : Type 0 where
   pub in_order : AllPairs PairNotAfter pairs
   pub says : (e : Entry) → list_any (is_of e) pairs ≡ is_gone steps d e
 
@@ -38,7 +38,7 @@ pub record AreGones (steps : List Step) (gones : Gones) : Type 0 where
 
 -- ---- places
 
-abbrev pub pair_place : Pair → ℕ × ℕ × ℕ
+abbrev pub pair_place : UidPair → ℕ × ℕ × ℕ
 pair_place p = (0, p.far, p.near)
 
 -- the place of the pair of an entry

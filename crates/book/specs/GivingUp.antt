@@ -27,11 +27,11 @@ use Rattle.book.specs.Committed.{entries_of_copies}
 -- ---- what a plan has made of the flags of old entries
 
 -- the flags recorded after a step that is logged: those that it gave are, so that no later plan takes them for a change that somebody made
-abbrev pub flags_behind : Step → Entry → ℕ
-flags_behind (step.New direction uid flags mark) e = e.flags
-flags_behind (step.Gone direction far near) e = if is_pair (Some far) (Some near) e then with_deleted e.flags else e.flags
-flags_behind (step.Flags direction far near set cleared) e = if is_pair (Some far) (Some near) e then minus (union e.flags set) cleared else e.flags
-flags_behind (step.Expunge side uid) e = e.flags
+abbrev pub flags_after : Step → Entry → ℕ
+flags_after (step.New direction uid flags mark) e = e.flags
+flags_after (step.Gone direction far near) e = if is_pair (Some far) (Some near) e then with_deleted e.flags else e.flags
+flags_after (step.Flags direction far near set cleared) e = if is_pair (Some far) (Some near) e then minus (union e.flags set) cleared else e.flags
+flags_after (step.Expunge side uid) e = e.flags
 
 -- the same for the step after the log, which may be done: that it marks a message as deleted counts, and nothing else
 abbrev pub flags_at : Step → Entry → ℕ
@@ -41,10 +41,10 @@ flags_at (step.Flags direction far near set cleared) e = if is_pair (Some far) (
 flags_at (step.Expunge side uid) e = e.flags
 
 -- an entry after the logged steps
-abbrev pub entry_behind : List Step → List Logged → Entry → Entry
-entry_behind [] log e = e
-entry_behind (s ∷ steps) [] e = record e { flags = flags_at s e }
-entry_behind (s ∷ steps) (logged ∷ log) e = entry_behind steps log (record e { flags = flags_behind s e })
+abbrev pub entry_past : List Step → List Logged → Entry → Entry
+entry_past [] log e = e
+entry_past (s ∷ steps) [] e = record e { flags = flags_at s e }
+entry_past (s ∷ steps) (logged ∷ log) e = entry_past steps log (record e { flags = flags_after s e })
 
 -- ---- an entry that loses a side
 
@@ -61,7 +61,7 @@ half_of lost e = if loses lost Far e then without Far e else if loses lost Near 
 
 -- what an old entry becomes
 abbrev pub left_entry : Journal → (lost : Lost) → Entry → Entry
-left_entry j lost e = half_of lost (entry_behind j.plan.steps j.log e)
+left_entry j lost e = half_of lost (entry_past j.plan.steps j.log e)
 
 -- The state that is left of a plan, where these entries lose a side: the entries are the old ones, with the flags that logged steps gave, and
 -- one for each copy that is logged. An old entry that loses a side keeps the other one alone. What is new stays new, since the highest UIDs

@@ -3,12 +3,12 @@
 ghost use Rattle.std.specs.Prelude.{◌≡◌, false, true, Some, Ok, IfOk, IfErr, OnOk, OnErr, MatchOption};
 ghost use Rattle.sync_state.specs.declared.journal.WrittenJournal.{WrittenJournal};
 ghost use Rattle.book.specs.Books.{Holds, HoldsState, HoldsJournal, IsPlanned, IsSound, IsUnstopped, Fits, Ends, mended};
-ghost use Rattle.book.specs.Books.{TellsOpen, TellsStateFile, TellsJournalFile, TellsPending, StopsTold};
+ghost use Rattle.book.specs.Books.{ReportsOpen, ReportsStateFile, ReportsJournalFile, ReportsPending, StopsReported};
 ghost use Rattle.book.specs.BookLaws.{Fits-prop, IsSound-prop, Knows-prop};
 ghost use Rattle.book.specs.TakenUids.{Knows};
 
 use crate::agreement::disagreement;
-use crate::shelf::{File, Shelf};
+use crate::shelf::{Shelf, ShelfFile};
 use crate::taken::Taken;
 use rules::state::SyncState;
 use std::alloc::Global;
@@ -34,10 +34,10 @@ fn read_state_file<S: Shelf>(alloc: Global, shelf: &mut S) -> Result<SyncState, 
     ensures sound { IfOk result IsSound }
     ensures files { S.is_honest ≡ true → (S.seen shelf.new).stored ≡ (S.seen shelf.old).stored }
     ensures unstopped { OnOk result (IsUnstopped (S.seen shelf.old) (S.seen shelf.new)) }
-    ensures refused { IfErr result (λ fault. S.is_honest ≡ true → TellsStateFile (S.seen shelf.new).stored.state fault) }
-    ensures told { IfErr result (λ fault. StopsTold fault (S.seen shelf.old) (S.seen shelf.new)) }
+    ensures refused { IfErr result (λ fault. S.is_honest ≡ true → ReportsStateFile (S.seen shelf.new).stored.state fault) }
+    ensures reported { IfErr result (λ fault. StopsReported fault (S.seen shelf.old) (S.seen shelf.new)) }
 {
-    match shelf.read(File::State)? {
+    match shelf.read(ShelfFile::State)? {
         Some(text) => read_state_text(alloc, &text),
         None => Ok(SyncState::none(alloc)),
     }
@@ -53,10 +53,10 @@ fn read_journal_file<S: Shelf>(
     ensures fits { IfOk result (Fits state.now) }
     ensures files { S.is_honest ≡ true → (S.seen shelf.new).stored ≡ (S.seen shelf.old).stored }
     ensures unstopped { OnOk result (IsUnstopped (S.seen shelf.old) (S.seen shelf.new)) }
-    ensures refused { IfErr result (λ fault. S.is_honest ≡ true → TellsJournalFile state.now (S.seen shelf.new).stored.journal fault) }
-    ensures told { IfErr result (λ fault. StopsTold fault (S.seen shelf.old) (S.seen shelf.new)) }
+    ensures refused { IfErr result (λ fault. S.is_honest ≡ true → ReportsJournalFile state.now (S.seen shelf.new).stored.journal fault) }
+    ensures reported { IfErr result (λ fault. StopsReported fault (S.seen shelf.old) (S.seen shelf.new)) }
 {
-    match shelf.read(File::Journal)? {
+    match shelf.read(ShelfFile::Journal)? {
         Some(text) => read_pending(alloc, &text, state),
         None => Ok(Pending::Missing),
     }
@@ -66,7 +66,7 @@ fn read_journal_file<S: Shelf>(
 fn read_pending(alloc: Global, text: &[u8], state: &SyncState) -> Result<Pending, BookFault>
     ensures holds { IfOk result (λ pending. HoldsJournal state.now (Some text.now) pending) }
     ensures fits { IfOk result (Fits state.now) }
-    ensures refused { IfErr result (TellsPending state.now text.now) }
+    ensures refused { IfErr result (ReportsPending state.now text.now) }
 {
     let Some(written) = read_journal(alloc, text)? else {
         return Ok(Pending::Useless);
@@ -94,8 +94,8 @@ fn read_files<S: Shelf>(
     ensures knows { IfOk result (λ held. Knows held.0.entries held.1 held.2) }
     ensures unstopped { OnOk result (IsUnstopped (S.seen shelf.old) (S.seen shelf.new)) }
     ensures files { S.is_honest ≡ true → (S.seen shelf.new).stored ≡ (S.seen shelf.old).stored }
-    ensures refused { IfErr result (λ fault. S.is_honest ≡ true → TellsOpen (S.seen shelf.new).stored fault) }
-    ensures told { IfErr result (λ fault. StopsTold fault (S.seen shelf.old) (S.seen shelf.new)) }
+    ensures refused { IfErr result (λ fault. S.is_honest ≡ true → ReportsOpen (S.seen shelf.new).stored fault) }
+    ensures reported { IfErr result (λ fault. StopsReported fault (S.seen shelf.old) (S.seen shelf.new)) }
 {
     let state = read_state_file(alloc, shelf)?;
     let pending = read_journal_file(alloc, shelf, &state)?;
@@ -143,8 +143,8 @@ impl<S: Shelf> Book<S> {
         ensures held { IfOk result (λ book. S.is_honest ≡ true → Holds (S.seen book.shelf).stored book.state book.pending) }
         ensures unstopped { IfOk result (λ book. IsUnstopped (S.seen shelf) (S.seen book.shelf)) }
         ensures handed_back { IfErr result (λ f. S.is_honest ≡ true → (S.seen f.shelf).stored ≡ (S.seen shelf).stored) }
-        ensures refused { IfErr result (λ f. S.is_honest ≡ true → TellsOpen (S.seen f.shelf).stored f.fault) }
-        ensures told { IfErr result (λ f. StopsTold f.fault (S.seen shelf) (S.seen f.shelf)) }
+        ensures refused { IfErr result (λ f. S.is_honest ≡ true → ReportsOpen (S.seen f.shelf).stored f.fault) }
+        ensures reported { IfErr result (λ f. StopsReported f.fault (S.seen shelf) (S.seen f.shelf)) }
     {
         let mut shelf = shelf;
         match read_files(alloc, &mut shelf) {
@@ -184,8 +184,8 @@ impl<S: Shelf> Book<S> {
         ensures untouched { self.old.is_ready ≡ true → (result ≡ Ok tt) × (self.new ≡ self.old) }
         ensures held { OnOk result (S.is_honest ≡ true → Holds (S.seen self.new.shelf).stored self.new.state self.new.pending) }
         ensures unstopped { OnOk result (IsUnstopped (S.seen self.old.shelf) (S.seen self.new.shelf)) }
-        ensures refused { IfErr result (λ fault. S.is_honest ≡ true → TellsOpen (S.seen self.new.shelf).stored fault) }
-        ensures told { IfErr result (λ fault. StopsTold fault (S.seen self.old.shelf) (S.seen self.new.shelf)) }
+        ensures refused { IfErr result (λ fault. S.is_honest ≡ true → ReportsOpen (S.seen self.new.shelf).stored fault) }
+        ensures reported { IfErr result (λ fault. StopsReported fault (S.seen self.old.shelf) (S.seen self.new.shelf)) }
     {
         if self.is_ready {
             return Ok(());
@@ -259,7 +259,7 @@ impl<S: Shelf> Book<S> {
             return Ok(());
         }
         self.is_ready = false;
-        self.shelf.remove(File::Journal)?;
+        self.shelf.remove(ShelfFile::Journal)?;
         self.pending = Pending::Missing;
         self.is_ready = true;
         Ok(())
@@ -287,7 +287,7 @@ impl<S: Shelf> Book<S> {
         }
         self.is_ready = false;
         let text = write_journal_in(self.alloc, written.version, &written.journal)?;
-        self.shelf.replace(File::Journal, &text)?;
+        self.shelf.replace(ShelfFile::Journal, &text)?;
         mend_pending(&mut self.pending);
         self.is_ready = true;
         Ok(())

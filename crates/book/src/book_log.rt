@@ -10,7 +10,7 @@ ghost use Rattle.book.specs.BookLogs.{fresh, begun, as_done, logged_more, is_fre
 ghost use Rattle.book.specs.TakenUids.{KnowsTaken, copies_one};
 
 use crate::book::{Book, Pending};
-use crate::shelf::{File, Shelf};
+use crate::shelf::{Shelf, ShelfFile};
 use crate::taken::Taken;
 use mailcore::uid::Uid;
 use rules::plan::Plan;
@@ -44,7 +44,7 @@ impl<S: Shelf> Book<S> {
         let text = write_plan(self.alloc, &plan)?;
         let entries = self.state.entries.as_slice();
         let taken = Taken::begun(self.alloc, entries, plan.steps.as_slice())?;
-        self.shelf.append(File::Journal, &text)?;
+        self.shelf.append(ShelfFile::Journal, &text)?;
         let log = Log::from_vec(Vec::new(self.alloc));
         self.pending = Pending::Planned(WrittenJournal {
             version: Version::Two,
@@ -108,7 +108,7 @@ impl<S: Shelf> Book<S> {
         }
         self.is_ready = false;
         let line = line_of(self.alloc, step, &logged)?;
-        self.shelf.append(File::Journal, &line)?;
+        self.shelf.append(ShelfFile::Journal, &line)?;
         self.taken.add_next(&self.pending, logged)?;
         log_pending(&mut self.pending, logged)?;
         self.is_ready = true;

@@ -17,11 +17,11 @@ use rules::entry::Entry;
 use rules::plan::{Note, Step};
 use std::alloc::{AllocError, Global};
 use sync_state::journal::Journal;
-use sync_state::place::Place;
+use sync_state::place::StepPlace;
 
 /// The UIDs of an entry.
 #[derive(Clone, Copy)]
-pub(crate) struct Pair {
+pub(crate) struct UidPair {
     pub(crate) far: Uid,
     pub(crate) near: Uid,
 }
@@ -29,8 +29,8 @@ pub(crate) struct Pair {
 /// The entries of which a side has vanished, for each side, in order.
 #[derive(Drop)]
 pub(crate) struct Gones {
-    pub(crate) far: Vec<Pair>,
-    pub(crate) near: Vec<Pair>,
+    pub(crate) far: Vec<UidPair>,
+    pub(crate) near: Vec<UidPair>,
 }
 
 impl Gones {
@@ -45,7 +45,11 @@ impl Gones {
 }
 
 /// The entries whose source of the direction has vanished, in order: a plan has them in the order of their targets.
-fn gone_pairs(alloc: Global, direction: Direction, steps: &[Step]) -> Result<Vec<Pair>, AllocError>
+fn gone_pairs(
+    alloc: Global,
+    direction: Direction,
+    steps: &[Step],
+) -> Result<Vec<UidPair>, AllocError>
     ensures { IfOk result (λ pairs. AreGone steps.now direction pairs.items) }
 {
     let mut pairs = Vec::new(alloc);
@@ -59,7 +63,7 @@ fn gone_pairs(alloc: Global, direction: Direction, steps: &[Step]) -> Result<Vec
 }
 
 /// The entry of which the step says that its source has vanished.
-fn gone_pair(direction: Direction, step: &Step) -> Option<Pair>
+fn gone_pair(direction: Direction, step: &Step) -> Option<UidPair>
     ensures { (e : Entry) → passes (is_of e) result ≡ says_gone direction e step.now }
 {
     match *step {
@@ -67,12 +71,12 @@ fn gone_pair(direction: Direction, step: &Step) -> Option<Pair>
             direction: gone,
             far,
             near,
-        } if gone == direction => Some(Pair { far, near }),
+        } if gone == direction => Some(UidPair { far, near }),
         _ => None,
     }
 }
 
-fn sort_pairs(pairs: &mut Vec<Pair>)
+fn sort_pairs(pairs: &mut Vec<UidPair>)
     ensures same { IsPermutation pairs.old.items pairs.new.items }
     ensures in_order { AllPairs PairNotAfter pairs.new.items }
 {
@@ -116,7 +120,7 @@ impl Walk {
 }
 
 /// The first of these pairs, from one on, that does not stand before the entry.
-fn first_pair_from(pairs: &[Pair], from: usize, entry: &Entry) -> usize
+fn first_pair_from(pairs: &[UidPair], from: usize, entry: &Entry) -> usize
     requires in_order { AllPairs PairNotAfter pairs.now }
     requires passed { Passed pair_place (gone_place entry.now) pairs.now from }
     ensures { Reached pair_place (gone_place entry.now) pairs.now result }
@@ -128,7 +132,7 @@ fn first_pair_from(pairs: &[Pair], from: usize, entry: &Entry) -> usize
     at
 }
 
-fn is_before(pair: Pair, entry: &Entry) -> bool
+fn is_before(pair: UidPair, entry: &Entry) -> bool
     ensures { result ≡ is_below (pair_place pair) (gone_place entry.now) }
 {
     let (far, near) = (entry.number(Side::Far), entry.number(Side::Near));
@@ -149,18 +153,18 @@ fn first_record_from(notes: &[Note], from: usize, entry: &Entry) -> usize
     first_note_from(
         notes,
         from,
-        Place::of_note(&Note::Record { far, near, flags }),
+        StepPlace::of_note(&Note::Record { far, near, flags }),
     )
 }
 
 /// The first of these notes, from one on, that does not stand below a place.
-fn first_note_from(notes: &[Note], from: usize, place: Place) -> usize
+fn first_note_from(notes: &[Note], from: usize, place: StepPlace) -> usize
     requires rise { rises bottom (map note_place notes.now) ≡ true }
     requires passed { Passed note_place (place_at place) notes.now from }
     ensures { Reached note_place (place_at place) notes.now result }
 {
     let mut at = from;
-    while at < notes.len() && Place::of_note(&notes[at]).is_below(place) {
+    while at < notes.len() && StepPlace::of_note(&notes[at]).is_below(place) {
         at += 1;
     }
     at

@@ -6,7 +6,7 @@ ghost use Rattle.book.specs.Commits.{IsFinished, Makes, LeavesMade};
 
 use crate::book::{Book, Pending};
 use crate::committed::committed;
-use crate::shelf::{File, Shelf};
+use crate::shelf::{Shelf, ShelfFile};
 use sync_state::fault::BookFault;
 use sync_state::state_text::write_state_text;
 
@@ -34,8 +34,8 @@ impl<S: Shelf> Book<S> {
         self.is_ready = false;
         let state = committed(self.alloc, &self.state, &written.journal)?;
         let text = write_state_text(self.alloc, &state)?;
-        self.shelf.replace(File::State, &text)?;
-        self.shelf.remove(File::Journal)?;
+        self.shelf.replace(ShelfFile::State, &text)?;
+        self.shelf.remove(ShelfFile::Journal)?;
         self.state = state;
         self.pending = Pending::Missing;
         self.is_ready = true;

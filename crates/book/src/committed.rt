@@ -13,7 +13,7 @@ ghost use Rattle.book.specs.Committed.{Commits, drops, recorded, entry_after, ke
 ghost use Rattle.book.specs.Changes.{AreGones, HasReached, PairNotAfter, Reached, gone_place, is_of, pair_place, record_place};
 ghost use Rattle.book.specs.PlacedLists.{entry_place};
 
-use crate::changes::{Gones, Pair, Walk};
+use crate::changes::{Gones, UidPair, Walk};
 use mailcore::flags::Flags;
 use mailcore::side::{Direction, Side};
 use mailcore::uid::Uid;
@@ -75,7 +75,7 @@ fn recorded_by(entry: &Entry, note: &Note) -> Flags
 }
 
 /// Whether the entry is one of these pairs: that at this place, if any is.
-fn is_gone(entry: &Entry, pairs: &[Pair], at: usize) -> bool
+fn is_gone(entry: &Entry, pairs: &[UidPair], at: usize) -> bool
     requires in_order { AllPairs PairNotAfter pairs.now }
     requires reached { Reached pair_place (gone_place entry.now) pairs.now at }
     ensures { result ≡ list_any (is_of entry.now) pairs.now }

@@ -3,7 +3,7 @@
 ghost use Rattle.std.specs.Prelude.{◌≡◌, ◌<◌, ◌^◌, IfOk};
 ghost use Rattle.device.specs.Conditions.{disk_at};
 
-use crate::shelf::{File, Shelf};
+use crate::shelf::{Shelf, ShelfFile};
 use device::DeviceFault;
 use device::disk::Disk;
 use device::trouble::Trouble;
@@ -88,9 +88,9 @@ impl<R: Files + AllocGlobal + Clone + Drop> DiskShelf<R> {
     }
 
     // The bytes of a file. A journal is synced before it is relied on, and with its name that of the state.
-    fn bytes_of(&self, file: File) -> io::Result<Option<Vec<u8>>> {
+    fn bytes_of(&self, file: ShelfFile) -> io::Result<Option<Vec<u8>>> {
         let bytes = self.disk.read_own(name_of(file))?;
-        if file == File::Journal && bytes.is_some() {
+        if file == ShelfFile::Journal && bytes.is_some() {
             self.disk.sync_file(JOURNAL)?;
             self.disk.sync_names()?;
         }
@@ -98,17 +98,17 @@ impl<R: Files + AllocGlobal + Clone + Drop> DiskShelf<R> {
     }
 
     // Replaces a file by one with these bytes.
-    fn exchange(&self, file: File, bytes: &[u8]) -> io::Result<()> {
+    fn exchange(&self, file: ShelfFile, bytes: &[u8]) -> io::Result<()> {
         self.disk.replace(name_of(file), NEXT, bytes)?;
         self.disk.sync_names()
     }
 }
 
 /// The name of a file in the folder of a shelf on a disk.
-pub fn name_of(file: File) -> &'static str {
+pub fn name_of(file: ShelfFile) -> &'static str {
     match file {
-        File::State => STATE,
-        File::Journal => JOURNAL,
+        ShelfFile::State => STATE,
+        ShelfFile::Journal => JOURNAL,
     }
 }
 
@@ -120,34 +120,34 @@ impl<R: Files + AllocGlobal + Clone + Drop> Shelf for DiskShelf<R> {
 
     ghost seen = { seen_on_disk };
 
-    fn read(&mut self, file: File) -> Result<Option<Vec<u8>>, DeviceFault> {
+    fn read(&mut self, file: ShelfFile) -> Result<Option<Vec<u8>>, DeviceFault> {
         self.disk.check()?;
         let answer = self.bytes_of(file);
-        let answer = self.disk.tell(answer);
+        let answer = self.disk.report(answer);
         self.note(name_of(file));
         answer
     }
 
-    fn append(&mut self, file: File, bytes: &[u8]) -> Result<(), DeviceFault> {
+    fn append(&mut self, file: ShelfFile, bytes: &[u8]) -> Result<(), DeviceFault> {
         self.disk.check()?;
         let answer = self.disk.append(name_of(file), bytes);
-        let answer = self.disk.tell(answer);
+        let answer = self.disk.report(answer);
         self.note(name_of(file));
         answer
     }
 
-    fn replace(&mut self, file: File, bytes: &[u8]) -> Result<(), DeviceFault> {
+    fn replace(&mut self, file: ShelfFile, bytes: &[u8]) -> Result<(), DeviceFault> {
         self.disk.check()?;
         let answer = self.exchange(file, bytes);
-        let answer = self.disk.tell(answer);
+        let answer = self.disk.report(answer);
         self.note(NEXT);
         answer
     }
 
-    fn remove(&mut self, file: File) -> Result<(), DeviceFault> {
+    fn remove(&mut self, file: ShelfFile) -> Result<(), DeviceFault> {
         self.disk.check()?;
         let answer = self.disk.remove_if_there(name_of(file));
-        let answer = self.disk.tell(answer);
+        let answer = self.disk.report(answer);
         self.note(name_of(file));
         answer
     }

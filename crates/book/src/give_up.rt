@@ -8,7 +8,7 @@ ghost use Rattle.book.specs.LostSides.{AreRising};
 use crate::book::{Book, Pending};
 use crate::given_up::given_up;
 use crate::lost_sides::LostSides;
-use crate::shelf::{File, Shelf};
+use crate::shelf::{Shelf, ShelfFile};
 use sync_state::fault::BookFault;
 use sync_state::state_text::write_state_text;
 
@@ -36,8 +36,8 @@ impl<S: Shelf> Book<S> {
         self.is_ready = false;
         let state = given_up(self.alloc, &self.state, &written.journal, lost)?;
         let text = write_state_text(self.alloc, &state)?;
-        self.shelf.replace(File::State, &text)?;
-        self.shelf.remove(File::Journal)?;
+        self.shelf.replace(ShelfFile::State, &text)?;
+        self.shelf.remove(ShelfFile::Journal)?;
         self.state = state;
         self.pending = Pending::Missing;
         self.is_ready = true;

@@ -5,7 +5,7 @@ ghost use Rattle.sync_state.specs.declared.version.Version.TheVariants.{Two};
 ghost use Rattle.sync_state.specs.StateText.{HasText, IsEntry, IsHighest};
 ghost use Rattle.sync_state.specs.JournalText.{HasJournal};
 ghost use Rattle.book.specs.Agreement.{Agrees};
-ghost use Rattle.book.specs.GivingUp.{GivesUp, entry_behind, flags_at, flags_behind, half_of, loses, without};
+ghost use Rattle.book.specs.GivingUp.{GivesUp, entry_past, flags_at, flags_after, half_of, loses, without};
 ghost use Rattle.book.specs.LostSides.{AreRising};
 ghost use Rattle.book.specs.GivenUpParts.{HasNoPair, HasPairAt, IsOfNone, IsOfOne, with_next, with_step};
 ghost use Rattle.rules.specs.Entries.{ArePairs};
@@ -22,11 +22,11 @@ use rules::plan::{Note, Step};
 use rules::state::SyncState;
 use std::alloc::{AllocError, Global};
 use sync_state::journal::{Journal, Logged};
-use sync_state::place::Place;
+use sync_state::place::StepPlace;
 
 /// The flags that are recorded of an entry after a step that is logged.
-fn flags_behind(step: &Step, entry: &Entry) -> Flags
-    ensures { result ≡ flags_behind step.now entry.now }
+fn flags_after(step: &Step, entry: &Entry) -> Flags
+    ensures { result ≡ flags_after step.now entry.now }
 {
     match *step {
         Step::Gone { far, near, .. } => {
@@ -91,7 +91,7 @@ fn place_in(entries: &[Entry], far: Uid, near: Uid) -> Option<usize>
     requires { ArePairs entries.now }
     ensures { MatchOption result (HasNoPair entries.now far near) (HasPairAt entries.now far near) }
 {
-    let place = Place::of_note(&Note::Drop {
+    let place = StepPlace::of_note(&Note::Drop {
         far: Some(far),
         near: Some(near),
     });
@@ -119,7 +119,7 @@ fn note_step(list: &mut Vec<Entry>, step: &Step)
     let Some(at) = place_in(list, pair.0, pair.1) else {
         return;
     };
-    let flags = flags_behind(step, &list[at]);
+    let flags = flags_after(step, &list[at]);
     list[at].flags = flags;
 }
 
@@ -141,7 +141,7 @@ fn note_next(list: &mut Vec<Entry>, step: &Step)
 /// Records in the entries what the logged steps gave.
 fn note_log(list: &mut Vec<Entry>, steps: &[Step], log: &[Logged])
     requires pairs { ArePairs list.old.items }
-    ensures { list.new.items ≡ map (entry_behind steps.now log.now) list.old.items }
+    ensures { list.new.items ≡ map (entry_past steps.now log.now) list.old.items }
 {
     let count = steps.len().min(log.len());
     for i in 0..count {

@@ -8,7 +8,7 @@ ghost use Rattle.rules.specs.PlanEntries.{PlanAgrees};
 ghost use Rattle.book.specs.declared.book.Pending.{Pending};
 ghost use Rattle.book.specs.Agreement.{Agrees};
 ghost use Rattle.book.specs.BookLogs.{fresh};
-ghost use Rattle.book.specs.Books.{Holds, TellsOpen};
+ghost use Rattle.book.specs.Books.{Holds, ReportsOpen};
 ghost use Rattle.book.specs.Shelves.{Files};
 
 use sync_state::fault::BookFault;
@@ -20,7 +20,7 @@ pub fn books_by_their_files()
 
 /// Files that hold a book are refused by no line: a book is opened anew, unless the shelf stops or memory runs out.
 pub fn held_books_open()
-    ensures { (files : Files) (s : SyncState) (p : Pending) (fault : BookFault) → Holds files s p → TellsOpen files fault
+    ensures { (files : Files) (s : SyncState) (p : Pending) (fault : BookFault) → Holds files s p → ReportsOpen files fault
         → (fault ≡ BookFault.Stopped) ⊎ (fault ≡ BookFault.NoMemory) }
 {}
 

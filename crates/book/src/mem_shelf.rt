@@ -3,9 +3,9 @@
 ghost use Rattle.std.specs.Prelude.{◌≡◌, ◌<◌, ◌^◌, ◌++◌, [], false, IfOk, OnOk, OnErr, Some, unwrap_or};
 ghost use Rattle.book.specs.Shelves.{bytes_of};
 
-use crate::shelf::{File, Shelf};
+use crate::shelf::{Shelf, ShelfFile};
 use device::DeviceFault;
-use device::schedule::{Moment, Scheduled, Stop};
+use device::schedule::{CallStop, Moment, Scheduled};
 use std::alloc::{AllocError, Global};
 
 /// A call of a shelf that a schedule can stop. Of `append` alone there are parts.
@@ -36,7 +36,7 @@ impl MemShelf {
     ghost use Rattle.book.specs.Shelves.{Appends, file_at, with_file};
 
     /// A shelf without files, whose calls stop as the schedule says.
-    pub fn new(alloc: Global, schedule: Vec<Stop<ShelfCall>>) -> Self
+    pub fn new(alloc: Global, schedule: Vec<CallStop<ShelfCall>>) -> Self
         ensures { seen_of result ≡ record { stored = empty; is_broken = false; stops = 0 } }
     {
         MemShelf {
@@ -48,22 +48,22 @@ impl MemShelf {
     }
 
     /// Gives a file these bytes, or takes it away.
-    pub fn put(&mut self, file: File, bytes: Option<Vec<u8>>)
+    pub fn put(&mut self, file: ShelfFile, bytes: Option<Vec<u8>>)
         ensures { seen_of self.new ≡ record (seen_of self.old) { stored = with_file file (bytes_of bytes) (files_of self.old) } }
     {
         match file {
-            File::State => self.state = bytes,
-            File::Journal => self.journal = bytes,
+            ShelfFile::State => self.state = bytes,
+            ShelfFile::Journal => self.journal = bytes,
         }
     }
 
     /// The bytes of a file, if it is there.
-    pub fn bytes(&self, file: File) -> Option<&[u8]>
+    pub fn bytes(&self, file: ShelfFile) -> Option<&[u8]>
         ensures { option_map (λ bytes. bytes.now) result ≡ file_at file (files_of self.now) }
     {
         let bytes = match file {
-            File::State => self.state.as_ref(),
-            File::Journal => self.journal.as_ref(),
+            ShelfFile::State => self.state.as_ref(),
+            ShelfFile::Journal => self.journal.as_ref(),
         };
         bytes.map(|bytes| bytes.as_slice())
     }
@@ -76,14 +76,14 @@ impl MemShelf {
     }
 
     /// Adds bytes to a file.
-    fn extend(&mut self, file: File, bytes: &[u8]) -> Result<(), AllocError>
+    fn extend(&mut self, file: ShelfFile, bytes: &[u8]) -> Result<(), AllocError>
         ensures ok { OnOk result (Appends file bytes.now (files_of self.old) (files_of self.new)) }
         ensures err { OnErr result (files_of self.new ≡ files_of self.old) }
         ensures stopping { self.new.stopping ≡ self.old.stopping }
     {
         match file {
-            File::State => extend(&mut self.state, self.alloc, bytes),
-            File::Journal => extend(&mut self.journal, self.alloc, bytes),
+            ShelfFile::State => extend(&mut self.state, self.alloc, bytes),
+            ShelfFile::Journal => extend(&mut self.journal, self.alloc, bytes),
         }
     }
 }
@@ -120,13 +120,13 @@ impl Shelf for MemShelf {
 
     ghost seen = { seen_of };
 
-    fn read(&mut self, file: File) -> Result<Option<Vec<u8>>, DeviceFault> {
+    fn read(&mut self, file: ShelfFile) -> Result<Option<Vec<u8>>, DeviceFault> {
         if self.stopping.begin(ShelfCall::Read)?.is_some() {
             return Err(self.stopping.stop());
         }
         let copy = match file {
-            File::State => copy_of(self.alloc, &self.state),
-            File::Journal => copy_of(self.alloc, &self.journal),
+            ShelfFile::State => copy_of(self.alloc, &self.state),
+            ShelfFile::Journal => copy_of(self.alloc, &self.journal),
         };
         match copy {
             Ok(bytes) => Ok(bytes),
@@ -134,7 +134,7 @@ impl Shelf for MemShelf {
         }
     }
 
-    fn append(&mut self, file: File, bytes: &[u8]) -> Result<(), DeviceFault> {
+    fn append(&mut self, file: ShelfFile, bytes: &[u8]) -> Result<(), DeviceFault> {
         let moment = self.stopping.begin(ShelfCall::Append)?;
         let written = match moment {
             None | Some(Moment::After) => bytes,
@@ -150,7 +150,7 @@ impl Shelf for MemShelf {
         Ok(())
     }
 
-    fn replace(&mut self, file: File, bytes: &[u8]) -> Result<(), DeviceFault> {
+    fn replace(&mut self, file: ShelfFile, bytes: &[u8]) -> Result<(), DeviceFault> {
         let moment = self.stopping.begin(ShelfCall::Replace)?;
         if moment.is_some() && moment != Some(Moment::After) {
             return Err(self.stopping.stop());
@@ -165,7 +165,7 @@ impl Shelf for MemShelf {
         Ok(())
     }
 
-    fn remove(&mut self, file: File) -> Result<(), DeviceFault> {
+    fn remove(&mut self, file: ShelfFile) -> Result<(), DeviceFault> {
         let moment = self.stopping.begin(ShelfCall::Remove)?;
         if moment.is_some() && moment != Some(Moment::After) {
             return Err(self.stopping.stop());

@@ -9,14 +9,14 @@ ghost use Rattle.book.specs.PlacedLists.{entry_place, Stands};
 use mailcore::uid::Uid;
 use rules::entry::Entry;
 use rules::plan::Note;
-use sync_state::place::Place;
+use sync_state::place::StepPlace;
 
 /// The entry at the place of these UIDs, of entries in order.
 pub(crate) fn entry_at(entries: &[Entry], far: Option<Uid>, near: Option<Uid>) -> Option<Entry>
     requires { ArePairs entries.now }
     ensures { Stands entry_place (note_place (Note.Drop far near)) entries.now result }
 {
-    let place = Place::of_note(&Note::Drop { far, near });
+    let place = StepPlace::of_note(&Note::Drop { far, near });
     let at = entries.partition_point(|entry| place_of(entry).is_below(place));
     match entries.get(at) {
         Some(entry) => Some(*entry),
@@ -25,10 +25,10 @@ pub(crate) fn entry_at(entries: &[Entry], far: Option<Uid>, near: Option<Uid>) -
 }
 
 /// The place of an entry: that of a note which drops it.
-pub(crate) fn place_of(entry: &Entry) -> Place
+pub(crate) fn place_of(entry: &Entry) -> StepPlace
     ensures { place_at result ≡ entry_place entry.now }
 {
-    Place::of_note(&Note::Drop {
+    StepPlace::of_note(&Note::Drop {
         far: entry.far,
         near: entry.near,
     })

@@ -6,7 +6,7 @@ use device::DeviceFault;
 
 /// A file of a shelf.
 #[derive(Clone, Copy, PartialEq, Eq)]
-pub enum File {
+pub enum ShelfFile {
     /// The state of the last run.
     State,
     /// The journal of the run that is under way.
@@ -27,20 +27,20 @@ pub trait Shelf {
     ghost seen: { Self → Seen Files };
 
     /// The bytes of a file, or none if it is missing.
-    fn read(&mut self, file: File) -> Result<Option<Vec<u8>>, DeviceFault>
+    fn read(&mut self, file: ShelfFile) -> Result<Option<Vec<u8>>, DeviceFault>
         ensures { Read is_honest (Gives file) (seen self.old) (seen self.new) result };
 
     /// Adds bytes after those of a file, which is made if it is missing. A stopped call may leave any beginning of them. A disk
     /// keeps the bytes that a file is made with where the power fails; it may lose those that are added later.
-    fn append(&mut self, file: File, bytes: &[u8]) -> Result<(), DeviceFault>
+    fn append(&mut self, file: ShelfFile, bytes: &[u8]) -> Result<(), DeviceFault>
         ensures { Call is_honest (Appends file bytes.now) (AppendsPart file bytes.now) (seen self.old) (seen self.new) result };
 
     /// Replaces the bytes of a file by these, all of them or none.
-    fn replace(&mut self, file: File, bytes: &[u8]) -> Result<(), DeviceFault>
+    fn replace(&mut self, file: ShelfFile, bytes: &[u8]) -> Result<(), DeviceFault>
         ensures { Call is_honest (Puts file (Some bytes.now)) Nothing (seen self.old) (seen self.new) result };
 
     /// Removes a file, if it is there. A disk may bring it back where the power fails.
-    fn remove(&mut self, file: File) -> Result<(), DeviceFault>
+    fn remove(&mut self, file: ShelfFile) -> Result<(), DeviceFault>
         ensures { Call is_honest (Puts file None) Nothing (seen self.old) (seen self.new) result };
 
     /// Opens the shelf again, so that calls are answered again.

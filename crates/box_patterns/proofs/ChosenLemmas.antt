@@ -12,28 +12,28 @@ use Rattle.std.proofs.lemmas.Slice.Eq.{bytes_eq-Decides}
 
 -- ---- the last element of a list that is cut at a word
 
-record IsLast (before : List (List ℕ)) (word : List ℕ) (behind ws : List (List ℕ)) (w : List ℕ) : Type 0 where
-  nothing : behind ≡ []
+record IsLast (before : List (List ℕ)) (word : List ℕ) (following ws : List (List ℕ)) (w : List ℕ) : Type 0 where
+  nothing : following ≡ []
   same : word ≡ w
 
-record IsBehind (before : List (List ℕ)) (word : List ℕ) (behind ws : List (List ℕ)) (w : List ℕ) : Type 0 where
+record IsAfter (before : List (List ℕ)) (word : List ℕ) (following ws : List (List ℕ)) (w : List ℕ) : Type 0 where
   between : List (List ℕ)
-  ends : behind ≡ between ++ w ∷ []
+  ends : following ≡ between ++ w ∷ []
   others : ws ≡ before ++ word ∷ between
 
-no_end : (before : List (List ℕ)) (word : List ℕ) (behind : List (List ℕ)) → [] ≡ before ++ word ∷ behind → ⊥
-no_end [] word behind e = cc
-no_end (b ∷ before) word behind e = cc
+no_end : (before : List (List ℕ)) (word : List ℕ) (following : List (List ℕ)) → [] ≡ before ++ word ∷ following → ⊥
+no_end [] word following e = cc
+no_end (b ∷ before) word following e = cc
 
-cut_at : (before : List (List ℕ)) (word : List ℕ) (behind ws : List (List ℕ)) (w : List ℕ) → ws ++ w ∷ [] ≡ before ++ word ∷ behind
-    → IsLast before word behind ws w ⊎ IsBehind before word behind ws w
-cut_at [] word behind [] w e = inl (record { nothing = cc; same = cc })
-cut_at [] word behind (x ∷ ws) w e = inr (record { between = ws; ends = cc; others = let first : x ≡ word = cc in ap (λ (y : List ℕ). y ∷ ws) first })
-cut_at (b ∷ before) word behind [] w e = let rest : [] ≡ before ++ word ∷ behind = cc in absurd (no_end before word behind rest)
-cut_at (b ∷ before) word behind (x ∷ ws) w e =
-    let rest : ws ++ w ∷ [] ≡ before ++ word ∷ behind = cc in
+cut_at : (before : List (List ℕ)) (word : List ℕ) (following ws : List (List ℕ)) (w : List ℕ) → ws ++ w ∷ [] ≡ before ++ word ∷ following
+    → IsLast before word following ws w ⊎ IsAfter before word following ws w
+cut_at [] word following [] w e = inl (record { nothing = cc; same = cc })
+cut_at [] word following (x ∷ ws) w e = inr (record { between = ws; ends = cc; others = let first : x ≡ word = cc in ap (λ (y : List ℕ). y ∷ ws) first })
+cut_at (b ∷ before) word following [] w e = let rest : [] ≡ before ++ word ∷ following = cc in absurd (no_end before word following rest)
+cut_at (b ∷ before) word following (x ∷ ws) w e =
+    let rest : ws ++ w ∷ [] ≡ before ++ word ∷ following = cc in
     let first : x ≡ b = cc in
-    elim (cut_at before word behind ws w rest) [
+    elim (cut_at before word following ws w rest) [
       | inl last ↦ inl (record { nothing = last.nothing; same = last.same })
       | inr more ↦
           let others : ws ≡ before ++ word ∷ more.between = more.others in
@@ -51,25 +51,25 @@ all_last P (x ∷ xs) w all = all_last P xs w (All-tail P x (xs ++ w ∷ []) all
 -- ---- one word more
 
 pub chosen_of_none : (name : List ℕ) → IsChosen [] name → ⊥
-chosen_of_none name is = no_end is.before is.word is.behind is.together
+chosen_of_none name is = no_end is.before is.word is.following is.together
 
 speaking : (ws : List (List ℕ)) (w name : List ℕ) → SpeaksOf name w → IsChosen (ws ++ w ∷ []) name ↔ (is_negated w ≡ false)
 speaking ws w name speaks = (
-  λ is. elim (cut_at is.before is.word is.behind ws w is.together) [
+  λ is. elim (cut_at is.before is.word is.following ws w is.together) [
     | inl last ↦ subst (λ (x : List ℕ). is_negated x ≡ false) last.same is.affirms
     | inr more ↦ absurd (all_last (λ x. ¬ SpeaksOf name x) more.between w (subst (λ (l : List (List ℕ)). All (λ x. ¬ SpeaksOf name x) l) more.ends is.last) speaks)
   ],
-  λ affirms. record { before = ws; word = w; behind = []; together = refl; speaks = speaks; last = All-nil (λ x. ¬ SpeaksOf name x); affirms = affirms },
+  λ affirms. record { before = ws; word = w; following = []; together = refl; speaks = speaks; last = All-nil (λ x. ¬ SpeaksOf name x); affirms = affirms },
 )
 
 silent : (ws : List (List ℕ)) (w name : List ℕ) → ¬ SpeaksOf name w → IsChosen (ws ++ w ∷ []) name ↔ IsChosen ws name
 silent ws w name quiet = (
-  λ is. elim (cut_at is.before is.word is.behind ws w is.together) [
+  λ is. elim (cut_at is.before is.word is.following ws w is.together) [
     | inl last ↦ absurd (quiet (subst (SpeaksOf name) last.same is.speaks))
     | inr more ↦ record {
       before = is.before;
       word = is.word;
-      behind = more.between;
+      following = more.between;
       together = more.others;
       speaks = is.speaks;
       last = all_first (λ x. ¬ SpeaksOf name x) more.between w (subst (λ (l : List (List ℕ)). All (λ x. ¬ SpeaksOf name x) l) more.ends is.last);
@@ -79,10 +79,10 @@ silent ws w name quiet = (
   λ is. record {
     before = is.before;
     word = is.word;
-    behind = is.behind ++ w ∷ [];
-    together = ap (λ (l : List (List ℕ)). l ++ w ∷ []) is.together ∙ append_assoc is.before (is.word ∷ is.behind) (w ∷ []);
+    following = is.following ++ w ∷ [];
+    together = ap (λ (l : List (List ℕ)). l ++ w ∷ []) is.together ∙ append_assoc is.before (is.word ∷ is.following) (w ∷ []);
     speaks = is.speaks;
-    last = All-push (λ x. ¬ SpeaksOf name x) is.behind w is.last quiet;
+    last = All-push (λ x. ¬ SpeaksOf name x) is.following w is.last quiet;
     affirms = is.affirms;
   },
 )

@@ -20,8 +20,8 @@ pub record SpeaksOf (name word : List ℕ) : Type 0 where
 pub record IsChosen (words : List (List ℕ)) (name : List ℕ) : Type 0 where
   pub before : List (List ℕ)
   pub word : List ℕ
-  pub behind : List (List ℕ)
-  pub together : words ≡ before ++ word ∷ behind
+  pub following : List (List ℕ)
+  pub together : words ≡ before ++ word ∷ following
   pub speaks : SpeaksOf name word
-  pub last : All (λ w. ¬ SpeaksOf name w) behind
+  pub last : All (λ w. ¬ SpeaksOf name w) following
   pub affirms : is_negated word ≡ false

@@ -13,13 +13,13 @@ use Rattle.channels.specs.declared.verdict.Verdict.TheVariants.{Clean, Faulty, O
 use Rattle.channels.specs.Asks.{GoesAt, GoesBy, GoesOver, Lists, Settles, Ways, box_asked, boxes_asked}
 use Rattle.channels.specs.Founds.{absent_in}
 use Rattle.channels.specs.Verdicts.{both}
-use Rattle.channels.proofs.StreamLemmas.{told_is_told}
+use Rattle.channels.proofs.StreamLemmas.{reported_is_reported}
 
 -- no fault was reported of both only where none was reported of either
 pub both_clean : (verdict later : Verdict) → both verdict later ≡ Clean → (verdict ≡ Clean) × (later ≡ Clean)
 both_clean verdict Clean e = (e, refl)
-both_clean verdict Faulty e = absurd (told_is_told Faulty tt e)
-both_clean verdict Over e = absurd (told_is_told Over tt e)
+both_clean verdict Faulty e = absurd (reported_is_reported Faulty tt e)
+both_clean verdict Over e = absurd (reported_is_reported Over tt e)
 
 -- one item more of a list
 pub flat_map_next : {X A : Type 0} (f : X → List A) (xs : List X) (i : ℕ) (x : X) → i < length xs → x ≡ get_or xs i x

@@ -10,9 +10,9 @@ use Rattle.config.specs.declared.config.Channel.{Channel}
 use Rattle.config.specs.declared.config.Config.{Config}
 use Rattle.config.specs.declared.config.ImapStore.{ImapStore}
 use Rattle.config.specs.declared.config.MaildirStore.{MaildirStore}
-use Rattle.config.specs.declared.request.Request.{Request}
+use Rattle.config.specs.declared.request.RunRequest.{RunRequest}
 use Rattle.config.specs.Cells.{line_cells}
-use Rattle.channels.specs.Boxes.{Tells, boxes_among}
+use Rattle.channels.specs.Boxes.{Reports, boxes_among}
 use Rattle.channels.specs.Chosen.{chosen_among}
 use Rattle.channels.specs.Scope.{options_of}
 use Rattle.channels.specs.Asked.{Asked, Done, Ended, FarListed, IsJoined, IsUnjoined, Joined, NearListed, Place}
@@ -23,8 +23,8 @@ use Rattle.channels.specs.Courses.{Begun, BoxEnds, Goes, GoesAsFar, GoesUntil, I
 use Rattle.channels.specs.Founds.{absent_in}
 use Rattle.channels.specs.Outcomes.{verdict_of}
 use Rattle.channels.specs.Verdicts.{status_of}
-use Rattle.channels.proofs.CourseLemmas.{IsToldOf-verdict}
-use Rattle.channels.proofs.OrderLemmas.{Possible, SoFar-all, SoFar-behind}
+use Rattle.channels.proofs.CourseLemmas.{IsReportedOf-verdict}
+use Rattle.channels.proofs.OrderLemmas.{Possible, SoFar-all, SoFar-following}
 
 -- ---- what can be asked
 
@@ -34,7 +34,7 @@ IsBoxAsked-possible options place absent =
     record {
       verdict = verdict_of (box_course options place absent ends).outcome;
       asked = (box_course options place absent ends).asked;
-      is = record { ends = ends; all = refl; told = IsToldOf-verdict (box_course options place absent ends).outcome };
+      is = record { ends = ends; all = refl; reported = IsReportedOf-verdict (box_course options place absent ends).outcome };
     }
 
 pub IsNamedAsked-possible : (options : Options) (of : Joined) (fars nears : List (List ℕ)) (name : List ℕ) → Possible (IsNamedAsked options of fars nears name)
@@ -77,13 +77,13 @@ SoFar-pair noted options of fars nears far near absent boxes old new result b a 
 -- of one with patterns
 pub SoFar-matching : {L E : Type 0} (noted : L → Asked → L) (options : Options) (of : Joined) (fars nears names patterns : List (List ℕ)) (boxes : Boxes)
     (old new : L) (result : Result Verdict E) → boxes ≡ Matching patterns
-    → ((is_chosen : List ℕ → Bool) → Tells is_chosen patterns → names ≡ boxes_among is_chosen fars nears)
+    → ((is_chosen : List ℕ → Bool) → Reports is_chosen patterns → names ≡ boxes_among is_chosen fars nears)
     → Goes noted old new (SoFar result (InOrder is_over (IsNamedAsked options of fars nears) names))
     → Goes noted old new (SoFar result (IsFoundAsked options of fars nears boxes))
 SoFar-matching noted options of fars nears names patterns boxes old new result b n h =
     subst (λ x. Goes noted old new (SoFar result (IsFoundAsked options of fars nears x))) (sym b)
-    (SoFar-behind noted old old new [] (InOrder is_over (IsNamedAsked options of fars nears) names) (IsFoundAsked options of fars nears (Matching patterns)) result refl
-    (λ verdict asked k. inr (λ is_chosen tells. subst (λ ns. InOrder is_over (IsNamedAsked options of fars nears) ns verdict asked) (n is_chosen tells) k)) h)
+    (SoFar-following noted old old new [] (InOrder is_over (IsNamedAsked options of fars nears) names) (IsFoundAsked options of fars nears (Matching patterns)) result refl
+    (λ verdict asked k. inr (λ is_chosen states. subst (λ ns. InOrder is_over (IsNamedAsked options of fars nears) ns verdict asked) (n is_chosen states) k)) h)
 
 -- no memory for the names
 pub SoFar-unnamed : {L E : Type 0} (noted : L → Asked → L) (options : Options) (of : Joined) (fars nears patterns : List (List ℕ)) (boxes : Boxes)
@@ -98,7 +98,7 @@ pub SoFar-listed : {L E : Type 0} (noted : L → Asked → L) (of : Joined) (nex
     (fars nears : List (List ℕ)) (old middle new : L) (result : Result Verdict E) → middle ≡ fold noted old (lists_asked of fars nears)
     → Goes noted middle new (SoFar result (next fars nears)) → Goes noted old new (SoFar result (IsListedAsked of next))
 SoFar-listed noted of next fars nears old middle new result e h =
-    SoFar-behind noted old middle new (lists_asked of fars nears) (next fars nears) (IsListedAsked of next) result e
+    SoFar-following noted old middle new (lists_asked of fars nears) (next fars nears) (IsListedAsked of next) result e
     (λ verdict asked k. record { fars = Some fars; nears = Some nears; rest = asked; is_rest = k; all = refl }) h
 
 IsListedAsked-unlisted : (of : Joined) (next : (fars nears : List (List ℕ)) → Verdict → List Asked → Type 0) (asked : List Asked)
@@ -142,7 +142,7 @@ Goes-alone noted of fars nears verdict old new e h = record {
 }
 
 pub SoFar-lists : {L E : Type 0} (noted : L → Asked → L) (of : Joined) (boxes : Boxes) (patterns : List (List ℕ)) (old middle new : L) (verdict : Verdict)
-    (result : Result Verdict E) → boxes ≡ Matching patterns → new ≡ middle → IfOk result (λ told. told ≡ verdict)
+    (result : Result Verdict E) → boxes ≡ Matching patterns → new ≡ middle → IfOk result (λ reported. reported ≡ verdict)
     → Goes noted old middle (IsListedAsked of IsListedAlone verdict) → Goes noted old new (SoFar result (IsListAsked of boxes))
 SoFar-lists noted of boxes patterns old middle new verdict result b e h k =
     subst (λ x. Goes noted old new (SoFar result (IsListAsked of x))) (sym b)
@@ -218,7 +218,7 @@ SoFar-joined : {L E : Type 0} (noted : L → Asked → L) (config : Config) (way
     → Goes noted old new (SoFar result (IsAskedBy ways.lists (options_of of.channel ways.cells ways.expunges) of))
     → Goes noted old new (SoFar result (IsPlaceAsked config ways place))
 SoFar-joined noted config ways place of old new result joined h =
-    SoFar-behind noted old old new [] (IsAskedBy ways.lists (options_of of.channel ways.cells ways.expunges) of) (IsPlaceAsked config ways place) result refl
+    SoFar-following noted old old new [] (IsAskedBy ways.lists (options_of of.channel ways.cells ways.expunges) of) (IsPlaceAsked config ways place) result refl
     (λ verdict asked k. inr (record { of = of; joined = joined; by = k })) h
 
 -- its channel is listed
@@ -237,7 +237,7 @@ SoFar-place_settled noted config ways place of options old new result joined e o
     let asked : Options = options_of of.channel ways.cells ways.expunges in
     SoFar-joined noted config ways place of old new result joined
     (subst (λ b. Goes noted old new (SoFar result (IsAskedBy b asked of))) (sym e)
-    (SoFar-behind noted old old new [] (IsChannelAsked asked of) (IsAskedBy false asked of) result refl (λ verdict more k. inr k)
+    (SoFar-following noted old old new [] (IsChannelAsked asked of) (IsAskedBy false asked of) result refl (λ verdict more k. inr k)
     (subst (λ x. Goes noted old new (SoFar result (IsChannelAsked x of))) o h)))
 
 -- or there is no memory for the options of its runs
@@ -269,7 +269,7 @@ pub GoesUntil-end : {L : Type 0} (noted : L → Asked → L) (is_such : Verdict 
     → GoesUntil noted write_failed is_such status old new
 GoesUntil-end noted is_such verdict status write_failed old last new w h e s =
     subst (λ b. GoesUntil noted b is_such status old new) (sym w)
-    (record { verdict = verdict; last = last; goes = h; ended = e; tells = s })
+    (record { verdict = verdict; last = last; goes = h; ended = e; states = s })
 
 -- or a beginning
 pub GoesUntil-begun : {L : Type 0} (noted : L → Asked → L) (is_such : Verdict → List Asked → Type 0) (status : ℕ) (write_failed : Bool)
@@ -278,7 +278,7 @@ GoesUntil-begun noted is_such status write_failed old new w s h =
     subst (λ b. GoesUntil noted b is_such status old new) (sym w) (s, h)
 
 -- of all that a command line names
-pub GoesUntil-request : {L : Type 0} (noted : L → Asked → L) (config : Config) (request : Request) (cells : Option Cells) (places : List ℕ) (status : ℕ)
+pub GoesUntil-request : {L : Type 0} (noted : L → Asked → L) (config : Config) (request : RunRequest) (cells : Option Cells) (places : List ℕ) (status : ℕ)
     (write_failed : Bool) (old new : L) → line_cells request.sync_words.items ≡ Ok cells → places ≡ chosen_among config request.chosen
     → GoesUntil noted write_failed (IsLineAsked config (ways_of request cells) places) status old new
     → GoesUntil noted write_failed (IsRequestAsked config request) status old new
@@ -291,7 +291,7 @@ GoesUntil-request noted config request cells places status false old new w p h =
     grown = h.goes.grown;
   };
   ended = h.ended;
-  tells = h.tells;
+  states = h.states;
 }
 GoesUntil-request noted config request cells places status true old new w p h = (
   h.0,
@@ -311,17 +311,17 @@ GoesUntil-request noted config request cells places status true old new w p h = 
 )
 
 -- nothing was refused before
-pub GoesAsFar-told : {L : Type 0} (noted : L → Asked → L) (config : Config) (request : Request) (cells : Option Cells) (places : List ℕ) (status : ℕ)
-    (write_failed : Bool) (told_before told : Option (List ℕ)) (old first last new : L) → line_cells request.sync_words.items ≡ Ok cells
+pub GoesAsFar-reported : {L : Type 0} (noted : L → Asked → L) (config : Config) (request : RunRequest) (cells : Option Cells) (places : List ℕ) (status : ℕ)
+    (write_failed : Bool) (reported_before reported : Option (List ℕ)) (old first last new : L) → line_cells request.sync_words.items ≡ Ok cells
     → places ≡ chosen_among config request.chosen
     → first ≡ old → new ≡ last → GoesUntil noted write_failed (IsLineAsked config (ways_of request cells) places) status first last
-    → GoesAsFar noted config request status told_before told old new
-GoesAsFar-told noted config request cells places status write_failed told_before told old first last new w p e f h =
+    → GoesAsFar noted config request status reported_before reported old new
+GoesAsFar-reported noted config request cells places status write_failed reported_before reported old first last new w p e f h =
     by write_failed
     (GoesUntil-request noted config request cells places status write_failed old new w p
     (subst (λ l. GoesUntil noted write_failed (IsLineAsked config (ways_of request cells) places) status l new) e
     (subst (λ l. GoesUntil noted write_failed (IsLineAsked config (ways_of request cells) places) status first l) (sym f) h)))
   where
-    by : (failed : Bool) → GoesUntil noted failed (IsRequestAsked config request) status old new → GoesAsFar noted config request status told_before told old new
+    by : (failed : Bool) → GoesUntil noted failed (IsRequestAsked config request) status old new → GoesAsFar noted config request status reported_before reported old new
     by false goes = inr (inl goes)
     by true goes = inr (inr (goes.0, inr goes.1))

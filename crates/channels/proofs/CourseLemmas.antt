@@ -6,13 +6,13 @@ use Rattle.mailcore.specs.declared.side.Side.TheVariants.{Far, Near}
 use Rattle.rules.specs.declared.options.Sides.{Sides}
 use Rattle.channels.specs.Scope.{uncovered}
 use Rattle.channels.specs.Asked.{Asked, FoundNew, Made, Outcome, Done, Failed, Unopened, Place}
-use Rattle.channels.specs.declared.fault.BoxFault.{BoxFault}
-use Rattle.channels.specs.declared.fault.BoxFault.TheVariants.{Absent, Removed, CannotOpen, Server, Locked, Refused, Stopped, GivenAgain, LeftOut, AtStep, Run}
+use Rattle.channels.specs.declared.fault.BoxFailure.{BoxFailure}
+use Rattle.channels.specs.declared.fault.BoxFailure.TheVariants.{Absent, Removed, CannotOpen, Server, Locked, Refused, Stopped, GivenAgain, LeftOut, AtStep, Run}
 use Rattle.channels.specs.declared.verdict.Verdict.{Verdict}
 use Rattle.channels.specs.declared.verdict.Verdict.TheVariants.{Clean, Faulty, Over}
 use Rattle.channels.specs.Asks.{finding, making, makings}
 use Rattle.channels.specs.Courses.{Begun, BoxEnds, Course, Follows, Goes, IsMadeBy, IsMadeUpTo, Makes, asking_if, making_course, onward, onward_by}
-use Rattle.channels.specs.Outcomes.{IsToldOf, outcome_of, outcome_of_box_fault, verdict_of}
+use Rattle.channels.specs.Outcomes.{IsReportedOf, outcome_of, outcome_of_box_fault, verdict_of}
 use Rattle.channels.specs.Verdicts.{both}
 
 -- ---- of outcomes
@@ -22,7 +22,7 @@ IsFault Done = ⊥
 IsFault Failed = Unit {0}
 IsFault Unopened = Unit {0}
 
-pub fault_is_fault : (fault : BoxFault) → IsFault (outcome_of_box_fault fault)
+pub fault_is_fault : (fault : BoxFailure) → IsFault (outcome_of_box_fault fault)
 fault_is_fault (Absent side) = tt
 fault_is_fault (Removed side) = tt
 fault_is_fault (CannotOpen path reason) = tt
@@ -41,27 +41,27 @@ IsGoingOn Faulty = Unit {0}
 IsGoingOn Over = ⊥
 
 -- what is reported of a fault is reported of how it ended
-pub IsToldOf-verdict : (outcome : Outcome) → IsToldOf outcome (verdict_of outcome)
-IsToldOf-verdict Done = λ e. subst IsGoingOn e tt
-IsToldOf-verdict Failed = refl
-IsToldOf-verdict Unopened = refl
+pub IsReportedOf-verdict : (outcome : Outcome) → IsReportedOf outcome (verdict_of outcome)
+IsReportedOf-verdict Done = λ e. subst IsGoingOn e tt
+IsReportedOf-verdict Failed = refl
+IsReportedOf-verdict Unopened = refl
 
 pub is_not_over : (verdict : Verdict) → IsGoingOn verdict → verdict ≡ Over → ⊥
 is_not_over verdict h e = subst IsGoingOn e h
 
 -- of two that leave a channel going on, both do
-pub IsToldOf-both : (verdict later all : Verdict) → all ≡ both verdict later → IsToldOf Done verdict → IsToldOf Done later → IsToldOf Done all
-IsToldOf-both verdict Clean all e h k = λ over. h (sym e ∙ over)
-IsToldOf-both verdict Faulty all e h k = λ over. is_not_over Faulty tt (sym e ∙ over)
-IsToldOf-both verdict Over all e h k = λ over. k refl
+pub IsReportedOf-both : (verdict later all : Verdict) → all ≡ both verdict later → IsReportedOf Done verdict → IsReportedOf Done later → IsReportedOf Done all
+IsReportedOf-both verdict Clean all e h k = λ over. h (sym e ∙ over)
+IsReportedOf-both verdict Faulty all e h k = λ over. is_not_over Faulty tt (sym e ∙ over)
+IsReportedOf-both verdict Over all e h k = λ over. k refl
 
 -- of a run, and of what is reported after it
-pub IsToldOf-behind : (has_void : Bool) (verdict later all : Verdict) → all ≡ both verdict later → IsToldOf (if has_void then Failed else Done) verdict
-    → IsToldOf Done later → IsToldOf (if has_void then Failed else Done) all
-IsToldOf-behind false verdict later all e h k = IsToldOf-both verdict later all e h k
-IsToldOf-behind true verdict Clean all e h k = e ∙ h
-IsToldOf-behind true verdict Faulty all e h k = e
-IsToldOf-behind true verdict Over all e h k = absurd (k refl)
+pub IsReportedOf-following : (has_void : Bool) (verdict later all : Verdict) → all ≡ both verdict later → IsReportedOf (if has_void then Failed else Done) verdict
+    → IsReportedOf Done later → IsReportedOf (if has_void then Failed else Done) all
+IsReportedOf-following false verdict later all e h k = IsReportedOf-both verdict later all e h k
+IsReportedOf-following true verdict Clean all e h k = e ∙ h
+IsReportedOf-following true verdict Faulty all e h k = e
+IsReportedOf-following true verdict Over all e h k = absurd (k refl)
 
 abbrev IsClean : Verdict → Type 0
 IsClean Clean = Unit {0}
@@ -69,23 +69,23 @@ IsClean Faulty = ⊥
 IsClean Over = ⊥
 
 -- a run of which no fault was reported was done
-pub was_done : (has_void : Bool) (verdict : Verdict) → IsToldOf (if has_void then Failed else Done) verdict → verdict ≡ Clean
+pub was_done : (has_void : Bool) (verdict : Verdict) → IsReportedOf (if has_void then Failed else Done) verdict → verdict ≡ Clean
     → (if has_void then Failed else Done) ≡ Done
 was_done false verdict h e = refl
 was_done true verdict h e = absurd (subst IsClean (sym e ∙ h) tt)
 
 -- ---- of a record
 
-pub fold_behind : {L : Type 0} (noted : L → Asked → L) (old middle new : L) (first next : List Asked)
+pub fold_after : {L : Type 0} (noted : L → Asked → L) (old middle new : L) (first next : List Asked)
     → middle ≡ fold noted old first → new ≡ fold noted middle next → new ≡ fold noted old (first ++ next)
-fold_behind noted old middle new first next h k = k ∙ ap (λ l. fold noted l next) h ∙ sym (fold-append noted old first next)
+fold_after noted old middle new first next h k = k ∙ ap (λ l. fold noted l next) h ∙ sym (fold-append noted old first next)
 
 -- what was done, and what came after it
 pub Follows-onward : {L : Type 0} (noted : L → Asked → L) (old middle new : L) (outcome : Outcome) (first next : Course)
     → Follows noted old middle Done first → Follows noted middle new outcome next → Follows noted old new outcome (onward first next)
 Follows-onward noted old middle new outcome first next h k =
     subst (λ o. Follows noted old new outcome (onward_by o first.asked next)) h.ended
-    (record { grown = fold_behind noted old middle new first.asked next.asked h.grown k.grown; ended = k.ended })
+    (record { grown = fold_after noted old middle new first.asked next.asked h.grown k.grown; ended = k.ended })
 
 -- what was not done, and so nothing after it
 pub Follows-ends : {L : Type 0} (noted : L → Asked → L) (old new : L) (outcome : Outcome) (first next : Course)
@@ -147,7 +147,7 @@ abbrev found_course : Place → Sides → Outcome → Course
 found_course place absent outcome = asking_if (absent.far || absent.near) (FoundNew place) outcome
 
 -- it is no new one
-pub Makes-old : {L : Type 0} (noted : L → Asked → L) (place : Place) (absent : Sides) (fault : BoxFault) (old new : L)
+pub Makes-old : {L : Type 0} (noted : L → Asked → L) (place : Place) (absent : Sides) (fault : BoxFailure) (old new : L)
     → is_some (uncovered absent place.of.channel.create) ≡ false
     → Follows noted old new (outcome_of_box_fault fault) (asking_if (absent.far || absent.near) (FoundNew place) (outcome_of_box_fault fault))
     → Makes noted place absent (outcome_of_box_fault fault) old new
@@ -158,7 +158,7 @@ Makes-old noted place absent fault old new e h =
     (Follows-ends noted old new o (found_course place absent o) (onward (asking_if absent.far (Made Far place) Done) (asking_if absent.near (Made Near place) Done)) (fault_is_fault fault) h)
 
 -- its far side is not made
-pub Makes-no_far : {L : Type 0} (noted : L → Asked → L) (place : Place) (absent : Sides) (fault : BoxFault) (old middle new : L)
+pub Makes-no_far : {L : Type 0} (noted : L → Asked → L) (place : Place) (absent : Sides) (fault : BoxFailure) (old middle new : L)
     → is_some (uncovered absent place.of.channel.create) ≡ false
     → Follows noted old middle Done (asking_if (absent.far || absent.near) (FoundNew place) Done)
     → Follows noted middle new (outcome_of_box_fault fault) (asking_if absent.far (Made Far place) (outcome_of_box_fault fault))
@@ -173,44 +173,44 @@ Makes-no_far noted place absent fault old middle new e h k =
     (Follows-ends noted middle new o far near (fault_is_fault fault) k))
 
 -- its far side is made where it is absent, and the near one is asked for
-pub Makes-near : {L : Type 0} (noted : L → Asked → L) (place : Place) (absent : Sides) (outcome : Outcome) (old middle behind new : L)
+pub Makes-near : {L : Type 0} (noted : L → Asked → L) (place : Place) (absent : Sides) (outcome : Outcome) (old middle following new : L)
     → is_some (uncovered absent place.of.channel.create) ≡ false
     → Follows noted old middle Done (asking_if (absent.far || absent.near) (FoundNew place) Done)
-    → Follows noted middle behind Done (asking_if absent.far (Made Far place) Done)
-    → Follows noted behind new outcome (asking_if absent.near (Made Near place) outcome)
+    → Follows noted middle following Done (asking_if absent.far (Made Far place) Done)
+    → Follows noted following new outcome (asking_if absent.near (Made Near place) outcome)
     → Makes noted place absent outcome old new
-Makes-near noted place absent o old middle behind new e h k l =
+Makes-near noted place absent o old middle following new e h k l =
     let ends : BoxEnds = record { found_new = Done; made_far = Done; made_near = o; ran = Done; gave_up = None } in
     let far : Course = asking_if absent.far (Made Far place) Done in
     let near : Course = asking_if absent.near (Made Near place) o in
     Makes-covered noted place absent ends o old new e
     (Follows-onward noted old middle new o (found_course place absent Done) (onward far near) h
-    (Follows-onward noted middle behind new o far near k l))
+    (Follows-onward noted middle following new o far near k l))
 
 asked_if : (is_due : Bool) (question : Outcome → Asked) → (asking_if is_due question Done).asked ≡ (if is_due then question Done ∷ [] else [])
 asked_if true question = refl
 asked_if false question = refl
 
 -- all of it was done
-pub makings-done : {L : Type 0} (noted : L → Asked → L) (place : Place) (absent : Sides) (old middle behind new : L)
+pub makings-done : {L : Type 0} (noted : L → Asked → L) (place : Place) (absent : Sides) (old middle following new : L)
     → Follows noted old middle Done (asking_if (absent.far || absent.near) (FoundNew place) Done)
-    → Follows noted middle behind Done (asking_if absent.far (Made Far place) Done)
-    → Follows noted behind new Done (asking_if absent.near (Made Near place) Done)
+    → Follows noted middle following Done (asking_if absent.far (Made Far place) Done)
+    → Follows noted following new Done (asking_if absent.near (Made Near place) Done)
     → new ≡ fold noted old (makings place absent)
-makings-done noted place absent old middle behind new h k l =
+makings-done noted place absent old middle following new h k l =
     let found = h.grown ∙ ap (fold noted old) (asked_if (absent.far || absent.near) (FoundNew place)) in
     let far = k.grown ∙ ap (fold noted middle) (asked_if absent.far (Made Far place)) in
-    let near = l.grown ∙ ap (fold noted behind) (asked_if absent.near (Made Near place)) in
-    fold_behind noted old behind new (finding (absent.far || absent.near) place ++ making Far absent.far place) (making Near absent.near place)
-    (fold_behind noted old middle behind (finding (absent.far || absent.near) place) (making Far absent.far place) found far) near
+    let near = l.grown ∙ ap (fold noted following) (asked_if absent.near (Made Near place)) in
+    fold_after noted old following new (finding (absent.far || absent.near) place ++ making Far absent.far place) (making Near absent.near place)
+    (fold_after noted old middle following (finding (absent.far || absent.near) place) (making Far absent.far place) found far) near
 
-pub OnOk-makings : {L T : Type 0} (noted : L → Asked → L) (place : Place) (absent : Sides) (old middle behind new : L) (result : Result T BoxFault)
+pub OnOk-makings : {L T : Type 0} (noted : L → Asked → L) (place : Place) (absent : Sides) (old middle following new : L) (result : Result T BoxFailure)
     → Follows noted old middle Done (asking_if (absent.far || absent.near) (FoundNew place) Done)
-    → Follows noted middle behind Done (asking_if absent.far (Made Far place) Done)
-    → Follows noted behind new (outcome_of result) (asking_if absent.near (Made Near place) (outcome_of result))
+    → Follows noted middle following Done (asking_if absent.far (Made Far place) Done)
+    → Follows noted following new (outcome_of result) (asking_if absent.near (Made Near place) (outcome_of result))
     → OnOk result (new ≡ fold noted old (makings place absent))
-OnOk-makings noted place absent old middle behind new (Ok made) h k l = makings-done noted place absent old middle behind new h k l
-OnOk-makings noted place absent old middle behind new (Err fault) h k l = tt
+OnOk-makings noted place absent old middle following new (Ok made) h k l = makings-done noted place absent old middle following new h k l
+OnOk-makings noted place absent old middle following new (Err fault) h k l = tt
 
 -- nothing more was asked
 pub Makes-same : {L : Type 0} (noted : L → Asked → L) (place : Place) (absent : Sides) (outcome : Outcome) (old middle new : L)

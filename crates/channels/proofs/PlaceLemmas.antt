@@ -75,26 +75,26 @@ added : (places : List ℕ) (p q : ℕ) → (not (q == p) && fresh places q) ≡
 added places p q =
     ap (λ v. not v && fresh places q) (eqb-swap p q) ∙ neither (list_any (λ r. r == q) places) (p == q) ∙ ap not (sym (list_any-append (λ r. r == q) places (p ∷ [])))
 
-behind-at : (places : List ℕ) (p : ℕ) (ps : List ℕ) (b : Bool) → list_any (λ r. r == p) places ≡ b
+following-at : (places : List ℕ) (p : ℕ) (ps : List ℕ) (b : Bool) → list_any (λ r. r == p) places ≡ b
     → ((more : List ℕ) → with_places more ps ≡ more ++ filter (fresh more) (each_once ps))
     → with_places (cond b places (places ++ p ∷ [])) ps ≡ places ++ cond (not b) (p ∷ filter (fresh places) (filter (λ q. not (q == p)) (each_once ps))) (filter (fresh places) (filter (λ q. not (q == p)) (each_once ps)))
-behind-at places p ps true e ih =
+following-at places p ps true e ih =
     ih places ∙ ap (λ ys. places ++ ys) (sym (filter-twice (fresh places) (λ q. not (q == p)) (each_once ps) ∙ filter-same _ _ (λ q. known places p q e) (each_once ps)))
-behind-at places p ps false e ih =
+following-at places p ps false e ih =
     ih (places ++ p ∷ []) ∙ append_assoc places (p ∷ []) _
     ∙ ap (λ ys. places ++ p ∷ ys) (sym (filter-twice (fresh places) (λ q. not (q == p)) (each_once ps) ∙ filter-same _ _ (λ q. added places p q) (each_once ps)))
 
-behind : (ps places : List ℕ) → with_places places ps ≡ places ++ filter (fresh places) (each_once ps)
-behind [] places = sym (append-nil places)
-behind (p ∷ ps) places =
-    let e = behind-at places p ps (list_any (λ r. r == p) places) refl (λ more. behind ps more) in e
+following : (ps places : List ℕ) → with_places places ps ≡ places ++ filter (fresh places) (each_once ps)
+following [] places = sym (append-nil places)
+following (p ∷ ps) places =
+    let e = following-at places p ps (list_any (λ r. r == p) places) refl (λ more. following ps more) in e
 
 filter-all : (xs : List ℕ) → filter (fresh []) xs ≡ xs
 filter-all [] = refl
 filter-all (x ∷ xs) = ap (λ ys. x ∷ ys) (filter-all xs)
 
 pub with_places-is_each_once : (ps : List ℕ) → with_places [] ps ≡ each_once ps
-with_places-is_each_once ps = behind ps [] ∙ filter-all (each_once ps)
+with_places-is_each_once ps = following ps [] ∙ filter-all (each_once ps)
 
 -- a number more
 range_snoc : (a n : ℕ) → range_with_len a (suc n) ≡ range_with_len a n ++ (a + n) ∷ []

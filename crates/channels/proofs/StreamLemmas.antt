@@ -63,18 +63,18 @@ HasNotices-more first then last h k =
           (Appends-more first then last _ _ h.lines k.lines);
     }
 
-abbrev WasTold : Verdict → Type 0
-WasTold Clean = ⊥
-WasTold Faulty = Unit {0}
-WasTold Over = Unit {0}
+abbrev WasReported : Verdict → Type 0
+WasReported Clean = ⊥
+WasReported Faulty = Unit {0}
+WasReported Over = Unit {0}
 
-pub told_is_told : (verdict : Verdict) → WasTold verdict → verdict ≡ Clean → ⊥
-told_is_told verdict h e = subst WasTold e h
+pub reported_is_reported : (verdict : Verdict) → WasReported verdict → verdict ≡ Clean → ⊥
+reported_is_reported verdict h e = subst WasReported e h
 
 pub IsQuiet-more : (first then last : Option (List ℕ)) (verdict later : Verdict) → IsQuiet first then verdict → IsQuiet then last later → IsQuiet first last (both verdict later)
 IsQuiet-more first then last verdict Clean h k = λ e. HasNotices-more first then last (h e) (k refl)
-IsQuiet-more first then last verdict Faulty h k = λ e. absurd (told_is_told Faulty tt e)
-IsQuiet-more first then last verdict Over h k = λ e. absurd (told_is_told Over tt e)
+IsQuiet-more first then last verdict Faulty h k = λ e. absurd (reported_is_reported Faulty tt e)
+IsQuiet-more first then last verdict Over h k = λ e. absurd (reported_is_reported Over tt e)
 
 -- a verdict is that of both
 pub IsQuiet-both : (first then last : Option (List ℕ)) (verdict later all : Verdict) → all ≡ both verdict later → IsQuiet first then verdict → IsQuiet then last later → IsQuiet first last all
@@ -91,8 +91,8 @@ IfOk-before first then last (Ok v) h k = IsQuiet-before first then last v h k
 IfOk-before first then last (Err e) h k = tt
 
 -- notices after what was reported
-pub IsQuiet-behind : (first then last : Option (List ℕ)) (verdict : Verdict) → IsQuiet first then verdict → HasNotices then last → IsQuiet first last verdict
-IsQuiet-behind first then last verdict h k = λ e. HasNotices-more first then last (h e) k
+pub IsQuiet-following : (first then last : Option (List ℕ)) (verdict : Verdict) → IsQuiet first then verdict → HasNotices then last → IsQuiet first last verdict
+IsQuiet-following first then last verdict h k = λ e. HasNotices-more first then last (h e) k
 
 -- the same stream under another name
 pub HasNotices-from : (other first last : Option (List ℕ)) → other ≡ first → HasNotices other last → HasNotices first last

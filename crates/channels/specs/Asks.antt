@@ -10,9 +10,9 @@ use Rattle.rules.specs.declared.options.Sides.{Sides}
 use Rattle.config.specs.declared.config.Boxes.{Boxes}
 use Rattle.config.specs.declared.config.Boxes.TheVariants.{Pair, Matching}
 use Rattle.config.specs.declared.config.Config.{Config}
-use Rattle.config.specs.declared.request.Request.{Request}
+use Rattle.config.specs.declared.request.RunRequest.{RunRequest}
 use Rattle.config.specs.Cells.{line_cells}
-use Rattle.channels.specs.Boxes.{Tells, boxes_among}
+use Rattle.channels.specs.Boxes.{Reports, boxes_among}
 use Rattle.channels.specs.Chosen.{chosen_among}
 use Rattle.channels.specs.Scope.{options_of}
 use Rattle.channels.specs.Asked.{Asked, Done, Ended, FarListed, FoundNew, IsJoined, Joined, Made, NearListed, Place, Ran}
@@ -64,7 +64,7 @@ AsksIfClean noted old new more verdict = verdict ≡ Clean → new ≡ fold note
 abbrev pub SettlesFound : {L : Type 0} → (L → Asked → L) → Options → Joined → (fars nears : List (List ℕ)) → Boxes → (old new : L) → Type 0
 SettlesFound noted options of fars nears (Pair far near) old new =
     new ≡ fold noted old (box_asked options (record { of = of; far = far; near = near }) (absent_in fars nears far near))
-SettlesFound noted options of fars nears (Matching patterns) old new = (is_chosen : List ℕ → Bool) → Tells is_chosen patterns
+SettlesFound noted options of fars nears (Matching patterns) old new = (is_chosen : List ℕ → Bool) → Reports is_chosen patterns
     → new ≡ fold noted old (boxes_asked options of fars nears (boxes_among is_chosen fars nears))
 
 -- a channel's stores are listed, and its mailboxes made and run
@@ -107,7 +107,7 @@ abbrev pub GoesOver : {L : Type 0} → (L → Asked → L) → Config → Ways �
 GoesOver noted config ways [] old new = new ≡ old
 GoesOver {L} noted config ways (p ∷ ps) old new = (middle : L) × GoesAt noted config ways p old middle × GoesOver noted config ways ps middle new
 
-abbrev pub ways_of : Request → Option Cells → Ways
+abbrev pub ways_of : RunRequest → Option Cells → Ways
 ways_of request cells = record { lists = request.lists; cells = cells; expunges = request.expunges }
 
 -- so is each of these channels, and what stands at servers is ended then
@@ -117,7 +117,7 @@ pub record GoesThrough {L : Type 0} (noted : L → Asked → L) (config : Config
   pub ended : new ≡ noted last Ended
 
 -- so is each channel that the command line names
-pub record GoesAll {L : Type 0} (noted : L → Asked → L) (config : Config) (request : Request) (old new : L) : Type 0 where
+pub record GoesAll {L : Type 0} (noted : L → Asked → L) (config : Config) (request : RunRequest) (old new : L) : Type 0 where
   pub cells : Option Cells
   pub words : line_cells request.sync_words.items ≡ Ok cells
   pub through : GoesThrough noted config (ways_of request cells) (chosen_among config request.chosen) old new

@@ -27,8 +27,8 @@ Rises [] = ⊤
 Rises (n ∷ ns) = IsBelowFirst n ns × Rises ns
 
 -- a test that reports which names the patterns choose
-abbrev pub Tells : (List ℕ → Bool) → (patterns : List (List ℕ)) → Type 0
-Tells is_chosen patterns = (name : List ℕ) → Decides (is_chosen name) (IsChosen patterns name)
+abbrev pub Reports : (List ℕ → Bool) → (patterns : List (List ℕ)) → Type 0
+Reports is_chosen patterns = (name : List ℕ) → Decides (is_chosen name) (IsChosen patterns name)
 
 -- the names of either list that pass the test, each once, in the order of their bytes
 abbrev pub boxes_among : (List ℕ → Bool) → (far near : List (List ℕ)) → List (List ℕ)

@@ -10,21 +10,21 @@ use Rattle.rules.specs.declared.options.Sides.{Sides}
 use Rattle.config.specs.declared.config.Boxes.{Boxes}
 use Rattle.config.specs.declared.config.Boxes.TheVariants.{Pair, Matching}
 use Rattle.config.specs.declared.config.Config.{Config}
-use Rattle.config.specs.declared.request.Request.{Request}
+use Rattle.config.specs.declared.request.RunRequest.{RunRequest}
 use Rattle.config.specs.Cells.{line_cells}
-use Rattle.channels.specs.Boxes.{Tells, boxes_among}
+use Rattle.channels.specs.Boxes.{Reports, boxes_among}
 use Rattle.channels.specs.Chosen.{chosen_among}
 use Rattle.channels.specs.Scope.{options_of, uncovered}
 use Rattle.channels.specs.Asked.{Asked, Ended, FarListed, FoundNew, GaveUp, IsJoined, IsUnjoined, Joined, Made, NearListed, Outcome, Done, Failed, Unopened, Place, Ran, outcome_of_state}
-use Rattle.channels.specs.declared.fault.BoxFault.{BoxFault}
+use Rattle.channels.specs.declared.fault.BoxFailure.{BoxFailure}
 use Rattle.channels.specs.declared.fault.RunFailure.{RunFailure}
 use Rattle.channels.specs.declared.store_fault.StoreFault.{StoreFault}
 use Rattle.channels.specs.declared.verdict.Verdict.{Verdict}
 use Rattle.channels.specs.declared.verdict.Verdict.TheVariants.{Clean, Faulty, Over}
 use Rattle.channels.specs.Asks.{Ways, making, makings, run_attempts, ways_of}
 use Rattle.channels.specs.Founds.{absent_in}
-use Rattle.channels.specs.Outcomes.{IsToldOf, absence_by, gave_up_of, outcome_of_settled}
-use Rattle.channels.specs.Refusals.{IsToldUndone, IsUndone}
+use Rattle.channels.specs.Outcomes.{IsReportedOf, absence_by, gave_up_of, outcome_of_settled}
+use Rattle.channels.specs.Refusals.{IsReportedUndone, IsUndone}
 use Rattle.channels.specs.Verdicts.{both, status_of}
 
 -- ---- of a mailbox
@@ -83,10 +83,10 @@ covered_course place absent ends =
     if is_some (uncovered absent place.of.channel.create) then record { asked = FoundNew place ends.found_new ∷ []; outcome = Failed } else making_course place absent ends
 
 -- so that is asked, and this is reported of it
-pub record FindsAbsence {L : Type 0} (noted : L → Asked → L) (place : Place) (side : Side) (fault : BoxFault) (old new : L) : Type 0 where
+pub record FindsAbsence {L : Type 0} (noted : L → Asked → L) (place : Place) (side : Side) (fault : BoxFailure) (old new : L) : Type 0 where
   pub answer : Result Bool StoreFault
   pub grown : new ≡ fold noted old (FoundNew place (outcome_of_state answer) ∷ [])
-  pub told : fault ≡ absence_by side answer
+  pub reported : fault ≡ absence_by side answer
 
 -- where a run failed, its plan may be given up, once
 abbrev pub giving_asked : (gave_up : Option Outcome) → (ran : Outcome) → Place → List Asked
@@ -112,13 +112,13 @@ pub record IsRunAsked (options : Options) (place : Place) (verdict : Verdict) (a
   pub ran : Outcome
   pub gave_up : Option Outcome
   pub all : asked ≡ (run_course options place ran gave_up).asked
-  pub told : IsToldOf ran verdict
+  pub reported : IsReportedOf ran verdict
 
 -- so much is asked of a mailbox, and this is reported of it
 pub record IsBoxAsked (options : Options) (place : Place) (absent : Sides) (verdict : Verdict) (asked : List Asked) : Type 0 where
   pub ends : BoxEnds
   pub all : asked ≡ (box_course options place absent ends).asked
-  pub told : IsToldOf (box_course options place absent ends).outcome verdict
+  pub reported : IsReportedOf (box_course options place absent ends).outcome verdict
 
 -- ---- of several
 
@@ -127,20 +127,20 @@ abbrev pub NextOf : (stops : Bool) → (next : Verdict → List Asked → Type 0
 NextOf true next verdict asked = (verdict ≡ Clean) × (asked ≡ [])
 NextOf false next verdict asked = next verdict asked
 
-pub record Behind (stops : Verdict → Bool) (one next : Verdict → List Asked → Type 0) (verdict : Verdict) (asked : List Asked) : Type 0 where
-  pub told : Verdict
+pub record Following (stops : Verdict → Bool) (one next : Verdict → List Asked → Type 0) (verdict : Verdict) (asked : List Asked) : Type 0 where
+  pub reported : Verdict
   pub later : Verdict
   pub first : List Asked
   pub rest : List Asked
-  pub is_first : one told first
-  pub is_rest : NextOf (stops told) next later rest
+  pub is_first : one reported first
+  pub is_rest : NextOf (stops reported) next later rest
   pub all : asked ≡ first ++ rest
-  pub together : verdict ≡ both told later
+  pub together : verdict ≡ both reported later
 
 -- each of these, one after another
 abbrev pub InOrder : {X : Type 0} → (stops : Verdict → Bool) → (one : X → Verdict → List Asked → Type 0) → List X → Verdict → List Asked → Type 0
 InOrder stops one [] verdict asked = (verdict ≡ Clean) × (asked ≡ [])
-InOrder stops one (x ∷ xs) verdict asked = Behind stops (one x) (InOrder stops one xs) verdict asked
+InOrder stops one (x ∷ xs) verdict asked = Following stops (one x) (InOrder stops one xs) verdict asked
 
 -- a store does not open, so no other mailbox of its channel is tried
 abbrev pub is_over : Verdict → Bool
@@ -163,7 +163,7 @@ IsNamedAsked options of fars nears name verdict asked =
 abbrev pub IsFoundAsked : Options → Joined → (fars nears : List (List ℕ)) → Boxes → Verdict → List Asked → Type 0
 IsFoundAsked options of fars nears (Pair far near) verdict asked =
     IsBoxAsked options (record { of = of; far = far; near = near }) (absent_in fars nears far near) verdict asked
-IsFoundAsked options of fars nears (Matching patterns) verdict asked = IsOver verdict asked ⊎ ((is_chosen : List ℕ → Bool) → Tells is_chosen patterns
+IsFoundAsked options of fars nears (Matching patterns) verdict asked = IsOver verdict asked ⊎ ((is_chosen : List ℕ → Bool) → Reports is_chosen patterns
     → InOrder is_over (IsNamedAsked options of fars nears) (boxes_among is_chosen fars nears) verdict asked)
 
 -- the mailboxes of both stores are listed, those of the near one only if the far one reported its own
@@ -228,7 +228,7 @@ abbrev pub IsLineAsked : Config → Ways → (places : List ℕ) → Verdict →
 IsLineAsked config ways places verdict asked = InOrder (λ _. false) (IsPlaceAsked config ways) places verdict asked
 
 -- each channel that the command line names
-pub record IsRequestAsked (config : Config) (request : Request) (verdict : Verdict) (asked : List Asked) : Type 0 where
+pub record IsRequestAsked (config : Config) (request : RunRequest) (verdict : Verdict) (asked : List Asked) : Type 0 where
   pub cells : Option Cells
   pub words : line_cells request.sync_words.items ≡ Ok cells
   pub line : IsLineAsked config (ways_of request cells) (chosen_among config request.chosen) verdict asked
@@ -269,7 +269,7 @@ pub record GoesToEnd {L : Type 0} (noted : L → Asked → L) (is_such : Verdict
   pub last : L
   pub goes : Goes noted old last (is_such verdict)
   pub ended : new ≡ noted last Ended
-  pub tells : status ≡ status_of verdict
+  pub states : status ≡ status_of verdict
 
 -- or a beginning of it, without an end, where a write failed
 abbrev pub GoesUntil : {L : Type 0} → (L → Asked → L) → (write_failed : Bool) → (Verdict → List Asked → Type 0) → (status : ℕ) → (old new : L) → Type 0
@@ -277,12 +277,12 @@ GoesUntil noted false is_such status old new = GoesToEnd noted is_such status ol
 GoesUntil noted true is_such status old new = (status ≡ 1) × Goes noted old new (Begun is_such)
 
 -- a write failed: nothing was asked where nothing is done of the line, and else a beginning
-abbrev pub GoesUnwritten : {L : Type 0} → (L → Asked → L) → Config → Request → (old new : L) → Type 0
+abbrev pub GoesUnwritten : {L : Type 0} → (L → Asked → L) → Config → RunRequest → (old new : L) → Type 0
 GoesUnwritten noted config request old new = (IsUndone config request × (new ≡ old)) ⊎ Goes noted old new (Begun (IsRequestAsked config request))
 
 -- nothing was asked, and why is reported on standard error; or all that the line names was asked; or, at status 1, a write failed
-abbrev pub GoesAsFar : {L : Type 0} → (L → Asked → L) → Config → Request → (status : ℕ) → (told_before told : Option (List ℕ)) → (old new : L) → Type 0
-GoesAsFar noted config request status told_before told old new =
-    (IsToldUndone config request status told_before told × (new ≡ old))
+abbrev pub GoesAsFar : {L : Type 0} → (L → Asked → L) → Config → RunRequest → (status : ℕ) → (reported_before reported : Option (List ℕ)) → (old new : L) → Type 0
+GoesAsFar noted config request status reported_before reported old new =
+    (IsReportedUndone config request status reported_before reported × (new ≡ old))
     ⊎ (GoesToEnd noted (IsRequestAsked config request) status old new
     ⊎ ((status ≡ 1) × GoesUnwritten noted config request old new))

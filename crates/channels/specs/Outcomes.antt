@@ -16,13 +16,13 @@ use Rattle.channels.specs.declared.store_fault.StoreFault.{StoreFault}
 use Rattle.channels.specs.declared.fault.GivingUp.{GivingUp}
 use Rattle.channels.specs.declared.fault.GivingUp.TheVariants as giving
 use Rattle.channels.specs.declared.fault.RunFailure.{RunFailure}
-use Rattle.channels.specs.declared.fault.BoxFault.{BoxFault}
-use Rattle.channels.specs.declared.fault.BoxFault.TheVariants.{Absent, Removed, CannotOpen, Server, Locked, Refused, Stopped, GivenAgain, LeftOut, AtStep, Run}
+use Rattle.channels.specs.declared.fault.BoxFailure.{BoxFailure}
+use Rattle.channels.specs.declared.fault.BoxFailure.TheVariants.{Absent, Removed, CannotOpen, Server, Locked, Refused, Stopped, GivenAgain, LeftOut, AtStep, Run}
 use Rattle.channels.specs.declared.verdict.Verdict.{Verdict}
 use Rattle.channels.specs.declared.verdict.Verdict.TheVariants.{Clean, Faulty, Over}
 
 -- a fault that a store does not open, and any other one
-abbrev pub outcome_of_box_fault : BoxFault → Outcome
+abbrev pub outcome_of_box_fault : BoxFailure → Outcome
 outcome_of_box_fault (Absent side) = Failed
 outcome_of_box_fault (Removed side) = Failed
 outcome_of_box_fault (CannotOpen path reason) = Unopened
@@ -35,12 +35,12 @@ outcome_of_box_fault (LeftOut path) = Failed
 outcome_of_box_fault (AtStep fault number step) = Failed
 outcome_of_box_fault (Run fault) = Failed
 
-abbrev pub outcome_of : {T : Type 0} → Result T BoxFault → Outcome
+abbrev pub outcome_of : {T : Type 0} → Result T BoxFailure → Outcome
 outcome_of (Ok answer) = Done
 outcome_of (Err fault) = outcome_of_box_fault fault
 
 -- what stopped a run is the fault that is reported of it, if it is known
-abbrev pub fault_of_stop : Option StopCause → BoxFault
+abbrev pub fault_of_stop : Option StopCause → BoxFailure
 fault_of_stop None = Run fault.Stopped
 fault_of_stop (Some cause) = Stopped cause
 
@@ -63,7 +63,7 @@ has_void (Finished steps) = list_any is_void steps.items
 abbrev pub outcome_of_pass : Pass → Outcome
 outcome_of_pass pass = if has_void pass then Failed else Done
 
-abbrev pub outcome_of_run : Result Pass BoxFault → Outcome
+abbrev pub outcome_of_run : Result Pass BoxFailure → Outcome
 outcome_of_run (Ok pass) = outcome_of_pass pass
 outcome_of_run (Err fault) = outcome_of_box_fault fault
 
@@ -93,7 +93,7 @@ is_stale_run fault.MarksRepeat = false
 is_stale_run fault.NoMemory = false
 
 -- its plan is to be given up
-abbrev pub is_stale : BoxFault → Bool
+abbrev pub is_stale : BoxFailure → Bool
 is_stale (Absent side) = false
 is_stale (Removed side) = false
 is_stale (CannotOpen path reason) = false
@@ -128,14 +128,14 @@ gave_up_of (Err failure) = option_map outcome_of_giving failure.giving_up
 -- ---- of a mailbox that is absent where Create does not make it
 
 -- a former run has synchronised it; or none has, or that is not known
-abbrev pub absence_by : Side → Result Bool StoreFault → BoxFault
+abbrev pub absence_by : Side → Result Bool StoreFault → BoxFailure
 absence_by side (Ok has_state) = if has_state then Removed side else Absent side
 absence_by side (Err fault) = Absent side
 
-abbrev pub IsAbsence : Side → BoxFault → Type 0
+abbrev pub IsAbsence : Side → BoxFailure → Type 0
 IsAbsence side fault = (fault ≡ Absent side) ⊎ (fault ≡ Removed side)
 
-abbrev pub IsAbsenceOf : {T : Type 0} → Side → Result T BoxFault → Type 0
+abbrev pub IsAbsenceOf : {T : Type 0} → Side → Result T BoxFailure → Type 0
 IsAbsenceOf side (Ok answer) = ⊥
 IsAbsenceOf side (Err fault) = IsAbsence side fault
 
@@ -149,7 +149,7 @@ verdict_of Unopened = Over
 
 -- what may be reported of a mailbox: of one that was run, also files that its run left out, or that there is no memory to report what it
 -- did
-abbrev pub IsToldOf : Outcome → Verdict → Type 0
-IsToldOf Done verdict = verdict ≡ Over → ⊥
-IsToldOf Failed verdict = verdict ≡ Faulty
-IsToldOf Unopened verdict = verdict ≡ Over
+abbrev pub IsReportedOf : Outcome → Verdict → Type 0
+IsReportedOf Done verdict = verdict ≡ Over → ⊥
+IsReportedOf Failed verdict = verdict ≡ Faulty
+IsReportedOf Unopened verdict = verdict ≡ Over

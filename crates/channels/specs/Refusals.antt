@@ -2,25 +2,25 @@
 use Rattle.std.specs.Prelude.{◌≡◌, ℕ, ◌⊎◌, IsSome, IsErr, List, [], ◌∷◌, ◌++◌, Option, None, Some, Result, Ok, Err, codes}
 use Rattle.std.specs.Io.KnownBytes.{Appends}
 use Rattle.config.specs.declared.config.Config.{Config}
-use Rattle.config.specs.declared.request.Request.{Request}
+use Rattle.config.specs.declared.request.RunRequest.{RunRequest}
 use Rattle.config.specs.Cells.{line_cells}
 use Rattle.channels.specs.Chosen.{unknown_among}
 use Rattle.channels.specs.declared.course.Refusal.{Refusal}
 use Rattle.channels.specs.declared.course.Refusal.TheVariants.{Unknown, SyncWords, NoMemory}
 
 -- a name stands for nothing, or the words of Sync are refused
-abbrev pub IsRefused : Config → Request → Type 0
+abbrev pub IsRefused : Config → RunRequest → Type 0
 IsRefused config request = IsSome (unknown_among config request.chosen) ⊎ IsErr (line_cells request.sync_words.items)
 
 -- this name is reported
-abbrev pub Tells : Refusal → List ℕ → Type 0
-Tells (Unknown text) name = text.now ≡ name
-Tells SyncWords name = ⊥
-Tells NoMemory name = ⊥
+abbrev pub Reports : Refusal → List ℕ → Type 0
+Reports (Unknown text) name = text.now ≡ name
+Reports SyncWords name = ⊥
+Reports NoMemory name = ⊥
 
 abbrev pub IsUnknown : {T : Type 0} → Result T Refusal → List ℕ → Type 0
 IsUnknown (Ok course) name = ⊥
-IsUnknown (Err refusal) name = Tells refusal name
+IsUnknown (Err refusal) name = Reports refusal name
 
 abbrev pub status_of : Refusal → ℕ
 status_of (Unknown name) = 2
@@ -29,7 +29,7 @@ status_of NoMemory = 1
 
 -- why nothing of a line is done: the first of its names that stands for nothing; where each stands for something, the words of
 -- Sync, or want of memory
-abbrev pub IsReason : Config → Request → Refusal → Type 0
+abbrev pub IsReason : Config → RunRequest → Refusal → Type 0
 IsReason config request (Unknown name) = unknown_among config request.chosen ≡ Some name.now
 IsReason config request SyncWords = (unknown_among config request.chosen ≡ None) × IsErr (line_cells request.sync_words.items)
 IsReason config request NoMemory = unknown_among config request.chosen ≡ None
@@ -49,13 +49,13 @@ abbrev pub refusal_lines : Refusal → List ℕ
 refusal_lines refusal = codes "mbsync: " ++ refusal_text refusal ++ refusal_advice refusal ++ 10 ∷ []
 
 -- nothing is done, for this reason
-pub record IsUndone (config : Config) (request : Request) : Type 0 where
+pub record IsUndone (config : Config) (request : RunRequest) : Type 0 where
   pub refusal : Refusal
   pub reason : IsReason config request refusal
 
 -- nothing is done, and its reason is reported, on a line of its own with what to do after it, and by the status
-pub record IsToldUndone (config : Config) (request : Request) (status : ℕ) (old new : Option (List ℕ)) : Type 0 where
+pub record IsReportedUndone (config : Config) (request : RunRequest) (status : ℕ) (old new : Option (List ℕ)) : Type 0 where
   pub refusal : Refusal
   pub reason : IsReason config request refusal
   pub lines : Appends old new (refusal_lines refusal)
-  pub tells : status ≡ status_of refusal
+  pub states : status ≡ status_of refusal

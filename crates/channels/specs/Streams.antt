@@ -14,8 +14,8 @@ Extends (Some xs) None = ⊥
 Extends (Some xs) (Some ys) = take (length xs) ys ≡ xs
 
 -- a fault was reported
-abbrev pub IsTold : Verdict → Type 0
-IsTold verdict = verdict ≡ Clean → ⊥
+abbrev pub IsReported : Verdict → Type 0
+IsReported verdict = verdict ≡ Clean → ⊥
 
 -- nothing but the lines of these notices was written
 pub record HasNotices (old new : Option (List ℕ)) : Type 0 where
@@ -28,7 +28,7 @@ IsQuiet old new verdict = verdict ≡ Clean → HasNotices old new
 
 -- these lines were printed, unless there was no memory for them: then nothing was, and a fault is reported
 abbrev pub IsPrinted : (text : List ℕ) → (old new : Option (List ℕ)) → Verdict → Type 0
-IsPrinted text old new verdict = Appends old new text ⊎ ((new ≡ old) × IsTold verdict)
+IsPrinted text old new verdict = Appends old new text ⊎ ((new ≡ old) × IsReported verdict)
 
 -- whether a write has failed so far, before a write and after it
 abbrev pub Notes : {T E : Type 0} → (before after : Bool) → Result T E → Type 0

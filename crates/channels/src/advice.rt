@@ -1,10 +1,10 @@
 //! What is reported after a fault: what was found, and what can be done, on lines that begin with two spaces.
 
-use crate::fault::{BoxFault, GivingUp};
+use crate::fault::{BoxFailure, GivingUp};
+use crate::reporting::BoxFaultText;
 use crate::run_advice::{advise_refused, advise_run, advise_step};
 use crate::server_advice::advise_server;
 use crate::stop_cause::StopCause;
-use crate::telling::BoxFaultText;
 use device::trouble::Trouble;
 use mailcore::side::Side;
 use std::io;
@@ -13,20 +13,20 @@ use std::io::Write;
 /// Reports what was found, how giving up the unfinished run ended, and what can be done, where that is known.
 pub(crate) fn advise<E: Write>(
     err: &mut E,
-    fault: &BoxFault,
+    fault: &BoxFailure,
     giving_up: Option<&GivingUp>,
 ) -> io::Result<()> {
     match giving_up {
         None | Some(GivingUp::NothingPending) => advise_on(err, fault),
         Some(GivingUp::GivenUp) => {
-            tell_stale(err, fault)?;
+            report_stale(err, fault)?;
             writeln!(
                 err,
                 "\n  the unfinished run was given up: it removes nothing more; run again"
             )
         }
         Some(GivingUp::Failed(why)) => {
-            tell_stale(err, fault)?;
+            report_stale(err, fault)?;
             writeln!(
                 err,
                 "\n  the unfinished run could not be given up: {}",
@@ -38,45 +38,45 @@ pub(crate) fn advise<E: Write>(
 }
 
 /// Reports what can be done, where that is known.
-fn advise_on<E: Write>(err: &mut E, fault: &BoxFault) -> io::Result<()> {
+fn advise_on<E: Write>(err: &mut E, fault: &BoxFailure) -> io::Result<()> {
     if fault.is_stale() {
-        tell_stale(err, fault)?;
+        report_stale(err, fault)?;
         return writeln!(err, ": run again");
     }
     match fault {
-        BoxFault::Absent(side) => advise_create(err, *side),
-        BoxFault::Removed(side) => advise_removed(err, *side),
-        BoxFault::CannotOpen(_, reason) => writeln!(err, "  {reason}"),
-        BoxFault::Server(store, why) => advise_server(err, store.as_str(), *why),
-        BoxFault::Locked => writeln!(
+        BoxFailure::Absent(side) => advise_create(err, *side),
+        BoxFailure::Removed(side) => advise_removed(err, *side),
+        BoxFailure::CannotOpen(_, reason) => writeln!(err, "  {reason}"),
+        BoxFailure::Server(store, why) => advise_server(err, store.as_str(), *why),
+        BoxFailure::Locked => writeln!(
             err,
             "  another process synchronises this box: run again when it has ended"
         ),
-        BoxFault::Refused(number, step) => advise_refused(err, *number, step.as_ref()),
-        BoxFault::Stopped(cause) => advise_stop(err, cause),
-        BoxFault::LeftOut(_) => writeln!(
+        BoxFailure::Refused(number, step) => advise_refused(err, *number, step.as_ref()),
+        BoxFailure::Stopped(cause) => advise_stop(err, cause),
+        BoxFailure::LeftOut(_) => writeln!(
             err,
             "  its name is not UTF-8, or is too long to get a UID: rename it, and run again"
         ),
-        BoxFault::GivenAgain(uid, side) => advise_given_again(err, *uid, *side),
-        BoxFault::AtStep(fault, number, step) => advise_step(err, *fault, *number, step),
-        BoxFault::Run(fault) => advise_run(err, *fault),
+        BoxFailure::GivenAgain(uid, side) => advise_given_again(err, *uid, *side),
+        BoxFailure::AtStep(fault, number, step) => advise_step(err, *fault, *number, step),
+        BoxFailure::Run(fault) => advise_run(err, *fault),
     }
 }
 
 /// Reports why the plan of an unfinished run is wrong, without an end of line: which message is not as it took it to be, or that its
 /// keywords have other letters.
-fn tell_stale<E: Write>(err: &mut E, fault: &BoxFault) -> io::Result<()> {
+fn report_stale<E: Write>(err: &mut E, fault: &BoxFailure) -> io::Result<()> {
     match fault {
-        BoxFault::Stopped(StopCause::Standing(path, uid)) => write!(
+        BoxFailure::Stopped(StopCause::Standing(path, uid)) => write!(
             err,
             "  {path} is there, but its message (UID {uid}) was about to count as removed"
         ),
-        BoxFault::Stopped(StopCause::Kept(path, uid)) => write!(
+        BoxFailure::Stopped(StopCause::Kept(path, uid)) => write!(
             err,
             "  {path} is not marked as deleted, but its message (UID {uid}) was about to be removed"
         ),
-        BoxFault::Stopped(StopCause::Undeleted(store, uid)) => write!(
+        BoxFailure::Stopped(StopCause::Undeleted(store, uid)) => write!(
             err,
             "  the server of IMAPStore {store} did not remove the message with UID {uid}, which is no longer marked as deleted there"
         ),

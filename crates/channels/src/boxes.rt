@@ -6,7 +6,7 @@ ghost use Rattle.std.specs.Cmp.Lexicographic.{slice_cmp};
 ghost use Rattle.std.specs.List.Sorted.{IsSearchInRange};
 ghost use Rattle.std.specs.Ordering.{nat_cmp};
 ghost use Rattle.std.specs.Result.{is_ok};
-ghost use Rattle.channels.specs.Boxes.{Rises, Tells, boxes_among, place_from, put_name, put_names, stands_in};
+ghost use Rattle.channels.specs.Boxes.{Rises, Reports, boxes_among, place_from, put_name, put_names, stands_in};
 
 use box_patterns::patterns::{Patterns, matches};
 use mailcore::mailbox_name::MailboxName;
@@ -21,7 +21,7 @@ pub fn boxes_among(
     near: &[MailboxName],
 ) -> Result<Vec<MailboxName>, AllocError>
     ensures rising { IfOk result (λ boxes. Rises boxes.items) }
-    ensures boxes { IfOk result (λ boxes. (is_chosen : List ℕ → Bool) → Tells is_chosen patterns.now
+    ensures boxes { IfOk result (λ boxes. (is_chosen : List ℕ → Bool) → Reports is_chosen patterns.now
         → boxes.items ≡ boxes_among is_chosen far.now near.now) }
 {
     let mut boxes = Vec::new(alloc);
@@ -51,7 +51,7 @@ fn add_chosen(
 ) -> Result<(), AllocError>
     requires rises { Rises boxes.old.items }
     ensures rising { OnOk result (Rises boxes.new.items) }
-    ensures boxes { OnOk result ((is_chosen : List ℕ → Bool) → Tells is_chosen patterns.now
+    ensures boxes { OnOk result ((is_chosen : List ℕ → Bool) → Reports is_chosen patterns.now
         → boxes.new.items ≡ put_names boxes.old.items (filter is_chosen names.now)) }
 {
     for name in names {

@@ -8,7 +8,7 @@ ghost use Rattle.channels.specs.Refusals.{IsReason, IsRefused, IsUnknown, refusa
 use crate::chosen::{chosen_places, unknown_name};
 use config::cells::{CellsFault, cells};
 use config::config::Config;
-use config::request::Request;
+use config::request::RunRequest;
 use rules::options::Cells;
 use std::alloc::{AllocError, Global};
 use std::fmt;
@@ -76,7 +76,7 @@ impl Refusal<'_> {
 pub(crate) fn course_of<'a>(
     alloc: Global,
     config: &Config,
-    request: &'a Request,
+    request: &'a RunRequest,
 ) -> Result<Course, Refusal<'a>>
     ensures places { IfOk result (λ course. course.places.items ≡ chosen_among config.now request.now.chosen) }
     ensures cells { IfOk result (λ course. line_cells request.now.sync_words.items ≡ Ok course.cells) }

@@ -5,14 +5,14 @@ ghost use Rattle.channels.specs.Asked.{Failed, outcome_of_fault};
 ghost use Rattle.channels.specs.Outcomes.{fault_of_stop, is_stale, is_stale_cause, outcome_of_box_fault};
 
 use crate::stop_cause::StopCause;
-use crate::store_fault::{ServerFault, StoreFault};
+use crate::store_fault::{ConnectFault, StoreFault};
 use mailcore::side::Side;
 use rules::plan::Step;
 use runner::fault::RunFault;
 
 /// Why a mailbox was not synchronised.
 #[derive(Drop)]
-pub(crate) enum BoxFault {
+pub(crate) enum BoxFailure {
     /// It is absent on this side, and the channel's Create does not cover the side.
     Absent(Side),
     /// It is absent on this side, and the near folder has the state of a former run: it was there.
@@ -20,7 +20,7 @@ pub(crate) enum BoxFault {
     /// The file or the folder of this path does not open.
     CannotOpen(String, &'static str),
     /// The server of the IMAP store of this name does not open.
-    Server(String, ServerFault),
+    Server(String, ConnectFault),
     /// Another process holds its lock.
     Locked,
     /// The server said no to a step: its number, counted from 1, and the step, if it could be read again.
@@ -41,7 +41,7 @@ pub(crate) enum BoxFault {
 #[derive(Drop)]
 pub(crate) struct RunFailure {
     /// Why it failed.
-    pub(crate) fault: BoxFault,
+    pub(crate) fault: BoxFailure,
     /// How giving its plan up ended. None: the plan is not at fault, and still stands.
     pub(crate) giving_up: Option<GivingUp>,
 }
@@ -54,18 +54,18 @@ pub(crate) enum GivingUp {
     /// No run was unfinished.
     NothingPending,
     /// Why it was not, or perhaps not, given up. The next run that comes to the same cause gives it up.
-    Failed(BoxFault),
+    Failed(BoxFailure),
 }
 
-impl BoxFault {
+impl BoxFailure {
     /// What stopped a run, or that this is not known.
-    pub(crate) fn of_stop(cause: Option<StopCause>) -> BoxFault
+    pub(crate) fn of_stop(cause: Option<StopCause>) -> BoxFailure
         ensures cause { result ≡ fault_of_stop cause }
         ensures failed { outcome_of_box_fault result ≡ Failed }
     {
         match cause {
-            Some(cause) => BoxFault::Stopped(cause),
-            None => BoxFault::Run(RunFault::Stopped),
+            Some(cause) => BoxFailure::Stopped(cause),
+            None => BoxFailure::Run(RunFault::Stopped),
         }
     }
 
@@ -76,17 +76,17 @@ impl BoxFault {
         ensures failed { result ≡ true → outcome_of_box_fault self.now ≡ Failed }
     {
         match self {
-            BoxFault::Stopped(cause) => is_stale_cause(cause),
-            BoxFault::Run(fault) => matches!(fault, RunFault::KeywordsChanged),
-            BoxFault::Absent(_)
-            | BoxFault::Removed(_)
-            | BoxFault::CannotOpen(..)
-            | BoxFault::Server(..)
-            | BoxFault::Locked
-            | BoxFault::Refused(..)
-            | BoxFault::GivenAgain(..)
-            | BoxFault::LeftOut(_)
-            | BoxFault::AtStep(..) => false,
+            BoxFailure::Stopped(cause) => is_stale_cause(cause),
+            BoxFailure::Run(fault) => matches!(fault, RunFault::KeywordsChanged),
+            BoxFailure::Absent(_)
+            | BoxFailure::Removed(_)
+            | BoxFailure::CannotOpen(..)
+            | BoxFailure::Server(..)
+            | BoxFailure::Locked
+            | BoxFailure::Refused(..)
+            | BoxFailure::GivenAgain(..)
+            | BoxFailure::LeftOut(_)
+            | BoxFailure::AtStep(..) => false,
         }
     }
 
@@ -94,7 +94,7 @@ impl BoxFault {
     pub(crate) fn is_stop(&self) -> bool
         ensures { result ≡ true → outcome_of_box_fault self.now ≡ Failed }
     {
-        matches!(self, BoxFault::Run(RunFault::Stopped))
+        matches!(self, BoxFailure::Run(RunFault::Stopped))
     }
 
     /// The step whose copy got a UID that an entry of the state has already, if that is the fault: its number, counted from 1, and the step.
@@ -102,7 +102,7 @@ impl BoxFault {
         ensures { IfSome result (λ _. outcome_of_box_fault self.now ≡ Failed) }
     {
         match self {
-            BoxFault::AtStep(RunFault::BadState(0), number, step) => Some((*number, *step)),
+            BoxFailure::AtStep(RunFault::BadState(0), number, step) => Some((*number, *step)),
             _ => None,
         }
     }
@@ -110,27 +110,27 @@ impl BoxFault {
     /// Whether an answer of a server can be the cause.
     pub(crate) fn is_of_server(&self) -> bool {
         match self {
-            BoxFault::Server(..) | BoxFault::Refused(..) => true,
-            BoxFault::Stopped(cause) => matches!(
+            BoxFailure::Server(..) | BoxFailure::Refused(..) => true,
+            BoxFailure::Stopped(cause) => matches!(
                 cause,
                 StopCause::Server(..)
                     | StopCause::Anew(..)
                     | StopCause::Withheld(..)
                     | StopCause::Undeleted(..)
             ),
-            BoxFault::AtStep(fault, ..) | BoxFault::Run(fault) => matches!(
+            BoxFailure::AtStep(fault, ..) | BoxFailure::Run(fault) => matches!(
                 fault,
                 RunFault::Stopped
                     | RunFault::Refused(_)
                     | RunFault::ValidityChanged(Side::Far)
                     | RunFault::StoreFault(Side::Far, _)
             ),
-            BoxFault::Absent(_)
-            | BoxFault::Removed(_)
-            | BoxFault::CannotOpen(..)
-            | BoxFault::Locked
-            | BoxFault::GivenAgain(..)
-            | BoxFault::LeftOut(_) => false,
+            BoxFailure::Absent(_)
+            | BoxFailure::Removed(_)
+            | BoxFailure::CannotOpen(..)
+            | BoxFailure::Locked
+            | BoxFailure::GivenAgain(..)
+            | BoxFailure::LeftOut(_) => false,
         }
     }
 }
@@ -145,15 +145,15 @@ fn is_stale_cause(cause: &StopCause) -> bool
     )
 }
 
-impl From<StoreFault> for BoxFault {
-    ghost from_gives = { λ fault told. outcome_of_box_fault told ≡ outcome_of_fault fault };
+impl From<StoreFault> for BoxFailure {
+    ghost from_gives = { λ fault reported. outcome_of_box_fault reported ≡ outcome_of_fault fault };
 
-    fn from(fault: StoreFault) -> BoxFault {
+    fn from(fault: StoreFault) -> BoxFailure {
         match fault {
-            StoreFault::CannotOpen(name, reason) => BoxFault::CannotOpen(name, reason),
-            StoreFault::Server(store, why) => BoxFault::Server(store, why),
-            StoreFault::Locked => BoxFault::Locked,
-            StoreFault::Box(fault) => BoxFault::Run(fault),
+            StoreFault::CannotOpen(name, reason) => BoxFailure::CannotOpen(name, reason),
+            StoreFault::Server(store, why) => BoxFailure::Server(store, why),
+            StoreFault::Locked => BoxFailure::Locked,
+            StoreFault::Box(fault) => BoxFailure::Run(fault),
         }
     }
 }

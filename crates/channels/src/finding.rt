@@ -6,13 +6,13 @@ ghost use Rattle.channels.specs.Asked.{joined_of};
 ghost use Rattle.channels.specs.Asks.{lists_asked};
 ghost use Rattle.channels.specs.Courses.{Goes, IsUnlisted};
 ghost use Rattle.channels.specs.Founds.{absent_in};
-ghost use Rattle.channels.specs.Boxes.{Rises, Tells, boxes_among};
+ghost use Rattle.channels.specs.Boxes.{Rises, Reports, boxes_among};
 
 use crate::boxes::{boxes_among, stands_in};
 use crate::channel_box::ChannelStores;
+use crate::run_stores::RunStores;
 use crate::store_fault::ListFault;
 use crate::stores::BoxLists;
-use crate::told_stores::ToldStores;
 use box_patterns::patterns::Patterns;
 use mailcore::mailbox_name::MailboxName;
 use rules::options::Sides;
@@ -30,7 +30,7 @@ impl Found {
     /// Lists the mailboxes of both stores, the far one first.
     pub(crate) fn of<S: BoxLists, O: Write, E: Write>(
         of: ChannelStores<'_>,
-        stores: &mut ToldStores<'_, S, O, E>,
+        stores: &mut RunStores<'_, S, O, E>,
     ) -> Result<Self, ListFault>
         requires going { stores.old.write_failed ≡ false }
         ensures rising { IfOk result (λ found. Rises found.far.items × Rises found.near.items) }
@@ -51,7 +51,7 @@ impl Found {
         alloc: Global,
         patterns: &Patterns,
     ) -> Result<Vec<MailboxName>, ListFault>
-        ensures { IfOk result (λ boxes. (is_chosen : List ℕ → Bool) → Tells is_chosen patterns.now
+        ensures { IfOk result (λ boxes. (is_chosen : List ℕ → Bool) → Reports is_chosen patterns.now
             → boxes.items ≡ boxes_among is_chosen self.now.far.items self.now.near.items) }
     {
         match boxes_among(alloc, patterns, &self.far, &self.near) {

@@ -10,7 +10,7 @@ ghost use Rattle.channels.specs.Asks.{run_attempts};
 ghost use Rattle.channels.specs.Openings.{first_on};
 ghost use Rattle.channels.specs.Steps.{NamesItsStep, NamesNext, NamesRefused, logged_in, step_at};
 
-use crate::fault::BoxFault;
+use crate::fault::BoxFailure;
 use crate::stores::Work;
 use mailcore::keywords::Keywords;
 use outside::outside::Outside;
@@ -48,19 +48,23 @@ impl<R: Rng> Work for RunOnce<'_, R> {
 
     ghost ends = { λ answer. outcome_of_run answer };
 
-    type Answer = Result<Pass, BoxFault>;
+    type Answer = Result<Pass, BoxFailure>;
 
     fn keywords(&self) -> &Keywords {
         &self.options.keywords
     }
 
-    fn over<O: Outside, P: Progress>(self, outside: &mut O, progress: &P) -> Result<Pass, BoxFault>
+    fn over<O: Outside, P: Progress>(
+        self,
+        outside: &mut O,
+        progress: &P,
+    ) -> Result<Pass, BoxFailure>
         requires map { O.keywords outside.old ≡ self.options.now.keywords }
         ensures done { OnOk result (FromOpening (O.honest outside.new)
             (first_on O.ours O.alone (O.seen outside.old).device self.entry.options.now) self.entry.options.now (R.stream self.entry.rng.now)
             (O.seen outside.old).device
             (IsOver (first_on O.ours O.alone (O.seen outside.old).device self.entry.options.now) (O.seen outside.new).device)) }
-        ensures stopped { result ≡ Err (BoxFault.Run RunFault.Stopped) → MetStops run_attempts (O.seen outside.old) (O.seen outside.new) }
+        ensures stopped { result ≡ Err (BoxFailure.Run RunFault.Stopped) → MetStops run_attempts (O.seen outside.old) (O.seen outside.new) }
     {
         settle_lent(self.alloc, outside, self.options, self.rng, progress)
     }
@@ -74,34 +78,37 @@ fn settle_lent<O: Outside, R: Rng, P: Progress>(
     options: &Options,
     rng: &mut R,
     progress: &P,
-) -> Result<Pass, BoxFault>
+) -> Result<Pass, BoxFailure>
     ghost opening: { Opening O.ours O.alone }
     requires map { O.keywords outside.old ≡ options.now.keywords }
     ensures done { OnOk result (O.honest outside.new → Inputs opening options.now (R.stream rng.old)
         → AtOpening opening (O.seen outside.old).device → IsOver opening (O.seen outside.new).device) }
     ensures names { IfErr result (NamesItsStep (journal_of (O.opened outside.new))) }
     ensures refused { IfErr result (NamesRefused (O.seen outside.new).is_broken (O.opened outside.new)) }
-    ensures stopped { result ≡ Err (BoxFault.Run RunFault.Stopped) → MetStops run_attempts (O.seen outside.old) (O.seen outside.new) }
+    ensures stopped { result ≡ Err (BoxFailure.Run RunFault.Stopped) → MetStops run_attempts (O.seen outside.old) (O.seen outside.new) }
 {
     match settle(alloc, outside, options, TRIES, rng, progress) {
         Ok(settled) => Ok(settled.last),
-        Err(RunFault::Refused(number)) => Err(BoxFault::Refused(number, step_of(outside, number))),
+        Err(RunFault::Refused(number)) => Err(BoxFailure::Refused(
+            number,
+            step_of(outside, number),
+        )),
         Err(RunFault::BadState(line)) => Err(at_step(outside, RunFault::BadState(line))),
         Err(RunFault::StoreFault(side, number)) => {
             Err(at_step(outside, RunFault::StoreFault(side, number)))
         }
-        Err(fault) => Err(BoxFault::Run(fault)),
+        Err(fault) => Err(BoxFailure::Run(fault)),
     }
 }
 
 /// A fault of the run, and the first step that is not logged of the plan that is pending, if one is.
-fn at_step<O: Outside>(outside: &mut O, fault: RunFault) -> BoxFault
-    ensures stopped { result ≡ BoxFault.Run RunFault.Stopped → fault ≡ RunFault.Stopped }
+fn at_step<O: Outside>(outside: &mut O, fault: RunFault) -> BoxFailure
+    ensures stopped { result ≡ BoxFailure.Run RunFault.Stopped → fault ≡ RunFault.Stopped }
     ensures names { NamesNext (journal_of (O.opened outside.new)) fault result }
 {
     match next_step(outside) {
-        Some((number, step)) => BoxFault::AtStep(fault, number, step),
-        None => BoxFault::Run(fault),
+        Some((number, step)) => BoxFailure::AtStep(fault, number, step),
+        None => BoxFailure::Run(fault),
     }
 }
 
@@ -121,7 +128,7 @@ fn next_step<O: Outside>(outside: &mut O) -> Option<(usize, Step)>
 /// The step of this number, counted from 1, of the plan that is pending, if the book can be read.
 fn step_of<O: Outside>(outside: &mut O, number: usize) -> Option<Step>
     ensures step { IfSome result (λ step. step_at number (journal_of (O.opened outside.new)) ≡ Some step) }
-    ensures refused { NamesRefused (O.seen outside.new).is_broken (O.opened outside.new) (BoxFault.Refused number result) }
+    ensures refused { NamesRefused (O.seen outside.new).is_broken (O.opened outside.new) (BoxFailure.Refused number result) }
 {
     outside.reopen();
     match outside.open_book() {

@@ -13,9 +13,9 @@ ghost use Rattle.channels.specs.Streams.{Extends, IsQuiet, Notes};
 
 use crate::channel_box::ChannelStores;
 use crate::finding::Found;
+use crate::run_stores::RunStores;
 use crate::store_fault::ListFault;
 use crate::stores::BoxLists;
-use crate::told_stores::ToldStores;
 use crate::verdict::Verdict;
 use box_patterns::patterns::Patterns;
 use config::config::{Boxes, Channel};
@@ -29,7 +29,7 @@ use std::io::Write;
 pub(crate) fn list_channel<S: BoxLists, O: Write, E: Write>(
     alloc: Global,
     of: ChannelStores<'_>,
-    stores: &mut ToldStores<'_, S, O, E>,
+    stores: &mut RunStores<'_, S, O, E>,
 ) -> io::Result<Verdict>
     requires going { stores.old.write_failed ≡ false }
     ensures unopened { IsPair of.entry.channel.now.boxes → stores.new.stores ≡ stores.old.stores }
@@ -51,7 +51,7 @@ pub(crate) fn list_channel<S: BoxLists, O: Write, E: Write>(
         }
         Boxes::Matching(patterns) => match matching(alloc, of, patterns, stores) {
             Ok(boxes) => list_boxes(stores, of, &boxes),
-            Err(fault) => stores.tell_unlisted(of, &fault),
+            Err(fault) => stores.report_unlisted(of, &fault),
         },
     }
 }
@@ -61,7 +61,7 @@ fn matching<S: BoxLists, O: Write, E: Write>(
     alloc: Global,
     of: ChannelStores<'_>,
     patterns: &Patterns,
-    stores: &mut ToldStores<'_, S, O, E>,
+    stores: &mut RunStores<'_, S, O, E>,
 ) -> Result<Vec<MailboxName>, ListFault>
     requires going { stores.old.write_failed ≡ false }
     ensures others { stores.new ≡ record stores.old { stores = stores.new.stores } }
@@ -77,7 +77,7 @@ fn matching<S: BoxLists, O: Write, E: Write>(
 /// Prints these mailboxes of a channel, after what its stores report beside.
 #[tactic(auto, using(crate::proofs::StreamLemmas::stream_steps, crate::proofs::StreamLemmas::quiet_steps))]
 fn list_boxes<S: BoxLists, O: Write, E: Write>(
-    stores: &mut ToldStores<'_, S, O, E>,
+    stores: &mut RunStores<'_, S, O, E>,
     of: ChannelStores<'_>,
     boxes: &[MailboxName],
 ) -> io::Result<Verdict>
@@ -90,14 +90,14 @@ fn list_boxes<S: BoxLists, O: Write, E: Write>(
     ensures asks { Asks S.noted S.asked stores.old.stores stores.new.stores [] }
     ensures clean { IfOk result (λ verdict. verdict ≡ Clean) }
 {
-    stores.tell_notices(of)?;
+    stores.report_notices(of)?;
     print_boxes(stores, of.channel, boxes)?;
     Ok(Verdict::Clean)
 }
 
 #[tactic(auto, using(crate::proofs::StreamLemmas::stream_steps, crate::proofs::StreamLemmas::quiet_steps))]
 fn print_boxes<S: BoxLists, O: Write, E: Write>(
-    stores: &mut ToldStores<'_, S, O, E>,
+    stores: &mut RunStores<'_, S, O, E>,
     channel: &Channel,
     boxes: &[MailboxName],
 ) -> io::Result<()>

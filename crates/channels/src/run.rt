@@ -11,14 +11,14 @@ ghost use Rattle.channels.specs.Streams.{Extends, HasNotices, IsQuiet, Notes};
 use crate::channel_box::ChannelStores;
 use crate::course::{Course, course_of};
 use crate::listing::list_channel;
+use crate::run_stores::RunStores;
 use crate::scope::options_of;
 use crate::settling::{ChannelWork, settle_channel};
 use crate::store_fault::ListFault;
 use crate::stores::Stores;
-use crate::told_stores::ToldStores;
 use crate::verdict::Verdict;
 use config::config::Config;
-use config::request::Request;
+use config::request::RunRequest;
 use rand_core::Rng;
 use rules::options::Cells;
 use std::alloc::{AllocError, Global};
@@ -30,7 +30,7 @@ use std::io::Write;
 struct LineWork<'a> {
     alloc: Global,
     config: &'a Config,
-    request: &'a Request,
+    request: &'a RunRequest,
 }
 
 /// Does what a command line asks for: lists the mailboxes of the channels that it names, or synchronises them one after another, and prints
@@ -42,7 +42,7 @@ struct LineWork<'a> {
 pub fn run_config<S: Stores, R: Rng, O: Write, E: Write>(
     alloc: Global,
     config: &Config,
-    request: &Request,
+    request: &RunRequest,
     stores: &mut S,
     rng: &mut R,
     out: &mut O,
@@ -63,7 +63,7 @@ pub fn run_config<S: Stores, R: Rng, O: Write, E: Write>(
         request,
     };
     match course_of(alloc, config, request) {
-        Ok(course) => run_told(work, &course, &mut ToldStores::new(stores, out, err), rng),
+        Ok(course) => run_reported(work, &course, &mut RunStores::new(stores, out, err), rng),
         Err(refusal) => match writeln!(err, "mbsync: {refusal}{}", refusal.advice()) {
             Ok(()) => refusal.status(),
             Err(_) => 1,
@@ -72,11 +72,11 @@ pub fn run_config<S: Stores, R: Rng, O: Write, E: Write>(
 }
 
 /// Lists or synchronises the mailboxes of these channels, and gives the exit status. Where a write failed, nothing was asked of the stores
-/// after it (`ToldStores`), and the status is 1.
-fn run_told<S: Stores, R: Rng, O: Write, E: Write>(
+/// after it (`RunStores`), and the status is 1.
+fn run_reported<S: Stores, R: Rng, O: Write, E: Write>(
     work: LineWork<'_>,
     course: &Course,
-    stores: &mut ToldStores<'_, S, O, E>,
+    stores: &mut RunStores<'_, S, O, E>,
     rng: &mut R,
 ) -> u8
     requires going { stores.old.write_failed ≡ false }
@@ -106,7 +106,7 @@ fn run_told<S: Stores, R: Rng, O: Write, E: Write>(
 fn run_course<S: Stores, R: Rng, O: Write, E: Write>(
     work: LineWork<'_>,
     course: &Course,
-    stores: &mut ToldStores<'_, S, O, E>,
+    stores: &mut RunStores<'_, S, O, E>,
     rng: &mut R,
 ) -> io::Result<Verdict>
     requires going { stores.old.write_failed ≡ false }
@@ -135,7 +135,7 @@ fn run_place<S: Stores, R: Rng, O: Write, E: Write>(
     work: LineWork<'_>,
     cells: Option<Cells>,
     place: usize,
-    stores: &mut ToldStores<'_, S, O, E>,
+    stores: &mut RunStores<'_, S, O, E>,
     rng: &mut R,
 ) -> io::Result<Verdict>
     requires going { stores.old.write_failed ≡ false }
@@ -152,7 +152,7 @@ fn run_place<S: Stores, R: Rng, O: Write, E: Write>(
         (SoFar result (IsPlaceAsked work.entry.config.now (ways_of work.entry.request.now cells) place)) }
 {
     let Some(of) = ChannelStores::at(work.config, place) else {
-        return stores.tell_no_channel();
+        return stores.print_no_channel();
     };
     if work.request.lists {
         return list_channel(work.alloc, of, stores);
@@ -166,6 +166,6 @@ fn run_place<S: Stores, R: Rng, O: Write, E: Write>(
             };
             settle_channel(channel_work, stores, rng)
         }
-        Err(AllocError) => stores.tell_list(&ListFault::NoMemory),
+        Err(AllocError) => stores.print_list(&ListFault::NoMemory),
     }
 }

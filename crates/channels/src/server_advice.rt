@@ -1,6 +1,6 @@
 //! What to do after a fault of an IMAP server, printed on a line that begins with two spaces.
 
-use crate::store_fault::ServerFault;
+use crate::store_fault::ConnectFault;
 use std::io;
 use std::io::{ErrorKind, Write};
 
@@ -8,35 +8,35 @@ use std::io::{ErrorKind, Write};
 pub(crate) fn advise_server<E: Write>(
     err: &mut E,
     store: &str,
-    why: ServerFault,
+    why: ConnectFault,
 ) -> io::Result<()> {
     match why {
-        ServerFault::Unreached(kind) => advise_unreached(err, store, kind),
-        ServerFault::Ended => writeln!(
+        ConnectFault::Unreached(kind) => advise_unreached(err, store, kind),
+        ConnectFault::Ended => writeln!(
             err,
             "  the connection to the server of IMAPStore {store} ended: run again"
         ),
-        ServerFault::Dismissed => writeln!(
+        ConnectFault::Dismissed => writeln!(
             err,
             "  the server of IMAPStore {store} ended the session: run again"
         ),
-        ServerFault::NoAnswer => writeln!(
+        ConnectFault::NoAnswer => writeln!(
             err,
             "  the server of IMAPStore {store} sent something that is not IMAP: is an IMAP server at its Host and Port?"
         ),
-        ServerFault::NoRev2 => writeln!(
+        ConnectFault::NoRev2 => writeln!(
             err,
             "  the server of IMAPStore {store} does not offer IMAP4rev2, which mbsync needs"
         ),
-        ServerFault::LoginRefused => writeln!(
+        ConnectFault::LoginRefused => writeln!(
             err,
             "  the server rejected the login: correct User or Pass of IMAPStore {store}, and run again"
         ),
-        ServerFault::Refused => writeln!(
+        ConnectFault::Refused => writeln!(
             err,
             "  the server of IMAPStore {store} refused a command after the login"
         ),
-        ServerFault::Unsendable => writeln!(
+        ConnectFault::Unsendable => writeln!(
             err,
             "  User or Pass of IMAPStore {store} has more than 1024 bytes, or characters that cannot be sent"
         ),

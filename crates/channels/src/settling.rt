@@ -9,16 +9,16 @@ ghost use Rattle.channels.specs.declared.verdict.Verdict.TheVariants.{Clean};
 ghost use Rattle.channels.specs.Asks.{Asks, AsksIfClean, Settles, SettlesFound, box_asked, boxes_asked, makings, run_attempts};
 ghost use Rattle.channels.specs.Boxes.{Rises};
 ghost use Rattle.channels.specs.Courses.{FindsAbsence, Follows, Goes, InOrder, IsBoxAsked, IsChannelAsked, IsFoundAsked, IsNamedAsked, IsRunAsked, Makes, SoFar, asking_if, is_over};
-ghost use Rattle.channels.specs.Outcomes.{IsAbsence, IsAbsenceOf, IsToldOf, has_void, is_void, outcome_of, outcome_of_box_fault, outcome_of_pass};
+ghost use Rattle.channels.specs.Outcomes.{IsAbsence, IsAbsenceOf, IsReportedOf, has_void, is_void, outcome_of, outcome_of_box_fault, outcome_of_pass};
 ghost use Rattle.channels.specs.Streams.{Extends, IsPrinted, IsQuiet, Notes};
 ghost use Rattle.reports.specs.Answers.{answer_of};
 
 use crate::channel_box::{ChannelBox, ChannelStores};
-use crate::fault::BoxFault;
+use crate::fault::BoxFailure;
 use crate::finding::Found;
+use crate::run_stores::RunStores;
 use crate::scope::uncovered;
 use crate::stores::Stores;
-use crate::told_stores::ToldStores;
 use crate::verdict::Verdict;
 use config::config::Boxes;
 use mailcore::mailbox_name::MailboxName;
@@ -47,7 +47,7 @@ pub(crate) struct ChannelWork<'a> {
 /// Synchronises a channel's mailboxes, one after another.
 pub(crate) fn settle_channel<S: Stores, R: Rng, O: Write, E: Write>(
     work: ChannelWork<'_>,
-    stores: &mut ToldStores<'_, S, O, E>,
+    stores: &mut RunStores<'_, S, O, E>,
     rng: &mut R,
 ) -> io::Result<Verdict>
     requires going { stores.old.write_failed ≡ false }
@@ -64,10 +64,10 @@ pub(crate) fn settle_channel<S: Stores, R: Rng, O: Write, E: Write>(
 {
     match Found::of(work.of, stores) {
         Ok(found) => {
-            stores.tell_notices(work.of)?;
+            stores.report_notices(work.of)?;
             settle_found(work, &found, stores, rng)
         }
-        Err(fault) => stores.tell_unlisted(work.of, &fault),
+        Err(fault) => stores.report_unlisted(work.of, &fault),
     }
 }
 
@@ -75,7 +75,7 @@ pub(crate) fn settle_channel<S: Stores, R: Rng, O: Write, E: Write>(
 fn settle_found<S: Stores, R: Rng, O: Write, E: Write>(
     work: ChannelWork<'_>,
     found: &Found,
-    stores: &mut ToldStores<'_, S, O, E>,
+    stores: &mut RunStores<'_, S, O, E>,
     rng: &mut R,
 ) -> io::Result<Verdict>
     requires rising { Rises found.now.far.items × Rises found.now.near.items }
@@ -104,7 +104,7 @@ fn settle_found<S: Stores, R: Rng, O: Write, E: Write>(
         }
         Boxes::Matching(patterns) => match found.matching(work.alloc, patterns) {
             Ok(boxes) => settle_boxes(work, found, &boxes, stores, rng),
-            Err(fault) => stores.tell_list(&fault),
+            Err(fault) => stores.print_list(&fault),
         },
     }
 }
@@ -115,7 +115,7 @@ fn settle_boxes<S: Stores, R: Rng, O: Write, E: Write>(
     work: ChannelWork<'_>,
     found: &Found,
     boxes: &[MailboxName],
-    stores: &mut ToldStores<'_, S, O, E>,
+    stores: &mut RunStores<'_, S, O, E>,
     rng: &mut R,
 ) -> io::Result<Verdict>
     requires rising { Rises found.now.far.items × Rises found.now.near.items }
@@ -153,7 +153,7 @@ fn settle_box<S: Stores, R: Rng, O: Write, E: Write>(
     work: ChannelWork<'_>,
     place: ChannelBox<'_>,
     absent: Sides,
-    stores: &mut ToldStores<'_, S, O, E>,
+    stores: &mut RunStores<'_, S, O, E>,
     rng: &mut R,
 ) -> io::Result<Verdict>
     requires going { stores.old.write_failed ≡ false }
@@ -169,7 +169,7 @@ fn settle_box<S: Stores, R: Rng, O: Write, E: Write>(
         (SoFar result (IsBoxAsked work.entry.options.now (place_of place.entry) absent)) }
 {
     let verdict = make_and_run(work, place, absent, stores, rng)?;
-    stores.tell_notices(place.of)?;
+    stores.report_notices(place.of)?;
     Ok(verdict)
 }
 
@@ -179,7 +179,7 @@ fn make_and_run<S: Stores, R: Rng, O: Write, E: Write>(
     work: ChannelWork<'_>,
     place: ChannelBox<'_>,
     absent: Sides,
-    stores: &mut ToldStores<'_, S, O, E>,
+    stores: &mut RunStores<'_, S, O, E>,
     rng: &mut R,
 ) -> io::Result<Verdict>
     requires going { stores.old.write_failed ≡ false }
@@ -196,10 +196,10 @@ fn make_and_run<S: Stores, R: Rng, O: Write, E: Write>(
 {
     match make_absent(place, absent, stores) {
         Ok(()) => {
-            stores.tell_notices(place.of)?;
+            stores.report_notices(place.of)?;
             run_box(work, place, stores, rng)
         }
-        Err(fault) => stores.tell(place, &fault),
+        Err(fault) => stores.report(place, &fault),
     }
 }
 
@@ -208,7 +208,7 @@ fn make_and_run<S: Stores, R: Rng, O: Write, E: Write>(
 fn run_box<S: Stores, R: Rng, O: Write, E: Write>(
     work: ChannelWork<'_>,
     place: ChannelBox<'_>,
-    stores: &mut ToldStores<'_, S, O, E>,
+    stores: &mut RunStores<'_, S, O, E>,
     rng: &mut R,
 ) -> io::Result<Verdict>
     requires going { stores.old.write_failed ≡ false }
@@ -227,9 +227,9 @@ fn run_box<S: Stores, R: Rng, O: Write, E: Write>(
     match stores.settle(work.alloc, place, work.options, rng) {
         Ok(pass) => {
             let verdict = print_answer(work.alloc, place, &pass, stores)?;
-            Ok(verdict.and(tell_left_out(place, stores)?))
+            Ok(verdict.and(report_left_out(place, stores)?))
         }
-        Err(failure) => stores.tell_failure(place, &failure),
+        Err(failure) => stores.report_failure(place, &failure),
     }
 }
 
@@ -240,10 +240,10 @@ fn run_box<S: Stores, R: Rng, O: Write, E: Write>(
 fn make_absent<S: Stores, O: Write, E: Write>(
     place: ChannelBox<'_>,
     absent: Sides,
-    stores: &mut ToldStores<'_, S, O, E>,
-) -> Result<(), BoxFault>
+    stores: &mut RunStores<'_, S, O, E>,
+) -> Result<(), BoxFailure>
     requires going { stores.old.write_failed ≡ false }
-    ensures told { IfSome (uncovered absent place.entry.of.channel.now.create) (λ side. IsAbsenceOf side result) }
+    ensures reported { IfSome (uncovered absent place.entry.of.channel.now.create) (λ side. IsAbsenceOf side result) }
     ensures others { stores.new ≡ record stores.old { stores = stores.new.stores } }
     ensures stores { stores.new.stores.ghost_name ≡ stores.old.stores.ghost_name }
     ensures asks { OnOk result (S.asked stores.new.stores.now
@@ -263,18 +263,18 @@ fn make_absent<S: Stores, O: Write, E: Write>(
 fn absence<S: Stores, O: Write, E: Write>(
     side: Side,
     place: ChannelBox<'_>,
-    stores: &mut ToldStores<'_, S, O, E>,
-) -> BoxFault
+    stores: &mut RunStores<'_, S, O, E>,
+) -> BoxFailure
     requires going { stores.old.write_failed ≡ false }
     ensures others { stores.new ≡ record stores.old { stores = stores.new.stores } }
     ensures stores { stores.new.stores.ghost_name ≡ stores.old.stores.ghost_name }
-    ensures told { IsAbsence side result }
+    ensures reported { IsAbsence side result }
     ensures ends { outcome_of_box_fault result ≡ Failed }
     ensures asked { FindsAbsence S.noted (place_of place.entry) side result (S.asked stores.old.stores.now) (S.asked stores.new.stores.now) }
 {
     match stores.has_state(place) {
-        Ok(true) => BoxFault::Removed(side),
-        Ok(false) | Err(_) => BoxFault::Absent(side),
+        Ok(true) => BoxFailure::Removed(side),
+        Ok(false) | Err(_) => BoxFailure::Absent(side),
     }
 }
 
@@ -282,8 +282,8 @@ fn absence<S: Stores, O: Write, E: Write>(
 fn find_new<S: Stores, O: Write, E: Write>(
     place: ChannelBox<'_>,
     absent: Sides,
-    stores: &mut ToldStores<'_, S, O, E>,
-) -> Result<(), BoxFault>
+    stores: &mut RunStores<'_, S, O, E>,
+) -> Result<(), BoxFailure>
     requires going { stores.old.write_failed ≡ false }
     ensures others { stores.new ≡ record stores.old { stores = stores.new.stores } }
     ensures stores { stores.new.stores.ghost_name ≡ stores.old.stores.ghost_name }
@@ -294,7 +294,7 @@ fn find_new<S: Stores, O: Write, E: Write>(
         return Ok(());
     };
     if stores.has_state(place)? {
-        return Err(BoxFault::Removed(side));
+        return Err(BoxFailure::Removed(side));
     }
     Ok(())
 }
@@ -304,8 +304,8 @@ fn make_side<S: Stores, O: Write, E: Write>(
     side: Side,
     is_absent: bool,
     place: ChannelBox<'_>,
-    stores: &mut ToldStores<'_, S, O, E>,
-) -> Result<(), BoxFault>
+    stores: &mut RunStores<'_, S, O, E>,
+) -> Result<(), BoxFailure>
     requires going { stores.old.write_failed ≡ false }
     requires covered { is_absent ≡ true → covers place.of.channel.now.create side ≡ true }
     ensures others { stores.new ≡ record stores.old { stores = stores.new.stores } }
@@ -333,9 +333,9 @@ fn first_of(sides: Sides) -> Option<Side>
 }
 
 /// Reports which near files a run left out.
-fn tell_left_out<S: Stores, O: Write, E: Write>(
+fn report_left_out<S: Stores, O: Write, E: Write>(
     place: ChannelBox<'_>,
-    stores: &mut ToldStores<'_, S, O, E>,
+    stores: &mut RunStores<'_, S, O, E>,
 ) -> io::Result<Verdict>
     requires going { stores.old.write_failed ≡ false }
     ensures out { stores.new.out ≡ stores.old.out }
@@ -343,18 +343,18 @@ fn tell_left_out<S: Stores, O: Write, E: Write>(
     ensures quiet { IfOk result (IsQuiet (E.contents stores.old.err.now) (E.contents stores.new.err.now)) }
     ensures failed { Notes false stores.new.write_failed result }
     ensures asks { Asks S.noted S.asked stores.old.stores stores.new.stores [] }
-    ensures goes_on { IfOk result (IsToldOf Done) }
+    ensures goes_on { IfOk result (IsReportedOf Done) }
 {
     let paths = stores.left_out();
-    tell_paths(place, paths, stores)
+    report_paths(place, paths, stores)
 }
 
 /// Reports these near files, which a run left out. Each is a fault.
 #[tactic(auto, using(crate::proofs::StreamLemmas::stream_steps, crate::proofs::StreamLemmas::quiet_steps))]
-fn tell_paths<S: Stores, O: Write, E: Write>(
+fn report_paths<S: Stores, O: Write, E: Write>(
     place: ChannelBox<'_>,
     paths: Vec<String>,
-    stores: &mut ToldStores<'_, S, O, E>,
+    stores: &mut RunStores<'_, S, O, E>,
 ) -> io::Result<Verdict>
     requires going { stores.old.write_failed ≡ false }
     ensures out { stores.new.out ≡ stores.old.out }
@@ -362,14 +362,14 @@ fn tell_paths<S: Stores, O: Write, E: Write>(
     ensures quiet { IfOk result (IsQuiet (E.contents stores.old.err.now) (E.contents stores.new.err.now)) }
     ensures failed { Notes false stores.new.write_failed result }
     ensures asks { Asks S.noted S.asked stores.old.stores stores.new.stores [] }
-    ensures told { IfOk result (λ verdict. verdict ≡ Clean → paths.items ≡ []) }
-    ensures goes_on { IfOk result (IsToldOf Done) }
+    ensures reported { IfOk result (λ verdict. verdict ≡ Clean → paths.items ≡ []) }
+    ensures goes_on { IfOk result (IsReportedOf Done) }
 {
     if paths.is_empty() {
         return Ok(Verdict::Clean);
     }
     for path in paths {
-        stores.tell(place, &BoxFault::LeftOut(path))?;
+        stores.report(place, &BoxFailure::LeftOut(path))?;
     }
     Ok(Verdict::Faulty)
 }
@@ -380,7 +380,7 @@ fn print_answer<S: Stores, O: Write, E: Write>(
     alloc: Global,
     place: ChannelBox<'_>,
     pass: &Pass,
-    stores: &mut ToldStores<'_, S, O, E>,
+    stores: &mut RunStores<'_, S, O, E>,
 ) -> io::Result<Verdict>
     requires going { stores.old.write_failed ≡ false }
     ensures out { stores.new.out.ghost_name ≡ stores.old.out.ghost_name }
@@ -390,7 +390,7 @@ fn print_answer<S: Stores, O: Write, E: Write>(
     ensures failed { Notes false stores.new.write_failed result }
     ensures text { IfOk result (IsPrinted (answer_of pass.now) (O.contents stores.old.out.now) (O.contents stores.new.out.now)) }
     ensures asks { Asks S.noted S.asked stores.old.stores stores.new.stores [] }
-    ensures tells { IfOk result (IsToldOf (outcome_of_pass pass.now)) }
+    ensures states { IfOk result (IsReportedOf (outcome_of_pass pass.now)) }
 {
     match answer_text(alloc, pass) {
         Ok(text) => {
@@ -401,7 +401,7 @@ fn print_answer<S: Stores, O: Write, E: Write>(
                 Verdict::Clean
             })
         }
-        Err(_) => stores.tell(place, &BoxFault::Run(RunFault::NoMemory)),
+        Err(_) => stores.report(place, &BoxFailure::Run(RunFault::NoMemory)),
     }
 }
 

@@ -1,13 +1,13 @@
 //! What stopped a run, where it is known.
 
-use crate::store_fault::ServerFault;
+use crate::store_fault::ConnectFault;
 use device::trouble::Trouble;
 
 /// What stopped a run.
 #[derive(Drop)]
 pub enum StopCause {
     /// The server of the IMAP store of this name: `Unreached`, `Ended`, `NoAnswer` or `Dismissed`.
-    Server(String, ServerFault),
+    Server(String, ConnectFault),
     /// The system said this of what stands at this path.
     Disk(String, Trouble),
     /// The server of the IMAP store of this name is to give UIDs of a mailbox from the first number on, and has given the second one before:

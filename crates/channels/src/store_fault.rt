@@ -6,7 +6,7 @@ use thiserror::Error;
 
 /// Why the server of an IMAP store does not open.
 #[derive(Clone, Copy, Debug, PartialEq, Eq)]
-pub enum ServerFault {
+pub enum ConnectFault {
     /// It cannot be reached. What the system says, where that is known.
     Unreached(Option<ErrorKind>),
     /// The connection to it ended.
@@ -34,7 +34,7 @@ pub enum ListFault {
     CannotOpen(String, &'static str),
     /// The same of the server of the IMAP store of this name.
     #[error("cannot open {0}")]
-    Server(String, ServerFault),
+    Server(String, ConnectFault),
     /// A growth was refused.
     #[error("no memory")]
     NoMemory,
@@ -49,7 +49,7 @@ pub enum StoreFault {
     CannotOpen(String, &'static str),
     /// The same of the server of the IMAP store of this name.
     #[error("cannot open {0}")]
-    Server(String, ServerFault),
+    Server(String, ConnectFault),
     /// Another process holds the lock of the near mailbox.
     #[error("locked")]
     Locked,

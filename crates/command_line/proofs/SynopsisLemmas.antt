@@ -9,7 +9,7 @@ use Rattle.clap.specs.Walk.{Text}
 use Rattle.clap.specs.declared.error.Error.{Error}
 use Rattle.clap.specs.declared.error.kind.ErrorKind.TheVariants.{OutOfMemory}
 use Rattle.clap.proofs.OnLiterals.{clap_on_literals}
-use Rattle.command_line.specs.ClapFaults.{Tells}
+use Rattle.command_line.specs.ClapFaults.{Reports}
 use Rattle.command_line.specs.Requests.{IsFault}
 use Rattle.command_line.specs.Synopsis.{synopsis}
 use Rattle.command_line.specs.declared.fault.UsageFault.{UsageFault}
@@ -37,11 +37,11 @@ among : (words : List Text) (error : Error) → (kind_of error ≡ OutOfMemory �
 among words error other (inl memory) = absurd (other memory)
 among words error other (inr kind) = kind
 
-pub told_is_fault : (words : List Text) (error : Error) (fault : UsageFault) → Tells error fault
+pub reported_is_fault : (words : List Text) (error : Error) (fault : UsageFault) → Reports error fault
     → (takes synopsis words ≡ true → kind_of error ≡ OutOfMemory) → HasKind (fault_of synopsis words) error
     → IsFault words fault
-told_is_fault words error (Line told) tells passes kind =
-    subst (λ (e : Error). IsFault words (Line e)) (sym tells.0) (not_taken words error tells.1 passes, among words error tells.1 kind)
-told_is_fault words error NoChannel tells passes kind = absurd tells
-told_is_fault words error SyncWords tells passes kind = absurd tells
-told_is_fault words error NoMemory tells passes kind = tt
+reported_is_fault words error (Line reported) states passes kind =
+    subst (λ (e : Error). IsFault words (Line e)) (sym states.0) (not_taken words error states.1 passes, among words error states.1 kind)
+reported_is_fault words error NoChannel states passes kind = absurd states
+reported_is_fault words error SyncWords states passes kind = absurd states
+reported_is_fault words error NoMemory states passes kind = tt

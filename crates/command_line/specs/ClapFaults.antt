@@ -9,12 +9,12 @@ use Rattle.command_line.specs.declared.fault.UsageFault.{UsageFault}
 use Rattle.command_line.specs.declared.fault.UsageFault.TheVariants.{Line, NoChannel, SyncWords, NoMemory}
 
 -- an error of `clap` other than `OutOfMemory` is a fault of the line
-abbrev pub Tells : Error → UsageFault → Type 0
-Tells error (Line told) = (told ≡ error) × (kind_of error ≢ OutOfMemory)
-Tells error NoChannel = ⊥
-Tells error SyncWords = ⊥
-Tells error NoMemory = kind_of error ≡ OutOfMemory
+abbrev pub Reports : Error → UsageFault → Type 0
+Reports error (Line reported) = (reported ≡ error) × (kind_of error ≢ OutOfMemory)
+Reports error NoChannel = ⊥
+Reports error SyncWords = ⊥
+Reports error NoMemory = kind_of error ≡ OutOfMemory
 
-abbrev pub refusal_told : CellsFault → UsageFault
-refusal_told (cells.Refused fault) = SyncWords
-refusal_told cells.NoMemory = NoMemory
+abbrev pub refusal_reported : CellsFault → UsageFault
+refusal_reported (cells.Refused fault) = SyncWords
+refusal_reported cells.NoMemory = NoMemory

@@ -6,7 +6,7 @@ use Rattle.clap.specs.Walk.{Text, first_of}
 use Rattle.clap.specs.declared.error.kind.ErrorKind.TheVariants as kind
 use Rattle.clap.proofs.OnLiterals.{clap_on_literals}
 use Rattle.mailcore.specs.declared.side.Direction.TheVariants.{Pull}
-use Rattle.rules.specs.declared.sync_words.Kind.TheVariants.{New}
+use Rattle.rules.specs.declared.sync_words.SyncType.TheVariants.{New}
 use Rattle.rules.specs.declared.sync_words.SyncWord.{SyncWord}
 use Rattle.rules.specs.declared.sync_words.SyncWord.TheVariants.{Nothing, Sort, Way}
 use Rattle.command_line.specs.Requests.{IsTaken, NamesNone, found_in, names_in, stands, sync_words_in}

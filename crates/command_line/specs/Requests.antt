@@ -12,7 +12,7 @@ use Rattle.clap.specs.declared.parser.matches.ValueSource.{ValueSource}
 use Rattle.clap.specs.declared.parser.matches.ValueSource.TheVariants.{DefaultValue, CommandLine}
 use Rattle.rules.specs.declared.sync_words.SyncWord.{SyncWord}
 use Rattle.config.specs.Cells.{line_cells}
-use Rattle.config.specs.declared.request.Request.{Request}
+use Rattle.config.specs.declared.request.RunRequest.{RunRequest}
 use Rattle.config.specs.declared.request.Chosen.{Chosen}
 use Rattle.config.specs.declared.request.Chosen.TheVariants.{All, Named}
 use Rattle.command_line.specs.SyncFlags.{sync_flags, flag_name, flag_word}
@@ -52,7 +52,7 @@ abbrev pub AreTaken : List SyncWord → Type 0
 AreTaken words = IsOk (line_cells words)
 
 -- the request is what was found
-pub record IsFound (rows : List Row) (request : Request) : Type 0 where
+pub record IsFound (rows : List Row) (request : RunRequest) : Type 0 where
   pub file : option_map string_bytes request.file ≡ first_of (codes "file") rows
   pub chosen : IsChosen rows request.chosen
   pub lists : request.lists ≡ stands rows (codes "list")
@@ -70,7 +70,7 @@ abbrev pub found_in : List Text → List Row
 found_in words = matches_of synopsis words
 
 -- what the words ask for
-abbrev pub IsRequest : List Text → Request → Type 0
+abbrev pub IsRequest : List Text → RunRequest → Type 0
 IsRequest words request = IsTaken words × IsFound (found_in words) request
 
 abbrev pub NamesNone : List Row → Type 0

@@ -1,7 +1,7 @@
 -- The flags of the command line that are Sync words.
 use Rattle.std.specs.Prelude.{ℕ, List, [], ◌∷◌, codes}
 use Rattle.mailcore.specs.declared.side.Direction.TheVariants as direction
-use Rattle.rules.specs.declared.sync_words.Kind.TheVariants as kind
+use Rattle.rules.specs.declared.sync_words.SyncType.TheVariants as kind
 use Rattle.rules.specs.declared.sync_words.SyncWord.{SyncWord}
 use Rattle.rules.specs.declared.sync_words.SyncWord.TheVariants as word
 use Rattle.command_line.specs.declared.sync_flag.SyncFlag.{SyncFlag}

@@ -25,9 +25,9 @@ pub enum UsageFault {
 
 impl From<clap::Error> for UsageFault {
     ghost use Rattle.std.specs.Prelude.{◌≡◌};
-    ghost use Rattle.command_line.specs.ClapFaults.{Tells};
+    ghost use Rattle.command_line.specs.ClapFaults.{Reports};
 
-    ghost from_gives = { Tells };
+    ghost from_gives = { Reports };
 
     fn from(error: clap::Error) -> UsageFault {
         match error.kind() {
@@ -60,10 +60,10 @@ impl<T: Drop> From<AllocFailed<T>> for UsageFault {
 }
 
 impl From<CellsFault> for UsageFault {
-    ghost use Rattle.command_line.specs.ClapFaults.{refusal_told};
+    ghost use Rattle.command_line.specs.ClapFaults.{refusal_reported};
     ghost use Rattle.std.specs.Prelude.{◌≡◌};
 
-    ghost from_gives = { λ fault told. told ≡ refusal_told fault };
+    ghost from_gives = { λ fault reported. reported ≡ refusal_reported fault };
 
     fn from(fault: CellsFault) -> UsageFault {
         match fault {

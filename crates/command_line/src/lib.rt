@@ -3,6 +3,6 @@
 
 pub mod fault;
 pub mod read;
+pub mod report;
 mod sync_flag;
 mod synopsis;
-pub mod tell;

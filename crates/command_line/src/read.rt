@@ -12,7 +12,7 @@ use crate::synopsis::command;
 use clap::ArgMatches;
 use clap::parser::ValueSource;
 use config::cells::cells;
-use config::request::{Chosen, Request};
+use config::request::{Chosen, RunRequest};
 use rules::sync_words::SyncWord;
 use std::alloc::{AllocError, Global};
 use std::convert::AsStr;
@@ -21,7 +21,7 @@ use std::convert::AsStr;
 ///
 /// `Line`: `clap` does not take the words, or they ask for help. `NoChannel`: they have neither a name nor `-a`.
 /// `SyncWords`: the flags of Sync are refused together. The first of these is reported. `NoMemory`: memory ran out.
-pub fn read_words<S: AsStr>(alloc: Global, words: &[S]) -> Result<Request, UsageFault>
+pub fn read_words<S: AsStr>(alloc: Global, words: &[S]) -> Result<RunRequest, UsageFault>
     ensures ok { IfOk result (IsRequest (map S.text words.now)) }
     ensures err { IfErr result (IsFault (map S.text words.now)) }
 {
@@ -40,14 +40,14 @@ fn found<'a, S: AsStr>(alloc: Global, words: &'a [S]) -> Result<ArgMatches<'a>, 
 }
 
 /// The request that was found.
-fn requested(alloc: Global, matches: &ArgMatches<'_>) -> Result<Request, UsageFault>
+fn requested(alloc: Global, matches: &ArgMatches<'_>) -> Result<RunRequest, UsageFault>
     ensures ok { IfOk result (IsFound (rows_of (found_of matches.now))) }
     ensures err { IfErr result (IsUnfit (rows_of (found_of matches.now))) }
 {
     let chosen = chosen(alloc, matches)?;
     let sync_words = sync_words(alloc, matches)?;
     cells(alloc, &sync_words)?;
-    Ok(Request {
+    Ok(RunRequest {
         file: file(alloc, matches)?,
         chosen,
         lists: stands(matches, "list"),

@@ -4,7 +4,7 @@ ghost use Rattle.std.specs.Prelude.{◌≡◌};
 ghost use Rattle.command_line.specs.SyncFlags.{flag_name, flag_word};
 
 use mailcore::side::Direction;
-use rules::sync_words::{Kind, SyncWord};
+use rules::sync_words::{SyncType, SyncWord};
 
 /// A flag that is a Sync word.
 #[derive(Clone, Copy, PartialEq, Eq)]
@@ -59,9 +59,9 @@ impl SyncFlag {
         match self {
             SyncFlag::Pull => SyncWord::Way(Direction::Pull),
             SyncFlag::Push => SyncWord::Way(Direction::Push),
-            SyncFlag::New => SyncWord::Sort(Kind::New),
-            SyncFlag::Gone => SyncWord::Sort(Kind::Gone),
-            SyncFlag::Flags => SyncWord::Sort(Kind::Flags),
+            SyncFlag::New => SyncWord::Sort(SyncType::New),
+            SyncFlag::Gone => SyncWord::Sort(SyncType::Gone),
+            SyncFlag::Flags => SyncWord::Sort(SyncType::Flags),
             SyncFlag::Full => SyncWord::Full,
             SyncFlag::Noop => SyncWord::Nothing,
         }

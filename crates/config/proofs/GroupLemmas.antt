@@ -23,11 +23,11 @@ name_more items new m name before names grown is known =
     ap (λ (l : List Member). map member_name l) grown ∙ (map-append member_name items (m ∷ []) ∙ (step ∙ append_assoc before names (name ∷ [])))
 
 -- one place more
-pub place_more : (f : List ℕ → Option ℕ) (places new : List ℕ) (place : ℕ) (left behind : List Member) (m : Member) (all : List (Option ℕ))
-    → new ≡ places ++ place ∷ [] → left ≡ m ∷ behind → Some place ≡ f (member_name m)
-    → map Some places ++ map f (map member_name left) ≡ all → map Some new ++ map f (map member_name behind) ≡ all
-place_more f places new place left behind m all grown next found known =
-    let rest : List (Option ℕ) = map f (map member_name behind) in
+pub place_more : (f : List ℕ → Option ℕ) (places new : List ℕ) (place : ℕ) (left following : List Member) (m : Member) (all : List (Option ℕ))
+    → new ≡ places ++ place ∷ [] → left ≡ m ∷ following → Some place ≡ f (member_name m)
+    → map Some places ++ map f (map member_name left) ≡ all → map Some new ++ map f (map member_name following) ≡ all
+place_more f places new place left following m all grown next found known =
+    let rest : List (Option ℕ) = map f (map member_name following) in
     ap (λ (l : List ℕ). map Some l ++ rest) grown
     ∙ (ap (λ (l : List (Option ℕ)). l ++ rest) (map-append Some places (place ∷ []))
     ∙ (append_assoc (map Some places) (Some place ∷ []) rest

@@ -5,10 +5,10 @@ use Rattle.std.specs.List.{list_all}
 use Rattle.mailcore.specs.declared.keywords.Keyword as mail
 use Rattle.config_words.specs.declared.fault.FaultKind.{FaultKind}
 use Rattle.config_words.specs.declared.fault.FaultKind.TheVariants.{OutsideSection, KeywordTwice}
-use Rattle.config_words.specs.declared.keyword.Keyword.{Keyword}
-use Rattle.config_words.specs.declared.keyword.Keyword.TheVariants as keyword
-use Rattle.config_words.specs.declared.keyword.Place.{Place}
-use Rattle.config_words.specs.declared.keyword.Place.TheVariants.{Start, Between, ImapStore, MaildirStore, Channel, Group}
+use Rattle.config_words.specs.declared.keyword.FirstWord.{FirstWord}
+use Rattle.config_words.specs.declared.keyword.FirstWord.TheVariants as keyword
+use Rattle.config_words.specs.declared.keyword.LinePlace.{LinePlace}
+use Rattle.config_words.specs.declared.keyword.LinePlace.TheVariants.{Start, Between, ImapStore, MaildirStore, Channel, Group}
 use Rattle.config_words.specs.Keywords.{fits_at, section_of}
 use Rattle.config_words.specs.Meanings.{Said, PortIs, PathIs, FarIs, NearIs, CreateIs, ExpungeIs, PatternsAre, SyncIs, ChannelsAre, SaysNothing, all_said, cells_of, names_a_box, one_said, only_said, path_of, patterns_of, place_of, port_of, said, said_of, sides_of, some_of}
 use Rattle.config_words.specs.declared.setting.Setting.{Setting}
@@ -30,13 +30,13 @@ mapped : {A : Type 0} (f : A → Said) (o : Option A) → ((x : A) → keyword_i
 mapped f None none = refl
 mapped f (Some x) none = none x
 
-only_none : (k : Keyword) (texts : List (List ℕ)) → ((text : List ℕ) → option_and_then keyword_in (one_said k text) ≡ None)
+only_none : (k : FirstWord) (texts : List (List ℕ)) → ((text : List ℕ) → option_and_then keyword_in (one_said k text) ≡ None)
     → option_and_then keyword_in (only_said k texts) ≡ None
 only_none k [] none = refl
 only_none k (text ∷ []) none = none text
 only_none k (text ∷ more ∷ texts) none = refl
 
-all_none : (k : Keyword) (texts : List (List ℕ)) → (k ≡ keyword.Keyword → ⊥) → option_and_then keyword_in (all_said k texts) ≡ None
+all_none : (k : FirstWord) (texts : List (List ℕ)) → (k ≡ keyword.Keyword → ⊥) → option_and_then keyword_in (all_said k texts) ≡ None
 all_none keyword.Keyword texts other = absurd (other refl)
 all_none keyword.Group [] other = refl
 all_none keyword.Group (name ∷ channels) other = refl
@@ -78,23 +78,23 @@ nothing_given (Some fault) given none = refl
 nothing_given None given none = none
 
 -- other words than Keyword give none
-other_gives : (k : Keyword) (text : List ℕ) → (k ≡ keyword.Keyword → ⊥) → keyword_from (said k (arguments_of text).list) text ≡ None
+other_gives : (k : FirstWord) (text : List ℕ) → (k ≡ keyword.Keyword → ⊥) → keyword_from (said k (arguments_of text).list) text ≡ None
 other_gives k text other =
     nothing_from (said k (arguments_of text).list) text
     (tested (list_all is_argument (arguments_of text).list) (all_said k (arguments_of text).list) (all_none k (arguments_of text).list other))
 
 -- nor does the first line of a section
-pub section_gives : (k : Keyword) (text : List ℕ) → IsSome (section_of k) → keyword_from (said k (arguments_of text).list) text ≡ None
+pub section_gives : (k : FirstWord) (text : List ℕ) → IsSome (section_of k) → keyword_from (said k (arguments_of text).list) text ≡ None
 section_gives keyword.Keyword text begins = cc
 section_gives k text begins = other_gives k text (λ is. cc)
 
 -- ---- what they leave
 
 -- nothing has changed, and nothing is said again
-abbrev pub StaysAt : Place → Option mail.Keyword → Standing → Type 0
+abbrev pub StaysAt : LinePlace → Option mail.Keyword → Standing → Type 0
 StaysAt at given s = (with_keyword_at at given s ≡ s) × (keyword_again at given s ≡ None)
 
-pub none_stays : (at : Place) (s : Standing) → StaysAt at None s
+pub none_stays : (at : LinePlace) (s : Standing) → StaysAt at None s
 none_stays Start s = (refl, refl)
 none_stays Between s = (refl, refl)
 none_stays ImapStore s = (refl, refl)
@@ -102,10 +102,10 @@ none_stays MaildirStore s = (refl, refl)
 none_stays Channel s = (refl, refl)
 none_stays Group s = (refl, refl)
 
-pub none_stays_so : (at : Place) (given : Option mail.Keyword) (s : Standing) → given ≡ None → StaysAt at given s
+pub none_stays_so : (at : LinePlace) (given : Option mail.Keyword) (s : Standing) → given ≡ None → StaysAt at given s
 none_stays_so at given s none = subst (λ (k : Option mail.Keyword). StaysAt at k s) (sym none) (none_stays at s)
 
-outside_stays : (at : Place) (given : Option mail.Keyword) (s : Standing) → fits_at at keyword.Keyword ≡ false → StaysAt at given s
+outside_stays : (at : LinePlace) (given : Option mail.Keyword) (s : Standing) → fits_at at keyword.Keyword ≡ false → StaysAt at given s
 outside_stays Start given s outside = cc
 outside_stays Between given s outside = (refl, refl)
 outside_stays ImapStore given s outside = (refl, refl)
@@ -114,7 +114,7 @@ outside_stays Channel given s outside = cc
 outside_stays Group given s outside = (refl, refl)
 
 -- a misplaced line gives no keyword
-pub misplaced_stays : (at : Place) (k : Keyword) (fault : FaultKind) (text : List ℕ) (s : Standing) → IsMisplaced at k fault
+pub misplaced_stays : (at : LinePlace) (k : FirstWord) (fault : FaultKind) (text : List ℕ) (s : Standing) → IsMisplaced at k fault
     → StaysAt at (keyword_from (said k (arguments_of text).list) text) s
 misplaced_stays at keyword.Keyword OutsideSection text s misplaced = outside_stays at _ s misplaced
 misplaced_stays at keyword.Keyword KeywordTwice text s misplaced = cc

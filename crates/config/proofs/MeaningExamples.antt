@@ -1,8 +1,8 @@
 -- What some lines mean: both sides compute to the same.
 use Rattle.std.specs.Prelude.{◌≡◌, true, false, List, [], ◌∷◌, ◌++◌, Some, None, codes, refl}
 use Rattle.config.specs.declared.config.Boxes.TheVariants.{Pair, Matching}
-use Rattle.config_words.specs.declared.keyword.Keyword.TheVariants as keyword
-use Rattle.config_words.specs.declared.keyword.Place.TheVariants as place
+use Rattle.config_words.specs.declared.keyword.FirstWord.TheVariants as keyword
+use Rattle.config_words.specs.declared.keyword.LinePlace.TheVariants as place
 use Rattle.config_words.specs.Meanings.{SectionIs, GroupIs, HostIs, PortIs, UserIs, PassIs, PathIs, FarIs, NearIs, PatternsAre, CreateIs, ExpungeIs, KeywordIs, ChannelsAre, said}
 use Rattle.config.specs.Configurations.{Meaning, Part, Parts, meaning_of, outside}
 use Rattle.config.specs.Sections.{ChannelMeaning, GroupMeaning, ImapMeaning, MaildirMeaning, everything, neither}

@@ -3,10 +3,10 @@ use Rattle.std.proofs.Common.{◌≡◌, ℕ, Bool, true, false, List, [], ◌�
 use Rattle.std.specs.Prelude.{bytes_eq, nat_lt, position, ◌||◌, ◌&&◌, not, Option, Some, None, Result, Err, IfSome, IsSome, if◌then◌else◌}
 use Rattle.std.specs.List.{list_all, list_any, prefix_len}
 use Rattle.std.proofs.lemmas.List.{length-map}
-use Rattle.config_words.specs.declared.keyword.Place.{Place}
+use Rattle.config_words.specs.declared.keyword.LinePlace.{LinePlace}
 use Rattle.config_words.specs.declared.fault.FaultKind.{FaultKind}
 use Rattle.config_words.specs.declared.fault.FaultKind.TheVariants.{OutsideSection, KeywordTwice}
-use Rattle.config_words.specs.declared.keyword.Keyword.{Keyword}
+use Rattle.config_words.specs.declared.keyword.FirstWord.{FirstWord}
 use Rattle.mailcore.specs.declared.keywords.Keyword as mail
 use Rattle.config.specs.Drafts.{IsMet, IsMisplaced, IsTaken, entered, entered_again, given, unless_misplaced}
 use Rattle.config_words.specs.Keywords.{opened_by, section_of}
@@ -35,7 +35,7 @@ nothing_given : (text : List ℕ) → given None None text ≡ None
 nothing_given text = two_tests None (is_plain text && not (arguments_of text).quoted) (list_all is_argument (arguments_of text).list) refl
 
 -- nor where the arguments give none
-pub nothing_said : (misplaced : Option FaultKind) (section : Option Place) (text : List ℕ) → name_given section (arguments_of text).list ≡ None
+pub nothing_said : (misplaced : Option FaultKind) (section : Option LinePlace) (text : List ℕ) → name_given section (arguments_of text).list ≡ None
     → given misplaced section text ≡ None
 nothing_said (Some fault) section text none = refl
 nothing_said None section text none = one_test (name_given section (arguments_of text).list) (is_plain text && not (arguments_of text).quoted) none
@@ -65,7 +65,7 @@ pub nothing_entered : (name : Option (List ℕ)) (keyword : Option mail.Keyword)
 nothing_entered (Some name) keyword s none nothing = cc
 nothing_entered None keyword s none nothing = ((none_stays_so s.at keyword s nothing).1, sym (none_stays_so s.at keyword s nothing).0)
 
-pub misplaced_taken : (misplaced : Option FaultKind) (k : Keyword) (section : Option Place) (keyword : Option mail.Keyword) (text : List ℕ) (s : Standing) (fault : FaultKind)
+pub misplaced_taken : (misplaced : Option FaultKind) (k : FirstWord) (section : Option LinePlace) (keyword : Option mail.Keyword) (text : List ℕ) (s : Standing) (fault : FaultKind)
     → misplaced ≡ Some fault → IfSome misplaced (IsMisplaced s.at k)
     → IsTaken (entered_again (given misplaced section text) (unless_misplaced misplaced keyword) s) (entered (given misplaced section text) (unless_misplaced misplaced keyword) s) s (Err fault)
 misplaced_taken misplaced k section keyword text s fault is misplaces =
@@ -78,7 +78,7 @@ misplaced_taken misplaced k section keyword text s fault is misplaces =
     by f misplaces = absurd misplaces
 
 -- what is met and then read after it is what the line says
-pub placed : (within : Bool) (k : Keyword) (section : Option Place) (misplaced : Option FaultKind) (keyword : Option mail.Keyword) (text : List ℕ)
+pub placed : (within : Bool) (k : FirstWord) (section : Option LinePlace) (misplaced : Option FaultKind) (keyword : Option mail.Keyword) (text : List ℕ)
     (old mid new : Standing) (result : Result (Unit {0}) FaultKind) → IsMet within k section old mid misplaced
     → (IsSome section → keyword ≡ None) → ((fault : FaultKind) → IsMisplaced old.at k fault → StaysAt old.at keyword old)
     → IsTaken (entered_again (given misplaced section text) (unless_misplaced misplaced keyword) mid) (entered (given misplaced section text) (unless_misplaced misplaced keyword) mid) new result
@@ -101,7 +101,7 @@ placed true k (Some p) (Some fault) keyword text old mid new result met titled f
     stays keyword old mid new result (faulty fault met.0) met.1 taken
 
 -- what is met where it may not stand
-pub misplaced_so : (within : Bool) (k : Keyword) (section : Option Place) (old mid : Standing) (misplaced : Option FaultKind)
+pub misplaced_so : (within : Bool) (k : FirstWord) (section : Option LinePlace) (old mid : Standing) (misplaced : Option FaultKind)
     → IsMet within k section old mid misplaced → IfSome misplaced (IsMisplaced mid.at k)
 misplaced_so within k section old mid None met = tt
 misplaced_so false k None old mid (Some fault) met = subst (λ (s : Standing). IsMisplaced s.at k fault) (sym met.1) met.0
@@ -110,9 +110,9 @@ misplaced_so true k None old mid (Some fault) met = subst (λ (s : Standing). Is
 misplaced_so true k (Some p) old mid (Some fault) met = subst (λ (s : Standing). IsMisplaced s.at k fault) (sym met.1) met.0
 
 -- a keyword begins what its word begins
-pub opens_same : (p : Place) (read met : Keyword) (word : List ℕ) → opened_by p met ≡ opened_by p read → section_of read ≡ section_named word
+pub opens_same : (p : LinePlace) (read met : FirstWord) (word : List ℕ) → opened_by p met ≡ opened_by p read → section_of read ≡ section_named word
     → (if is_section p then None else section_of met) ≡ opened p word
-opens_same p read met word same named = same ∙ ap (λ (s : Option Place). if is_section p then None else s) named
+opens_same p read met word same named = same ∙ ap (λ (s : Option LinePlace). if is_section p then None else s) named
 
 -- ---- places of names
 

@@ -12,7 +12,7 @@ use Rattle.config_words.specs.declared.fault.ConfigFault.{ConfigFault}
 use Rattle.config_words.specs.declared.fault.FaultKind.TheVariants.{NoMemory}
 use Rattle.config_words.specs.Faults.{number_of}
 use Rattle.config_words.specs.Faults.{precedes}
-use Rattle.config.specs.Outlines.{IsToldOf, Tells, earlier, is_repeat}
+use Rattle.config.specs.Outlines.{IsReportedOf, Reports, earlier, is_repeat}
 use Rattle.config.specs.Standing.{no_lines, outlined}
 
 -- one line more of all
@@ -46,33 +46,33 @@ all_taken all k none =
 
 -- a fault that comes before another comes before all that the other comes before
 sooner : (f g h a b c : ℕ) → (nat_lt f g || f == g && nat_le a b) ≡ false → (nat_lt f h || f == h && nat_le a c) ≡ true → (nat_lt g h || g == h && nat_le b c) ≡ true
-sooner f g h a b c after told = grind (arith, nat_tests, common_steps)
+sooner f g h a b c after reported = grind (arith, nat_tests, common_steps)
 
 all_sooner : (f g : ConfigFault) (again : List ConfigFault) → precedes f g ≡ false → All (λ x. precedes f x ≡ true) again → All (λ x. precedes g x ≡ true) again
-all_sooner f g [] after told = All-nil (λ (x : ConfigFault). precedes g x ≡ true)
-all_sooner f g (h ∷ again) after told =
+all_sooner f g [] after reported = All-nil (λ (x : ConfigFault). precedes g x ≡ true)
+all_sooner f g (h ∷ again) after reported =
     All-cons (λ (x : ConfigFault). precedes g x ≡ true) h again
-    (sooner f.line g.line h.line (number_of f.kind) (number_of g.kind) (number_of h.kind) after (All-head (λ (x : ConfigFault). precedes f x ≡ true) h again told))
-    (all_sooner f g again after (All-tail (λ (x : ConfigFault). precedes f x ≡ true) h again told))
+    (sooner f.line g.line h.line (number_of f.kind) (number_of g.kind) (number_of h.kind) after (All-head (λ (x : ConfigFault). precedes f x ≡ true) h again reported))
+    (all_sooner f g again after (All-tail (λ (x : ConfigFault). precedes f x ≡ true) h again reported))
 
 itself : (line a : ℕ) → (nat_lt line line || line == line && nat_le a a) ≡ true
 itself line a = grind (arith, nat_tests, common_steps)
 
 -- a fault of a line that says nothing again
-pub tells_other : (again : List ConfigFault) (first : Option ConfigFault) (fault : ConfigFault) → Tells again first → is_repeat fault.kind ≡ false → fault.kind ≢ NoMemory
-    → Tells again (Some (earlier first fault))
-tells_other again None fault none other memory =
-    (subst (λ (l : List ConfigFault). IsToldOf l fault) (sym none) (record { known = λ is. cc; first = All-nil (λ (x : ConfigFault). precedes fault x ≡ true) }), memory)
-tells_other again (Some f) fault told other memory = chosen (precedes f fault) refl
+pub reports_other : (again : List ConfigFault) (first : Option ConfigFault) (fault : ConfigFault) → Reports again first → is_repeat fault.kind ≡ false → fault.kind ≢ NoMemory
+    → Reports again (Some (earlier first fault))
+reports_other again None fault none other memory =
+    (subst (λ (l : List ConfigFault). IsReportedOf l fault) (sym none) (record { known = λ is. cc; first = All-nil (λ (x : ConfigFault). precedes fault x ≡ true) }), memory)
+reports_other again (Some f) fault reported other memory = chosen (precedes f fault) refl
   where
-    chosen : (b : Bool) → precedes f fault ≡ b → Tells again (Some (if b then f else fault))
-    chosen true before = told
-    chosen false after = (record { known = λ is. cc; first = all_sooner f fault again after told.0.first }, memory)
+    chosen : (b : Bool) → precedes f fault ≡ b → Reports again (Some (if b then f else fault))
+    chosen true before = reported
+    chosen false after = (record { known = λ is. cc; first = all_sooner f fault again after reported.0.first }, memory)
 
 -- and of one that does
-pub tells_again : (again : List ConfigFault) (first : Option ConfigFault) (fault : ConfigFault) → Tells again first → fault.kind ≢ NoMemory
-    → Tells (again ++ fault ∷ []) (Some (earlier first fault))
-tells_again again None fault none memory = (
+pub reports_again : (again : List ConfigFault) (first : Option ConfigFault) (fault : ConfigFault) → Reports again first → fault.kind ≢ NoMemory
+    → Reports (again ++ fault ∷ []) (Some (earlier first fault))
+reports_again again None fault none memory = (
   record {
     known = λ is. Contains-push again fault;
     first = subst (λ (l : List ConfigFault). All (λ x. precedes fault x ≡ true) (l ++ fault ∷ [])) (sym none)
@@ -81,20 +81,20 @@ tells_again again None fault none memory = (
   },
   memory,
 )
-tells_again again (Some f) fault told memory = chosen (precedes f fault) refl
+reports_again again (Some f) fault reported memory = chosen (precedes f fault) refl
   where
-    chosen : (b : Bool) → precedes f fault ≡ b → Tells (again ++ fault ∷ []) (Some (if b then f else fault))
+    chosen : (b : Bool) → precedes f fault ≡ b → Reports (again ++ fault ∷ []) (Some (if b then f else fault))
     chosen true before = (
       record {
-        known = λ is. Contains-append_left again (fault ∷ []) f (told.0.known is);
-        first = All-push (λ (x : ConfigFault). precedes f x ≡ true) again fault told.0.first before;
+        known = λ is. Contains-append_left again (fault ∷ []) f (reported.0.known is);
+        first = All-push (λ (x : ConfigFault). precedes f x ≡ true) again fault reported.0.first before;
       },
-      told.1,
+      reported.1,
     )
     chosen false after = (
       record {
         known = λ is. Contains-push again fault;
-        first = All-push (λ (x : ConfigFault). precedes fault x ≡ true) again fault (all_sooner f fault again after told.0.first)
+        first = All-push (λ (x : ConfigFault). precedes fault x ≡ true) again fault (all_sooner f fault again after reported.0.first)
             (itself fault.line (number_of fault.kind));
       },
       memory,

@@ -82,25 +82,25 @@ first_parted text rest taken reading none whole is =
     subst (λ (r : List ℕ). IsParted text taken r reading) (sym whole)
     (subst (λ (n : ℕ). IsParted text n text reading) (sym none) (record { known = λ first. is; left = refl; whole = λ first all. all }))
 
-pub more_parted : (text : List ℕ) (taken grown : ℕ) (line rest behind : List ℕ) (old new : Reading) → IsParted text taken rest old
-    → grown ≡ taken + 1 → lines_of rest ≡ line ∷ lines_of behind → ((p : Parts) → Knows p old → Knows (parted p line) new)
-    → ((p : Parts) → Knows p old → TookLine p line old new) → IsParted text grown behind new
-more_parted text taken grown line rest behind old new so is_grown next read took =
+pub more_parted : (text : List ℕ) (taken grown : ℕ) (line rest following : List ℕ) (old new : Reading) → IsParted text taken rest old
+    → grown ≡ taken + 1 → lines_of rest ≡ line ∷ lines_of following → ((p : Parts) → Knows p old → Knows (parted p line) new)
+    → ((p : Parts) → Knows p old → TookLine p line old new) → IsParted text grown following new
+more_parted text taken grown line rest following old new so is_grown next read took =
     let all = lines_of text in
     let before = fold parted no_parts (take taken all) in
-    let here : drop taken all ≡ line ∷ lines_of behind = so.left ∙ next in
-    let left : drop (taken + 1) all ≡ lines_of behind = one_left all taken line (lines_of behind) here in
+    let here : drop taken all ≡ line ∷ lines_of following = so.left ∙ next in
+    let left : drop (taken + 1) all ≡ lines_of following = one_left all taken line (lines_of following) here in
     let more : fold parted no_parts (take (taken + 1) all) ≡ parted before line =
-    ap (λ (l : List (List ℕ)). fold parted no_parts l) (one_taken all taken line (lines_of behind) here)
+    ap (λ (l : List (List ℕ)). fold parted no_parts l) (one_taken all taken line (lines_of following) here)
     ∙ fold-append parted no_parts (take taken all) (line ∷ []) in
-    subst (λ (n : ℕ). IsParted text n behind new) (sym is_grown)
+    subst (λ (n : ℕ). IsParted text n following new) (sym is_grown)
     (record {
       known = knows_also (fold parted no_parts (take (taken + 1) all)) (parted before line) new more (read before so.known);
       left = left;
       whole = λ none rest_taken.
           let here_taken = took before so.known none in
-          let rest_there : AcceptsAll (parted before line) (lines_of behind) =
-          subst (λ (p : Parts). AcceptsAll p (lines_of behind)) more
+          let rest_there : AcceptsAll (parted before line) (lines_of following) =
+          subst (λ (p : Parts). AcceptsAll p (lines_of following)) more
           (subst (λ (l : List (List ℕ)). AcceptsAll (fold parted no_parts (take (taken + 1) all)) l) left rest_taken) in
           so.whole here_taken.0 (subst (λ (l : List (List ℕ)). AcceptsAll before l) (sym here) (here_taken.1, rest_there));
     })

@@ -5,11 +5,11 @@ use Rattle.std.specs.Str.{str_eq_ignore_ascii_case}
 use Rattle.std.specs.Option.{option_or}
 use Rattle.std.proofs.lemmas.List.{append-nil, map-append}
 use Rattle.std.proofs.lemmas.List.Sums.{fold-append}
-use Rattle.config_words.specs.declared.keyword.Place.{Place}
-use Rattle.config_words.specs.declared.keyword.Place.TheVariants.{Start, Between, ImapStore, MaildirStore, Channel, Group}
+use Rattle.config_words.specs.declared.keyword.LinePlace.{LinePlace}
+use Rattle.config_words.specs.declared.keyword.LinePlace.TheVariants.{Start, Between, ImapStore, MaildirStore, Channel, Group}
 use Rattle.config_words.specs.Meanings.{Said, SectionIs, GroupIs, FarIs, NearIs, ChannelsAre}
 use Rattle.config_words.specs.declared.fault.FaultKind.{FaultKind}
-use Rattle.config_words.specs.declared.keyword.Keyword.{Keyword}
+use Rattle.config_words.specs.declared.keyword.FirstWord.{FirstWord}
 use Rattle.config_words.specs.Keywords.{fits_at, keyword_named, meant_at}
 use Rattle.config_words.specs.Meanings.{said}
 use Rattle.config_words.specs.Places.{is_section, opened, section_named}
@@ -54,40 +54,40 @@ manner_more says s = simp (the_more cells_in says s, the_more create_in says s, 
 -- ---- a line of words
 
 -- a keyword that may stand here begins what its word begins
-pub begins_so : (within : Bool) (k : Keyword) (section : Option Place) (misplaced : Option FaultKind) (old mid : Standing) → IsMet within k section old mid misplaced
+pub begins_so : (within : Bool) (k : FirstWord) (section : Option LinePlace) (misplaced : Option FaultKind) (old mid : Standing) → IsMet within k section old mid misplaced
     → misplaced ≡ None → section ≡ (if within then None else section)
 begins_so false k section misplaced old mid met none = refl
 begins_so true k None misplaced old mid met none = refl
 begins_so true k (Some p) None old mid met none = absurd met
 begins_so true k (Some p) (Some fault) old mid met none = cc
 
-pub line_at : (at : Place) (read meant : Keyword) (word text : List ℕ) → Some read ≡ keyword_named word → meant ≡ meant_at at read
+pub line_at : (at : LinePlace) (read meant : FirstWord) (word text : List ℕ) → Some read ≡ keyword_named word → meant ≡ meant_at at read
     → said meant (arguments_of text).list ≡ line_said at (word, text)
 line_at at read meant word text named is =
-    ap (λ (k : Keyword). said k (arguments_of text).list) is
-    ∙ ap (λ (w : Option Keyword). option_and_then (λ (k : Keyword). said (meant_at at k) (arguments_of text).list) w) named
+    ap (λ (k : FirstWord). said k (arguments_of text).list) is
+    ∙ ap (λ (w : Option FirstWord). option_and_then (λ (k : FirstWord). said (meant_at at k) (arguments_of text).list) w) named
 
-pub read_view : (r : Result (Unit {0}) FaultKind) (misplaced : Option FaultKind) (section begins : Option Place) (s line : Option Said) (old mid new : View)
+pub read_view : (r : Result (Unit {0}) FaultKind) (misplaced : Option FaultKind) (section begins : Option LinePlace) (s line : Option Said) (old mid new : View)
     → (misplaced ≡ None → section ≡ begins) → s ≡ line → (misplaced ≡ None → mid ≡ begun_view section old) → OnOk r (misplaced ≡ None)
     → OnOk r (new ≡ view_said s mid) → OnOk r (new ≡ view_said line (begun_view begins old))
 read_view (Ok done) misplaced section begins s line old mid new opens same met placed known =
     known
     ∙ (ap (λ (w : Option Said). view_said w mid) same
-    ∙ ap (λ (v : View). view_said line v) (met placed ∙ ap (λ (p : Option Place). begun_view p old) (opens placed)))
+    ∙ ap (λ (v : View). view_said line v) (met placed ∙ ap (λ (p : Option LinePlace). begun_view p old) (opens placed)))
 read_view (Err fault) misplaced section begins s line old mid new opens same met placed known = tt
 
-pub read_titled : (r : Result (Unit {0}) FaultKind) (misplaced : Option FaultKind) (section begins : Option Place) (s line : Option Said)
+pub read_titled : (r : Result (Unit {0}) FaultKind) (misplaced : Option FaultKind) (section begins : Option LinePlace) (s line : Option Said)
     → (misplaced ≡ None → section ≡ begins) → s ≡ line → OnOk r (misplaced ≡ None) → OnOk r (IsTitled section s) → OnOk r (IsTitled begins line)
 read_titled (Ok done) misplaced section begins s line opens same placed known =
-    subst (λ (w : Option Said). IsTitled begins w) same (subst (λ (p : Option Place). IsTitled p s) (opens placed) known)
+    subst (λ (w : Option Said). IsTitled begins w) same (subst (λ (p : Option LinePlace). IsTitled p s) (opens placed) known)
 read_titled (Err fault) misplaced section begins s line opens same placed known = tt
 
-pub read_accepted : (r : Result (Unit {0}) FaultKind) (misplaced : Option FaultKind) (at : Place) (read meant : Keyword) (word text : List ℕ)
+pub read_accepted : (r : Result (Unit {0}) FaultKind) (misplaced : Option FaultKind) (at : LinePlace) (read meant : FirstWord) (word text : List ℕ)
     → Some read ≡ keyword_named word → meant ≡ meant_at at read → (misplaced ≡ None → fits_at at meant ≡ true) → OnOk r (misplaced ≡ None)
     → OnOk r (IsClear (said meant (arguments_of text).list)) → OnOk r (is_plain text ≡ true) → OnOk r ((arguments_of text).quoted ≡ false)
     → OnOk r (IsAccepted at (word, text))
 read_accepted (Ok done) misplaced at read meant word text named is fits placed clear plain closed = record {
-  fits = sym (ap (λ (k : Option Keyword). fits_named at k) named) ∙ (sym (ap (λ (k : Keyword). fits_at at k) is) ∙ fits placed);
+  fits = sym (ap (λ (k : Option FirstWord). fits_named at k) named) ∙ (sym (ap (λ (k : FirstWord). fits_at at k) is) ∙ fits placed);
   plain = plain;
   closed = closed;
   says = subst (λ (s : Option Said). IsClear s) (line_at at read meant word text named is) clear;
@@ -109,7 +109,7 @@ channel_grown a b s says = record {
 channel_more : (a b : List (List ℕ)) (says : List Said) (s : Said) → channel_said a b (says ++ s ∷ []) ≡ channel_grown a b s says
 channel_more a b says s = simp (the_more far_in says s, the_more near_in says s, flat_more patterns_in says s, manner_more says s)
 
-abbrev part : Place → List ℕ → List Said → Part
+abbrev part : LinePlace → List ℕ → List Said → Part
 part kind name says = record { kind = kind; name = name; says = says }
 
 abbrev parts : List Said → List Part → Part → Parts
@@ -181,7 +181,7 @@ at_channel m (NearIs store box) says name before names none =
 at_channel m (ChannelsAre cs) says name before names none = unchanged m (channel_said (imap_names m) (maildir_names m) says) name before names
 at_channel m _ says name before names none = refl
 
-add_view : (m : Meaning) (s : Said) (before : List Said) (ends : List Part) (kind : Place) (name : List ℕ) (says : List Said) → title_in s ≡ None
+add_view : (m : Meaning) (s : Said) (before : List Said) (ends : List Part) (kind : LinePlace) (name : List ℕ) (says : List Said) → title_in s ≡ None
     → view_with s (view_from m (parts before ends (part kind name says))) ≡ view_from m (add_at kind (s ∷ []) (parts before ends (part kind name says)))
 add_view m s before ends Start name says none =
     at_start m s name (manner_said before) (channel_names m ++ []) none
@@ -203,7 +203,7 @@ add_view m s before ends Group name says none =
 
 -- ---- the first line of a section
 
-pub none_open : (kind : Place) (name : List ℕ) → is_section kind ≡ false → open_names kind name ≡ []
+pub none_open : (kind : LinePlace) (name : List ℕ) → is_section kind ≡ false → open_names kind name ≡ []
 none_open Start name closed = refl
 none_open Between name closed = refl
 none_open ImapStore name closed = refl
@@ -222,7 +222,7 @@ begun_channel m section name before still none =
     ap (λ (l : List (List ℕ)). shown m section name before ((channel_names m ++ l) ++ name ∷ [])) none
     ∙ ap (λ (l : List (List ℕ)). shown m section name before (l ++ name ∷ [])) (append-nil (channel_names m))
 
-first_view : (m : Meaning) (kind : Place) (s : Said) (p : Parts) → is_section kind ≡ true → is_section p.current.kind ≡ false → IsSome (title_in s)
+first_view : (m : Meaning) (kind : LinePlace) (s : Said) (p : Parts) → is_section kind ≡ true → is_section p.current.kind ≡ false → IsSome (title_in s)
     → view_with s (begun_view (Some kind) (view_from m p)) ≡ view_from m (begin_at kind (Some s) p)
 first_view m kind (SectionIs n) p section closed some = by kind section
   where
@@ -232,7 +232,7 @@ first_view m kind (SectionIs n) p section closed some = by kind section
     none : still ≡ []
     none = none_open p.current.kind p.current.name closed
 
-    by : (k : Place) → is_section k ≡ true → view_with (SectionIs n) (begun_view (Some k) (view_from m p)) ≡ view_from m (begin_at k (Some (SectionIs n)) p)
+    by : (k : LinePlace) → is_section k ≡ true → view_with (SectionIs n) (begun_view (Some k) (view_from m p)) ≡ view_from m (begin_at k (Some (SectionIs n)) p)
     by Start section = cc
     by Between section = cc
     by ImapStore section = begun_other m (AtImapStore (imap_store_of [] [])) n (manner_said p.before) still none
@@ -247,7 +247,7 @@ first_view m kind (GroupIs n cs) p section closed some = by kind section
     none : still ≡ []
     none = none_open p.current.kind p.current.name closed
 
-    by : (k : Place) → is_section k ≡ true → view_with (GroupIs n cs) (begun_view (Some k) (view_from m p)) ≡ view_from m (begin_at k (Some (GroupIs n cs)) p)
+    by : (k : LinePlace) → is_section k ≡ true → view_with (GroupIs n cs) (begun_view (Some k) (view_from m p)) ≡ view_from m (begin_at k (Some (GroupIs n cs)) p)
     by Start section = cc
     by Between section = cc
     by ImapStore section = begun_other m (AtImapStore (imap_store_of [] [])) n (manner_said p.before) still none
@@ -257,8 +257,8 @@ first_view m kind (GroupIs n cs) p section closed some = by kind section
         begun_other m (AtGroup cs) n (manner_said p.before) still none ∙ alone m cs n (manner_said p.before) (channel_names m ++ [])
 first_view m kind _ p section closed some = cc
 
-said_view : (m : Meaning) (begins : Option Place) (s : Option Said) (p : Parts) → ((kind : Place) → begins ≡ Some kind → is_section kind ≡ true)
-    → ((kind : Place) → begins ≡ Some kind → is_section p.current.kind ≡ false) → IsTitled begins s
+said_view : (m : Meaning) (begins : Option LinePlace) (s : Option Said) (p : Parts) → ((kind : LinePlace) → begins ≡ Some kind → is_section kind ≡ true)
+    → ((kind : LinePlace) → begins ≡ Some kind → is_section p.current.kind ≡ false) → IsTitled begins s
     → view_said s (begun_view begins (view_from m p)) ≡ view_from m (said_at begins s p)
 said_view m None None p sections closed titled = absurd titled
 said_view m None (Some s) p sections closed titled = add_view m s p.before p.ended p.current.kind p.current.name p.current.says titled
@@ -267,7 +267,7 @@ said_view m (Some kind) (Some s) p sections closed titled = first_view m kind s 
 
 -- ---- what stays
 
-added_meaning : (kind : Place) (says : List Said) (p : Parts) → (kind ≡ Start → p.ended ≡ []) → meaning_of (add_at kind says p) ≡ meaning_of p
+added_meaning : (kind : LinePlace) (says : List Said) (p : Parts) → (kind ≡ Start → p.ended ≡ []) → meaning_of (add_at kind says p) ≡ meaning_of p
 added_meaning Start says p first =
     ap (λ (l : List Part). fold (with_section (p.before ++ says)) no_meaning l) (first refl)
     ∙ sym (ap (λ (l : List Part). fold (with_section p.before) no_meaning l) (first refl))
@@ -277,11 +277,11 @@ added_meaning MaildirStore says p first = refl
 added_meaning Channel says p first = refl
 added_meaning Group says p first = refl
 
-said_meaning : (begins : Option Place) (s : Option Said) (p : Parts) → (p.current.kind ≡ Start → p.ended ≡ []) → meaning_of (said_at begins s p) ≡ meaning_of p
+said_meaning : (begins : Option LinePlace) (s : Option Said) (p : Parts) → (p.current.kind ≡ Start → p.ended ≡ []) → meaning_of (said_at begins s p) ≡ meaning_of p
 said_meaning None s p first = added_meaning p.current.kind (option_to_list s) p first
 said_meaning (Some kind) s p first = refl
 
-added_first : (kind : Place) (says : List Said) (p : Parts) → (p.current.kind ≡ Start → p.ended ≡ [])
+added_first : (kind : LinePlace) (says : List Said) (p : Parts) → (p.current.kind ≡ Start → p.ended ≡ [])
     → (add_at kind says p).current.kind ≡ Start → (add_at kind says p).ended ≡ []
 added_first Start says p first = first
 added_first Between says p first = first
@@ -290,7 +290,7 @@ added_first MaildirStore says p first = first
 added_first Channel says p first = first
 added_first Group says p first = first
 
-said_first : (begins : Option Place) (s : Option Said) (p : Parts) → ((kind : Place) → begins ≡ Some kind → is_section kind ≡ true)
+said_first : (begins : Option LinePlace) (s : Option Said) (p : Parts) → ((kind : LinePlace) → begins ≡ Some kind → is_section kind ≡ true)
     → (p.current.kind ≡ Start → p.ended ≡ []) → (said_at begins s p).current.kind ≡ Start → (said_at begins s p).ended ≡ []
 said_first None s p sections first = added_first p.current.kind (option_to_list s) p first
 said_first (Some kind) s p sections first = λ start. absurd (none (sym (ap is_section start) ∙ sections kind refl))
@@ -300,13 +300,13 @@ said_first (Some kind) s p sections first = λ start. absurd (none (sym (ap is_s
 
 -- ---- places
 
-named_section : (word : List ℕ) (kind : Place) → section_named word ≡ Some kind → is_section kind ≡ true
+named_section : (word : List ℕ) (kind : LinePlace) → section_named word ≡ Some kind → is_section kind ≡ true
 named_section word kind =
     by (str_eq_ignore_ascii_case word (codes "IMAPStore")) (str_eq_ignore_ascii_case word (codes "MaildirStore")) (str_eq_ignore_ascii_case word (codes "Channel"))
     (str_eq_ignore_ascii_case word (codes "Group"))
   where
-    so : (k : Place) → Some k ≡ Some kind → is_section k ≡ true → is_section kind ≡ true
-    so k is section = let same : k ≡ kind = cc in subst (λ (x : Place). is_section x ≡ true) same section
+    so : (k : LinePlace) → Some k ≡ Some kind → is_section k ≡ true → is_section kind ≡ true
+    so k is section = let same : k ≡ kind = cc in subst (λ (x : LinePlace). is_section x ≡ true) same section
 
     by : (a b c d : Bool)
         → (if a then Some ImapStore else (if b then Some MaildirStore else (if c then Some Channel else (if d then Some Group else None)))) ≡ Some kind
@@ -317,21 +317,21 @@ named_section word kind =
     by false false false true is = so Group is refl
     by false false false false is = cc
 
-opened_section : (at : Place) (word : List ℕ) (kind : Place) → opened at word ≡ Some kind → is_section kind ≡ true
+opened_section : (at : LinePlace) (word : List ℕ) (kind : LinePlace) → opened at word ≡ Some kind → is_section kind ≡ true
 opened_section at word kind = by (is_section at)
   where
     by : (b : Bool) → (if b then None else section_named word) ≡ Some kind → is_section kind ≡ true
     by true is = cc
     by false is = named_section word kind is
 
-opened_outside : (at : Place) (word : List ℕ) (kind : Place) → opened at word ≡ Some kind → is_section at ≡ false
+opened_outside : (at : LinePlace) (word : List ℕ) (kind : LinePlace) → opened at word ≡ Some kind → is_section at ≡ false
 opened_outside at word kind = by (is_section at)
   where
     by : (b : Bool) → (if b then None else section_named word) ≡ Some kind → b ≡ false
     by true is = cc
     by false is = refl
 
-abbrev place_in : Sketch → Place
+abbrev place_in : Sketch → LinePlace
 place_in AtStart = Start
 place_in (AtImapStore m) = ImapStore
 place_in (AtMaildirStore m) = MaildirStore
@@ -347,7 +347,7 @@ place_sketched (sections.MaildirStore draft) = refl
 place_sketched (sections.Channel draft) = refl
 place_sketched (sections.Group draft) = refl
 
-place_parted : (a b : List (List ℕ)) (kind : Place) (says : List Said) → place_in (part_sketch a b kind says) ≡ kind
+place_parted : (a b : List (List ℕ)) (kind : LinePlace) (says : List Said) → place_in (part_sketch a b kind says) ≡ kind
 place_parted a b Start says = refl
 place_parted a b Between says = refl
 place_parted a b ImapStore says = refl
@@ -371,11 +371,11 @@ drawn_words p words old new is shows titles =
     let begins = opened at words.0 in
     let s = line_said at words in
     let same : place_of old.section ≡ at = at_drawn p old is in
-    let sections : (kind : Place) → begins ≡ Some kind → is_section kind ≡ true = opened_section at words.0 in
-    let closed : (kind : Place) → begins ≡ Some kind → is_section at ≡ false = opened_outside at words.0 in
-    let titled = subst (λ (k : Place). IsTitled (opened k words.0) (line_said k words)) same titles in
+    let sections : (kind : LinePlace) → begins ≡ Some kind → is_section kind ≡ true = opened_section at words.0 in
+    let closed : (kind : LinePlace) → begins ≡ Some kind → is_section at ≡ false = opened_outside at words.0 in
+    let titled = subst (λ (k : LinePlace). IsTitled (opened k words.0) (line_said k words)) same titles in
     let here : view new ≡ view_said s (begun_view begins (view old)) =
-    subst (λ (k : Place). view new ≡ view_said (line_said k words) (begun_view (opened k words.0) (view old))) same shows in
+    subst (λ (k : LinePlace). view new ≡ view_said (line_said k words) (begun_view (opened k words.0) (view old))) same shows in
     record {
       view = here
           ∙ (ap (λ (v : View). view_said s (begun_view begins v)) is.view
@@ -384,9 +384,9 @@ drawn_words p words old new is shows titles =
       first = said_first begins s p sections is.first;
     }
 
-behind : (before : List Said) (ends : List Part) (s : Part)
+following : (before : List Said) (ends : List Part) (s : Part)
     → view_of (ended_if true (parts before ends s)) ≡ view_from (with_section before (meaning_of (parts before ends s)) s) (ended_if true (parts before ends s))
-behind before ends s = ap (λ (m : Meaning). view_from m (ended_if true (parts before ends s))) (fold-append (with_section before) no_meaning ends (s ∷ []))
+following before ends s = ap (λ (m : Meaning). view_from m (ended_if true (parts before ends s))) (fold-append (with_section before) no_meaning ends (s ∷ []))
 
 -- a channel more
 more_names : (m : Meaning) (names : List (List ℕ)) (c : ChannelMeaning) → names ≡ channel_names m ++ c.name ∷ []
@@ -396,24 +396,24 @@ more_names m names c is =
     ∙ sym (append-nil (map (λ (x : ChannelMeaning). x.name) (m.channels ++ c ∷ []))))
 
 -- the section that has ended
-end_view : (before : List Said) (ends : List Part) (kind : Place) (name : List ℕ) (says : List Said)
+end_view : (before : List Said) (ends : List Part) (kind : LinePlace) (name : List ℕ) (says : List Said)
     → ended_view (is_section kind) (view_of (parts before ends (part kind name says))) ≡ view_of (ended (parts before ends (part kind name says)))
 end_view before ends Start name says = refl
 end_view before ends Between name says = refl
-end_view before ends ImapStore name says = sym (behind before ends (part ImapStore name says))
-end_view before ends MaildirStore name says = sym (behind before ends (part MaildirStore name says))
+end_view before ends ImapStore name says = sym (following before ends (part ImapStore name says))
+end_view before ends MaildirStore name says = sym (following before ends (part MaildirStore name says))
 end_view before ends Channel name says =
     let m = meaning_of (parts before ends (part Channel name says)) in
     let c = channel_of (imap_names m) (maildir_names m) before name says in
     ap (λ (names : List (List ℕ)). record (view_from (record m { channels = m.channels ++ c ∷ [] }) (ended_if true (parts before ends (part Channel name says)))) { named = names })
     (more_names m (channel_names m ++ name ∷ []) c refl)
-    ∙ sym (behind before ends (part Channel name says))
-end_view before ends Group name says = sym (behind before ends (part Group name says))
+    ∙ sym (following before ends (part Channel name says))
+end_view before ends Group name says = sym (following before ends (part Group name says))
 
 pub drawn_end : (p : Parts) (old new : Draft) → IsDrawn p old → view new ≡ ended_view (is_section (place_of old.section)) (view old) → IsDrawn (ended p) new
 drawn_end p old new is shows = record {
   view = shows
-      ∙ (ap (λ (k : Place). ended_view (is_section k) (view old)) (at_drawn p old is)
+      ∙ (ap (λ (k : LinePlace). ended_view (is_section k) (view old)) (at_drawn p old is)
       ∙ (ap (λ (v : View). ended_view (is_section p.current.kind) v) is.view ∙ end_view p.before p.ended p.current.kind p.current.name p.current.says));
   first = by (is_section p.current.kind);
 }

@@ -1,7 +1,7 @@
 -- Which lines of a text a configuration takes: every one, or the text is refused.
 use Rattle.std.specs.Prelude.{ℕ, ◌≡◌, Bool, true, false, List, [], ◌∷◌, Option, Some, None}
-use Rattle.config_words.specs.declared.keyword.Keyword.{Keyword}
-use Rattle.config_words.specs.declared.keyword.Place.{Place}
+use Rattle.config_words.specs.declared.keyword.FirstWord.{FirstWord}
+use Rattle.config_words.specs.declared.keyword.LinePlace.{LinePlace}
 use Rattle.config_words.specs.Keywords.{fits_at, keyword_named, meant_at}
 use Rattle.config_words.specs.Meanings.{Said, SyncIs}
 use Rattle.config_words.specs.Words.{arguments_of, is_blank, is_plain, words_of}
@@ -10,7 +10,7 @@ use Rattle.config.specs.Sections.{line_said}
 use Rattle.texts.specs.Lines.{lines_of}
 
 -- whether a word is a keyword that may stand at a place
-abbrev pub fits_named : Place → Option Keyword → Bool
+abbrev pub fits_named : LinePlace → Option FirstWord → Bool
 fits_named at None = false
 fits_named at (Some k) = fits_at at (meant_at at k)
 
@@ -22,19 +22,19 @@ IsClear (Some _) = Unit {0}
 
 -- a line of words is taken at a place: its keyword may stand there, the text after it is plain with its quotes closed, and the
 -- keyword takes these arguments
-pub record IsAccepted (at : Place) (words : List ℕ × List ℕ) : Type 0 where
+pub record IsAccepted (at : LinePlace) (words : List ℕ × List ℕ) : Type 0 where
   pub fits : fits_named at (keyword_named words.0) ≡ true
   pub plain : is_plain words.1 ≡ true
   pub closed : (arguments_of words.1).quoted ≡ false
   pub says : IsClear (line_said at words)
 
 -- so is a comment
-abbrev pub AcceptsWords : Place → Option (List ℕ × List ℕ) → Type 0
+abbrev pub AcceptsWords : LinePlace → Option (List ℕ × List ℕ) → Type 0
 AcceptsWords at None = Unit {0}
 AcceptsWords at (Some words) = IsAccepted at words
 
 -- and an empty line
-abbrev pub AcceptsLine : Place → List ℕ → Type 0
+abbrev pub AcceptsLine : LinePlace → List ℕ → Type 0
 AcceptsLine at line = is_blank line ≡ false → AcceptsWords at (words_of line)
 
 -- each of these lines is taken, where it stands after those before it

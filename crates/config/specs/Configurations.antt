@@ -5,8 +5,8 @@ use Rattle.config.specs.declared.config.ImapStore.{ImapStore}
 use Rattle.config.specs.declared.config.MaildirStore.{MaildirStore}
 use Rattle.config.specs.declared.config.Channel.{Channel}
 use Rattle.config.specs.declared.config.Group.{Group}
-use Rattle.config_words.specs.declared.keyword.Place.{Place}
-use Rattle.config_words.specs.declared.keyword.Place.TheVariants as place
+use Rattle.config_words.specs.declared.keyword.LinePlace.{LinePlace}
+use Rattle.config_words.specs.declared.keyword.LinePlace.TheVariants as place
 use Rattle.config_words.specs.Meanings.{Said}
 use Rattle.config_words.specs.Places.{is_section, opened}
 use Rattle.config_words.specs.Words.{is_blank, words_of}
@@ -17,7 +17,7 @@ use Rattle.texts.specs.Lines.{lines_of}
 
 -- a section: its kind, its name, and what its lines say
 pub record Part : Type 0 where
-  pub kind : Place
+  pub kind : LinePlace
   pub name : List ℕ
   pub says : List Said
 
@@ -28,23 +28,23 @@ pub record Parts : Type 0 where
   pub ended : List Part
   pub current : Part
 
-abbrev pub outside : Place → Part
+abbrev pub outside : LinePlace → Part
 outside place = record { kind = place; name = []; says = [] }
 
 abbrev pub no_parts : Parts
 no_parts = record { before = []; ended = []; current = outside place.Start }
 
 -- a line of a section, or one before any
-abbrev pub add_at : Place → List Said → Parts → Parts
+abbrev pub add_at : LinePlace → List Said → Parts → Parts
 add_at place.Start says p = record p { before = p.before ++ says }
 add_at place.Between says p = p
 add_at _ says p = record p { current = record p.current { says = p.current.says ++ says } }
 
 -- a section begins, and its first line names it
-abbrev pub begin_at : Place → Option Said → Parts → Parts
+abbrev pub begin_at : LinePlace → Option Said → Parts → Parts
 begin_at kind s p = record p { current = record { kind = kind; name = unwrap_or (option_and_then title_in s) []; says = option_to_list s } }
 
-abbrev pub said_at : Option Place → Option Said → Parts → Parts
+abbrev pub said_at : Option LinePlace → Option Said → Parts → Parts
 said_at (Some kind) s p = begin_at kind s p
 said_at None s p = add_at p.current.kind (option_to_list s) p
 
@@ -85,7 +85,7 @@ abbrev pub channel_names : Meaning → List (List ℕ)
 channel_names m = map (λ channel. channel.name) m.channels
 
 -- a section adds what it says, which for a channel names stores above
-abbrev pub added_at : Place → List Said → Meaning → Part → Meaning
+abbrev pub added_at : LinePlace → List Said → Meaning → Part → Meaning
 added_at place.ImapStore before m s = record m { imap_stores = m.imap_stores ++ imap_store_of s.name s.says ∷ [] }
 added_at place.MaildirStore before m s = record m { maildir_stores = m.maildir_stores ++ maildir_store_of s.name s.says ∷ [] }
 added_at place.Channel before m s = record m { channels = m.channels ++ channel_of (imap_names m) (maildir_names m) before s.name s.says ∷ [] }

@@ -2,9 +2,9 @@
 use Rattle.std.specs.Prelude.{ℕ, ◌≡◌, Bool, true, false, not, ◌&&◌, List, [], map, string_bytes, Option, Some, None, Result, Ok, Err, if◌then◌else◌}
 use Rattle.mailcore.specs.declared.keywords.Keyword as mail
 use Rattle.config.specs.declared.draft.Draft.{Draft}
-use Rattle.config_words.specs.declared.keyword.Keyword.{Keyword}
-use Rattle.config_words.specs.declared.keyword.Place.{Place}
-use Rattle.config_words.specs.declared.keyword.Place.TheVariants as place
+use Rattle.config_words.specs.declared.keyword.FirstWord.{FirstWord}
+use Rattle.config_words.specs.declared.keyword.LinePlace.{LinePlace}
+use Rattle.config_words.specs.declared.keyword.LinePlace.TheVariants as place
 use Rattle.config_words.specs.declared.fault.FaultKind.{FaultKind}
 use Rattle.config_words.specs.declared.fault.FaultKind.TheVariants.{OutsideSection, KeywordTwice, DefinedTwice, KeywordGiven, NoMemory}
 use Rattle.config.specs.declared.section.Section.{Section}
@@ -14,7 +14,7 @@ use Rattle.config_words.specs.Settings.{name_given}
 use Rattle.config.specs.Standing.{Standing, keyword_again, with_keyword_at, name_again, named, standing_at}
 use Rattle.config_words.specs.Words.{arguments_of, is_plain}
 
-abbrev pub place_of : Section → Place
+abbrev pub place_of : Section → LinePlace
 place_of Start = place.Start
 place_of Between = place.Between
 place_of (ImapStore draft) = place.ImapStore
@@ -39,39 +39,39 @@ standing_of d = record {
 
 -- a line is taken, or refused: as one that says something again exactly where it does, and always with this after it; where memory
 -- ran out nothing is said
-abbrev pub IsTaken : {A : Type 0} (again : Option FaultKind) (behind found : A) → Result (Unit {0}) FaultKind → Type 0
-IsTaken again behind found (Ok done) = (again ≡ None) × (found ≡ behind)
-IsTaken again behind found (Err DefinedTwice) = (again ≡ Some DefinedTwice) × (found ≡ behind)
-IsTaken again behind found (Err KeywordGiven) = (again ≡ Some KeywordGiven) × (found ≡ behind)
-IsTaken again behind found (Err NoMemory) = Unit {0}
-IsTaken again behind found (Err _) = (again ≡ None) × (found ≡ behind)
+abbrev pub IsTaken : {A : Type 0} (again : Option FaultKind) (following found : A) → Result (Unit {0}) FaultKind → Type 0
+IsTaken again following found (Ok done) = (again ≡ None) × (found ≡ following)
+IsTaken again following found (Err DefinedTwice) = (again ≡ Some DefinedTwice) × (found ≡ following)
+IsTaken again following found (Err KeywordGiven) = (again ≡ Some KeywordGiven) × (found ≡ following)
+IsTaken again following found (Err NoMemory) = Unit {0}
+IsTaken again following found (Err _) = (again ≡ None) × (found ≡ following)
 
 -- a keyword may not stand at a place, or may not stand there twice
-abbrev pub IsMisplaced : Place → Keyword → FaultKind → Type 0
+abbrev pub IsMisplaced : LinePlace → FirstWord → FaultKind → Type 0
 IsMisplaced at k OutsideSection = fits_at at k ≡ false
 IsMisplaced at k KeywordTwice = adds_up k ≡ false
 IsMisplaced at k _ = ⊥
 
 -- a keyword is met where no section is open: one that it begins is open after it
-abbrev pub IsMetOutside : Keyword → Option Place → (old new : Standing) → Option FaultKind → Type 0
+abbrev pub IsMetOutside : FirstWord → Option LinePlace → (old new : Standing) → Option FaultKind → Type 0
 IsMetOutside k None old new None = new ≡ old
 IsMetOutside k None old new (Some fault) = IsMisplaced old.at k fault × (new ≡ old)
 IsMetOutside k (Some p) old new None = new ≡ standing_at p old
 IsMetOutside k (Some p) old new (Some fault) = ⊥
 
 -- and within a section, where none begins
-abbrev pub IsMetWithin : Keyword → Option Place → (old new : Standing) → Option FaultKind → Type 0
+abbrev pub IsMetWithin : FirstWord → Option LinePlace → (old new : Standing) → Option FaultKind → Type 0
 IsMetWithin k None old new None = new ≡ old
 IsMetWithin k None old new (Some fault) = IsMisplaced old.at k fault × (new ≡ old)
 IsMetWithin k (Some p) old new None = ⊥
 IsMetWithin k (Some p) old new (Some fault) = IsMisplaced old.at k fault × (new ≡ old)
 
-abbrev pub IsMet : (within : Bool) → Keyword → Option Place → (old new : Standing) → Option FaultKind → Type 0
+abbrev pub IsMet : (within : Bool) → FirstWord → Option LinePlace → (old new : Standing) → Option FaultKind → Type 0
 IsMet false k section old new fault = IsMetOutside k section old new fault
 IsMet true k section old new fault = IsMetWithin k section old new fault
 
 -- the name that a section's first line gives, unless its keyword is misplaced
-abbrev pub given : Option FaultKind → Option Place → List ℕ → Option (List ℕ)
+abbrev pub given : Option FaultKind → Option LinePlace → List ℕ → Option (List ℕ)
 given (Some fault) section text = None
 given None section text =
     if is_plain text && not (arguments_of text).quoted then name_given section (arguments_of text).list else None

@@ -2,8 +2,8 @@
 use Rattle.std.specs.Prelude.{ℕ, ◌≡◌, true, List, [], IsSome, None}
 use Rattle.config.specs.declared.draft.Draft.{Draft}
 use Rattle.config.specs.declared.reading.Reading.{Reading}
-use Rattle.config_words.specs.declared.keyword.Place.{Place}
-use Rattle.config_words.specs.declared.keyword.Place.TheVariants.{Start}
+use Rattle.config_words.specs.declared.keyword.LinePlace.{LinePlace}
+use Rattle.config_words.specs.declared.keyword.LinePlace.TheVariants.{Start}
 use Rattle.config.specs.Accepted.{AcceptsLine, IsAccepted}
 use Rattle.config.specs.Configurations.{Parts}
 use Rattle.config_words.specs.Places.{is_section}
@@ -27,7 +27,7 @@ abbrev pub Knows : Parts → Reading → Type 0
 Knows p reading = reading.first ≡ None → IsMeant p reading
 
 -- no line was faulty before, and this line of words was not
-abbrev pub Took : Place → List ℕ × List ℕ → (old new : Reading) → Type 0
+abbrev pub Took : LinePlace → List ℕ × List ℕ → (old new : Reading) → Type 0
 Took at words old new = new.first ≡ None → (old.first ≡ None) × IsAccepted at words
 
 -- no line was faulty before, and this line was not, after these sections

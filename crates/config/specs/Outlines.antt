@@ -6,7 +6,7 @@ use Rattle.config_words.specs.declared.fault.FaultKind.TheVariants.{DefinedTwice
 use Rattle.config.specs.declared.reading.Reading.{Reading}
 use Rattle.config.specs.Drafts.{standing_of}
 use Rattle.config_words.specs.Faults.{precedes}
-use Rattle.config.specs.Standing.{Outline, behind_words, with_fault, words_again}
+use Rattle.config.specs.Standing.{Outline, after_words, with_fault, words_again}
 
 abbrev pub earlier : Option ConfigFault → ConfigFault → ConfigFault
 earlier None fault = fault
@@ -19,21 +19,21 @@ is_repeat KeywordGiven = true
 is_repeat _ = false
 
 -- the fault that is reported where these are the faults of lines that say something again: one of them, or one that comes before them all
-pub record IsToldOf (again : List ConfigFault) (fault : ConfigFault) : Type 0 where
+pub record IsReportedOf (again : List ConfigFault) (fault : ConfigFault) : Type 0 where
   pub known : is_repeat fault.kind ≡ true → Contains again fault
   pub first : All (λ other. precedes fault other ≡ true) again
 
 -- the first fault so far; without one no line has said anything again
-abbrev pub Tells : List ConfigFault → Option ConfigFault → Type 0
-Tells again None = again ≡ []
-Tells again (Some fault) = IsToldOf again fault × (fault.kind ≢ NoMemory)
+abbrev pub Reports : List ConfigFault → Option ConfigFault → Type 0
+Reports again None = again ≡ []
+Reports again (Some fault) = IsReportedOf again fault × (fault.kind ≢ NoMemory)
 
 -- a reading knows what stands in the outline of its lines
 pub record IsOutlined (o : Outline) (reading : Reading) : Type 0 where
   pub standing : standing_of reading.draft ≡ o.standing
-  pub told : Tells o.again reading.first
+  pub reported : Reports o.again reading.first
 
 -- and after one more line of words
-pub record IsBehindWords (o : Outline) (words : List ℕ × List ℕ) (number : ℕ) (reading : Reading) : Type 0 where
-  pub standing : standing_of reading.draft ≡ behind_words (Some words) o.standing
-  pub told : Tells (with_fault o.again number (words_again (Some words) o.standing)) reading.first
+pub record IsAfterWords (o : Outline) (words : List ℕ × List ℕ) (number : ℕ) (reading : Reading) : Type 0 where
+  pub standing : standing_of reading.draft ≡ after_words (Some words) o.standing
+  pub reported : Reports (with_fault o.again number (words_again (Some words) o.standing)) reading.first

@@ -7,7 +7,7 @@ use Rattle.config.specs.declared.config.Boxes.{Boxes}
 use Rattle.config.specs.declared.config.Boxes.TheVariants.{Pair, Matching}
 use Rattle.mailcore.specs.declared.keywords.Keyword as mail
 use Rattle.mailcore.specs.KeywordNames.{with_keyword}
-use Rattle.config_words.specs.declared.keyword.Place.{Place}
+use Rattle.config_words.specs.declared.keyword.LinePlace.{LinePlace}
 use Rattle.config_words.specs.Keywords.{keyword_named, meant_at}
 use Rattle.config_words.specs.Meanings.{Said, SectionIs, GroupIs, HostIs, PortIs, UserIs, PassIs, PathIs, InboxIs, FarIs, NearIs, PatternsAre, SyncIs, CreateIs, ExpungeIs, KeywordIs, ChannelsAre, said}
 use Rattle.config_words.specs.Words.{arguments_of}
@@ -15,7 +15,7 @@ use Rattle.config_words.specs.Words.{arguments_of}
 -- ---- what one line says of each thing
 
 -- what a line of words says at a place
-abbrev pub line_said : Place → List ℕ × List ℕ → Option Said
+abbrev pub line_said : LinePlace → List ℕ × List ℕ → Option Said
 line_said at words = option_and_then (λ k. said (meant_at at k) (arguments_of words.1).list) (keyword_named words.0)
 
 -- the name of the section that begins
@@ -25,7 +25,7 @@ title_in (GroupIs name channels) = Some name
 title_in _ = None
 
 -- a line says something, and the name of the section that begins exactly where one does
-abbrev pub IsTitled : (begins : Option Place) → Option Said → Type 0
+abbrev pub IsTitled : (begins : Option LinePlace) → Option Said → Type 0
 IsTitled None (Some s) = title_in s ≡ None
 IsTitled (Some kind) (Some s) = IsSome (title_in s)
 IsTitled _ None = ⊥

@@ -8,8 +8,8 @@ use Rattle.mailcore.specs.KeywordNames.{keyword_refused, with_keyword}
 use Rattle.config_words.specs.declared.fault.ConfigFault.{ConfigFault}
 use Rattle.config_words.specs.declared.fault.FaultKind.{FaultKind}
 use Rattle.config_words.specs.declared.fault.FaultKind.TheVariants.{DefinedTwice, KeywordGiven}
-use Rattle.config_words.specs.declared.keyword.Place.{Place}
-use Rattle.config_words.specs.declared.keyword.Place.TheVariants.{Start, ImapStore, MaildirStore, Channel}
+use Rattle.config_words.specs.declared.keyword.LinePlace.{LinePlace}
+use Rattle.config_words.specs.declared.keyword.LinePlace.TheVariants.{Start, ImapStore, MaildirStore, Channel}
 use Rattle.config_words.specs.Meanings.{Said}
 use Rattle.config.specs.Names.{is_taken}
 use Rattle.config_words.specs.Places.{opened, closed}
@@ -21,7 +21,7 @@ use Rattle.texts.specs.Lines.{lines_of}
 -- IMAP stores and Maildir stores have their names apart; channels and groups share theirs. Keywords are given before any section, or in
 -- the channel that is open
 pub record Standing : Type 0 where
-  pub at : Place
+  pub at : LinePlace
   pub imap_stores : List (List ℕ)
   pub maildir_stores : List (List ℕ)
   pub channels_and_groups : List (List ℕ)
@@ -32,16 +32,16 @@ abbrev pub before_all : Standing
 before_all = record { at = Start; imap_stores = []; maildir_stores = []; channels_and_groups = []; before = []; own = [] }
 
 -- where a section begins or ends
-abbrev pub standing_at : Place → Standing → Standing
+abbrev pub standing_at : LinePlace → Standing → Standing
 standing_at place s = record s { at = place; own = [] }
 
 -- the names that a section at this place may not have
-abbrev pub names_at : Place → Standing → List (List ℕ)
+abbrev pub names_at : LinePlace → Standing → List (List ℕ)
 names_at ImapStore s = s.imap_stores
 names_at MaildirStore s = s.maildir_stores
 names_at _ s = s.channels_and_groups
 
-abbrev pub with_name : Place → List ℕ → Standing → Standing
+abbrev pub with_name : LinePlace → List ℕ → Standing → Standing
 with_name ImapStore name s = record s { imap_stores = s.imap_stores ++ name ∷ [] }
 with_name MaildirStore name s = record s { maildir_stores = s.maildir_stores ++ name ∷ [] }
 with_name _ name s = record s { channels_and_groups = s.channels_and_groups ++ name ∷ [] }
@@ -57,7 +57,7 @@ name_again None s = None
 name_again (Some name) s = if is_taken name (names_at s.at s) then Some DefinedTwice else None
 
 -- the name that the text after a section's keyword gives; a faulty one gives none
-abbrev pub name_of : Place → List ℕ → Option (List ℕ)
+abbrev pub name_of : LinePlace → List ℕ → Option (List ℕ)
 name_of place text =
     if is_plain text && not (arguments_of text).quoted then name_given (Some place) (arguments_of text).list else None
 
@@ -82,12 +82,12 @@ joined_again None keywords = None
 joined_again (Some k) keywords = if_repeated (keyword_refused k.letter k.name keywords)
 
 -- after a line at this place that gives this keyword, or none: keywords of other places are others
-abbrev pub with_keyword_at : Place → Option mail.Keyword → Standing → Standing
+abbrev pub with_keyword_at : LinePlace → Option mail.Keyword → Standing → Standing
 with_keyword_at Start keyword s = record s { before = joined keyword s.before }
 with_keyword_at Channel keyword s = record s { own = joined keyword s.own }
 with_keyword_at _ keyword s = s
 
-abbrev pub keyword_again : Place → Option mail.Keyword → Standing → Option FaultKind
+abbrev pub keyword_again : LinePlace → Option mail.Keyword → Standing → Option FaultKind
 keyword_again Start keyword s = joined_again keyword s.before
 keyword_again Channel keyword s = joined_again keyword s.own
 keyword_again _ keyword s = None
@@ -96,23 +96,23 @@ keyword_again _ keyword s = None
 abbrev pub keyword_from : Option Said → List ℕ → Option mail.Keyword
 keyword_from says text = if is_plain text && not (arguments_of text).quoted then option_and_then keyword_in says else None
 
-abbrev pub keyword_at : Place → List ℕ × List ℕ → Option mail.Keyword
+abbrev pub keyword_at : LinePlace → List ℕ × List ℕ → Option mail.Keyword
 keyword_at place words = keyword_from (line_said place words) words.1
 
 -- ---- lines
 
 -- a section that begins with this text after its keyword, or else a keyword that is given
-abbrev pub begun : Option Place → Option mail.Keyword → List ℕ → Standing → Standing
+abbrev pub begun : Option LinePlace → Option mail.Keyword → List ℕ → Standing → Standing
 begun None keyword text s = with_keyword_at s.at keyword s
 begun (Some place) keyword text s = named (name_of place text) (standing_at place s)
 
-abbrev pub begins_again : Option Place → Option mail.Keyword → List ℕ → Standing → Option FaultKind
+abbrev pub begins_again : Option LinePlace → Option mail.Keyword → List ℕ → Standing → Option FaultKind
 begins_again None keyword text s = keyword_again s.at keyword s
 begins_again (Some place) keyword text s = name_again (name_of place text) (standing_at place s)
 
-abbrev pub behind_words : Option (List ℕ × List ℕ) → Standing → Standing
-behind_words None s = s
-behind_words (Some words) s = begun (opened s.at words.0) (keyword_at s.at words) words.1 s
+abbrev pub after_words : Option (List ℕ × List ℕ) → Standing → Standing
+after_words None s = s
+after_words (Some words) s = begun (opened s.at words.0) (keyword_at s.at words) words.1 s
 
 -- the fault of a line that says again what stands above it
 abbrev pub words_again : Option (List ℕ × List ℕ) → Standing → Option FaultKind
@@ -120,8 +120,8 @@ words_again None s = None
 words_again (Some words) s = begins_again (opened s.at words.0) (keyword_at s.at words) words.1 s
 
 -- an empty line ends a section
-abbrev pub behind_line : List ℕ → Standing → Standing
-behind_line line s = if is_blank line then standing_at (closed s.at) s else behind_words (words_of line) s
+abbrev pub after_line : List ℕ → Standing → Standing
+after_line line s = if is_blank line then standing_at (closed s.at) s else after_words (words_of line) s
 
 abbrev pub line_again : List ℕ → Standing → Option FaultKind
 line_again line s = if is_blank line then None else words_again (words_of line) s
@@ -145,7 +145,7 @@ with_fault faults line (Some kind) = faults ++ record { line = line; kind = kind
 abbrev pub outlined : Outline → List ℕ → Outline
 outlined o line = record {
   count = o.count + 1;
-  standing = behind_line line o.standing;
+  standing = after_line line o.standing;
   again = with_fault o.again (o.count + 1) (line_again line o.standing);
 }
 

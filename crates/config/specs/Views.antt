@@ -15,8 +15,8 @@ use Rattle.config.specs.declared.section.ChannelDraft.{ChannelDraft}
 use Rattle.config.specs.declared.section.Manner.{Manner}
 use Rattle.config.specs.declared.section.Section.{Section}
 use Rattle.config.specs.declared.section.Section.TheVariants.{Start, Between, ImapStore, MaildirStore, Channel, Group}
-use Rattle.config_words.specs.declared.keyword.Place.{Place}
-use Rattle.config_words.specs.declared.keyword.Place.TheVariants as place
+use Rattle.config_words.specs.declared.keyword.LinePlace.{LinePlace}
+use Rattle.config_words.specs.declared.keyword.LinePlace.TheVariants as place
 use Rattle.config_words.specs.Meanings.{Said, SectionIs, GroupIs, FarIs, NearIs, PatternsAre, ChannelsAre}
 use Rattle.config.specs.Named.{group_named, member_name}
 use Rattle.config.specs.Configurations.{Meaning, Parts, channel_names, channel_value, group_value, imap_names, imap_value, maildir_names, maildir_value, meaning_of, placed}
@@ -201,7 +201,7 @@ with_members names (AtGroup channels) = AtGroup (channels ++ names)
 with_members names other = other
 
 -- the section that has just begun at a place
-abbrev pub sketch_at : Place → Sketch
+abbrev pub sketch_at : LinePlace → Sketch
 sketch_at place.Start = AtStart
 sketch_at place.ImapStore = AtImapStore (imap_store_of [] [])
 sketch_at place.MaildirStore = AtMaildirStore (maildir_said [])
@@ -271,7 +271,7 @@ view_said None v = v
 view_said (Some s) v = view_with s v
 
 -- a section begins
-abbrev pub begun_view : Option Place → View → View
+abbrev pub begun_view : Option LinePlace → View → View
 begun_view None v = v
 begun_view (Some kind) v = record v { section = sketch_at kind; name = [] }
 
@@ -291,7 +291,7 @@ ended_view true v = put_view v.section v.name (record v { section = AtBetween; n
 
 -- ---- what lines make of it
 
-abbrev pub part_sketch : (imap_stores maildir_stores : List (List ℕ)) → Place → List Said → Sketch
+abbrev pub part_sketch : (imap_stores maildir_stores : List (List ℕ)) → LinePlace → List Said → Sketch
 part_sketch imap_stores maildir_stores place.Start says = AtStart
 part_sketch imap_stores maildir_stores place.ImapStore says = AtImapStore (imap_store_of [] says)
 part_sketch imap_stores maildir_stores place.MaildirStore says = AtMaildirStore (maildir_said says)
@@ -300,7 +300,7 @@ part_sketch imap_stores maildir_stores place.Group says = AtGroup (flat_map chan
 part_sketch imap_stores maildir_stores place.Between says = AtBetween
 
 -- the name of the channel that is open
-abbrev pub open_names : Place → List ℕ → List (List ℕ)
+abbrev pub open_names : LinePlace → List ℕ → List (List ℕ)
 open_names place.Channel name = name ∷ []
 open_names _ name = []
 

@@ -4,7 +4,7 @@ ghost use Rattle.std.specs.Prelude.{◌≡◌, ℕ, List, IfOk, IfSome, IsTrue, 
 ghost use Rattle.config.specs.Accepted.{IsAccepted, IsClear};
 ghost use Rattle.config.specs.Drafts.{IsMet, IsMisplaced, IsTaken, entered, entered_again, given, standing_of, unless_misplaced};
 ghost use Rattle.config.specs.Lines.{IsUpTo};
-ghost use Rattle.config.specs.Outlines.{Tells};
+ghost use Rattle.config.specs.Outlines.{Reports};
 ghost use Rattle.config.specs.Readings.{HasLines, IsLine, NamesLines, SectionLines};
 ghost use Rattle.config.specs.Sections.{IsTitled, keyword_in, line_said};
 ghost use Rattle.config.specs.Views.{IsUnmixed, Shows, begun_view, ended_view, first_view, titled_view, imap_place, maildir_place, put_view, set_in_section, sketch, view, view_said, view_with};
@@ -13,14 +13,14 @@ ghost use Rattle.config_words.specs.Meanings.{ChannelsAre, FarIs, NearIs, said, 
 ghost use Rattle.config_words.specs.Words.{Split, arguments_of, is_plain};
 ghost use Rattle.config_words.specs.Places.{closed, is_section, opened};
 ghost use Rattle.config_words.specs.Settings.{name_said};
-ghost use Rattle.config.specs.Standing.{before_all, behind_words, keyword_again, with_keyword_at, keyword_from, name_again, named, standing_at, words_again};
+ghost use Rattle.config.specs.Standing.{before_all, after_words, keyword_again, with_keyword_at, keyword_from, name_again, named, standing_at, words_again};
 
 use crate::config::Config;
 use crate::group::{NamedGroup, place_groups};
 use crate::names::claim;
 use crate::section::{Manner, Section};
 use config_words::fault::{ConfigFault, FaultKind};
-use config_words::keyword::{Keyword, Place};
+use config_words::keyword::{FirstWord, LinePlace};
 use config_words::setting::{BoxPlace, Setting};
 use config_words::words::{Arguments, is_plain};
 use std::alloc::{AllocError, Global};
@@ -41,7 +41,7 @@ pub(crate) struct Draft {
     /// The name of the section.
     name: String,
     /// The keywords of the section so far, or of the lines before any section.
-    seen: Vec<Keyword>,
+    seen: Vec<FirstWord>,
     /// The names of IMAP stores so far, also of those that are faulty.
     imap_names: Vec<String>,
     /// Those of Maildir stores.
@@ -77,7 +77,7 @@ impl Draft {
     /// faulty line of all.
     pub fn into_config(self, first: &mut Option<ConfigFault>) -> Result<Config, AllocError>
         ensures lines { (last : ℕ) → HasLines last self.groups.items → IfSome first.old (IsUpTo last) → OnOk result (IfSome first.new (IsUpTo last)) }
-        ensures again { (again : List ConfigFault) → Tells again first.old → OnOk result (Tells again first.new) }
+        ensures again { (again : List ConfigFault) → Reports again first.old → OnOk result (Reports again first.new) }
         ensures none { OnOk result (first.new ≡ None → first.old ≡ None) }
         ensures shows { IfOk result (λ config. first.new ≡ None → Shows (view self) config) }
     {
@@ -109,7 +109,7 @@ impl Draft {
     /// section lacks.
     pub fn read(&mut self, line: usize, keyword: &[u8], arguments: &[u8]) -> Result<(), FaultKind>
         ensures standing { let words = Some (keyword.now, arguments.now) in
-            IsTaken (words_again words (standing_of self.old)) (behind_words words (standing_of self.old)) (standing_of self.new) result }
+            IsTaken (words_again words (standing_of self.old)) (after_words words (standing_of self.old)) (standing_of self.new) result }
         ensures view { let at = (standing_of self.old).at in
             OnOk result (view self.new ≡ view_said (line_said at (keyword.now, arguments.now)) (begun_view (opened at keyword.now) (view self.old))) }
         ensures titled { let at = (standing_of self.old).at in
@@ -117,7 +117,7 @@ impl Draft {
         ensures accepted { OnOk result (IsAccepted (standing_of self.old).at (keyword.now, arguments.now)) }
         ensures lines { (last : ℕ) → IsLine last line → NamesLines last self.old → NamesLines last self.new }
     {
-        let Some(keyword) = Keyword::read(keyword) else {
+        let Some(keyword) = FirstWord::read(keyword) else {
             return Err(FaultKind::UnknownKeyword);
         };
         let keyword = keyword.at(self.section.place());
@@ -128,7 +128,7 @@ impl Draft {
     /// Reads what stands after a keyword, which may be misplaced.
     fn read_arguments(
         &mut self,
-        keyword: Keyword,
+        keyword: FirstWord,
         misplaced: Option<FaultKind>,
         line: usize,
         arguments: &[u8],
@@ -162,7 +162,7 @@ impl Draft {
     }
 
     /// Notes that a keyword stands here, and opens the section that it begins. It reports whether the keyword may not.
-    fn meet(&mut self, keyword: Keyword) -> Result<Option<FaultKind>, AllocError>
+    fn meet(&mut self, keyword: FirstWord) -> Result<Option<FaultKind>, AllocError>
         ensures standing { IfOk result (λ misplaced.
             IsMet (is_section (standing_of self.old).at) keyword (section_of keyword) (standing_of self.old) (standing_of self.new) misplaced) }
         ensures view { IfOk result (λ misplaced. misplaced ≡ None → view self.new ≡ begun_view (section_of keyword) (view self.old)) }
@@ -183,7 +183,7 @@ impl Draft {
         Ok(None)
     }
 
-    fn open(&mut self, place: Place)
+    fn open(&mut self, place: LinePlace)
         ensures standing { standing_of self.new ≡ standing_at place (standing_of self.old) }
         ensures view { view self.new ≡ begun_view (Some place) (view self.old) }
         ensures lines { (last : ℕ) → NamesLines last self.old → NamesLines last self.new }
@@ -255,9 +255,9 @@ impl Draft {
     {
         self.name = name.clone()?;
         match self.section.place() {
-            Place::ImapStore => claim(&mut self.imap_names, name),
-            Place::MaildirStore => claim(&mut self.maildir_names, name),
-            Place::Channel => {
+            LinePlace::ImapStore => claim(&mut self.imap_names, name),
+            LinePlace::MaildirStore => claim(&mut self.maildir_names, name),
+            LinePlace::Channel => {
                 self.channels.push(name.clone()?)?;
                 claim(&mut self.names, name)
             }

@@ -2,7 +2,7 @@
 
 ghost use Rattle.std.specs.Prelude.{◌≡◌, ℕ, List, IfSome, Some};
 ghost use Rattle.config.specs.Lines.{IsUpTo};
-ghost use Rattle.config.specs.Outlines.{Tells, earlier};
+ghost use Rattle.config.specs.Outlines.{Reports, earlier};
 ghost use Rattle.config.specs.Readings.{IsLine};
 
 use config_words::fault::{ConfigFault, FaultKind};
@@ -21,7 +21,7 @@ pub(crate) fn first_of(first: Option<ConfigFault>, fault: ConfigFault) -> Config
 /// The first fault where a line names no channel.
 pub(crate) fn unknown_first(first: Option<ConfigFault>, line: usize) -> ConfigFault
     ensures lines { (last : ℕ) → IfSome first (IsUpTo last) → IsLine last line → IsUpTo last result }
-    ensures again { (again : List ConfigFault) → Tells again first → Tells again (Some result) }
+    ensures again { (again : List ConfigFault) → Reports again first → Reports again (Some result) }
 {
     let kind = FaultKind::UnknownName;
     first_of(first, ConfigFault { line, kind })

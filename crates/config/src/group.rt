@@ -4,7 +4,7 @@ ghost use Rattle.std.specs.Prelude.{◌≡◌, ◌++◌, ℕ, List, [], IfOk, If
 ghost use Rattle.config.specs.Configurations.{group_value, placed};
 ghost use Rattle.config.specs.Lines.{IsUpTo};
 ghost use Rattle.config.specs.Named.{group_named, member_name};
-ghost use Rattle.config.specs.Outlines.{Tells};
+ghost use Rattle.config.specs.Outlines.{Reports};
 ghost use Rattle.config.specs.Readings.{AreLines, HasLines, IsLine};
 ghost use Rattle.config.specs.Sections.{place_among};
 
@@ -69,7 +69,7 @@ pub(crate) fn place_groups(
     first: &mut Option<ConfigFault>,
 ) -> Result<Vec<Group>, AllocError>
     ensures lines { (last : ℕ) → HasLines last groups.items → IfSome first.old (IsUpTo last) → OnOk result (IfSome first.new (IsUpTo last)) }
-    ensures again { (again : List ConfigFault) → Tells again first.old → OnOk result (Tells again first.new) }
+    ensures again { (again : List ConfigFault) → Reports again first.old → OnOk result (Reports again first.new) }
     ensures none { OnOk result (first.new ≡ None → first.old ≡ None) }
     ensures placed { IfOk result (λ found. first.new ≡ None →
         map group_value found.items ≡ map (placed (map string_bytes channels.now)) (map group_named groups.items)) }
@@ -93,7 +93,7 @@ fn places(
     first: &mut Option<ConfigFault>,
 ) -> Result<Vec<usize>, AllocError>
     ensures lines { (last : ℕ) → AreLines last members.now → IfSome first.old (IsUpTo last) → OnOk result (IfSome first.new (IsUpTo last)) }
-    ensures again { (again : List ConfigFault) → Tells again first.old → OnOk result (Tells again first.new) }
+    ensures again { (again : List ConfigFault) → Reports again first.old → OnOk result (Reports again first.new) }
     ensures none { OnOk result (first.new ≡ None → first.old ≡ None) }
     ensures placed { IfOk result (λ places. first.new ≡ None →
         map Some places.items ≡ map (place_among (map string_bytes channels.now)) (map member_name members.now)) }

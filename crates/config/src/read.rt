@@ -4,7 +4,7 @@ ghost use Rattle.std.specs.Prelude.{◌≡◌, ◌≢◌, [], length, IfErr, IfO
 ghost use Rattle.config.specs.Accepted.{IsWhole};
 ghost use Rattle.config.specs.Configurations.{Means, text_meaning};
 ghost use Rattle.config.specs.Lines.{IsUpTo};
-ghost use Rattle.config.specs.Outlines.{IsToldOf};
+ghost use Rattle.config.specs.Outlines.{IsReportedOf};
 ghost use Rattle.config.specs.Standing.{faults_again};
 ghost use Rattle.texts.specs.Lines.{lines_of};
 
@@ -24,7 +24,7 @@ use texts::lines::Lines;
 pub fn read_config(alloc: Global, text: &[u8]) -> Result<Config, ConfigFault>
     ensures lines { IfErr result (IsUpTo (length (lines_of text.now))) }
     ensures again { MatchResult result (λ config. faults_again text.now ≡ [])
-        (λ fault. fault.kind ≢ FaultKind.NoMemory → IsToldOf (faults_again text.now) fault) }
+        (λ fault. fault.kind ≢ FaultKind.NoMemory → IsReportedOf (faults_again text.now) fault) }
     ensures means { IfOk result (Means (text_meaning text.now)) }
     ensures whole { OnOk result (IsWhole text.now) }
 {
@@ -37,7 +37,7 @@ pub fn read_config(alloc: Global, text: &[u8]) -> Result<Config, ConfigFault>
         }
     }
     match reading.finish() {
-        Ok(told) => told,
+        Ok(reported) => reported,
         Err(_) => Err(no_memory(lines.taken)),
     }
 }

@@ -6,7 +6,7 @@ ghost use Rattle.config.specs.Configurations.{Means, Parts, ended, meaning_of, n
 ghost use Rattle.config.specs.Drafts.{standing_of};
 ghost use Rattle.config.specs.Meant.{Draws, IsMeant, Knows, Took, TookLine};
 ghost use Rattle.config.specs.Views.{view};
-ghost use Rattle.config.specs.Outlines.{IsBehindWords, IsOutlined, IsToldOf, Tells, earlier};
+ghost use Rattle.config.specs.Outlines.{IsAfterWords, IsOutlined, IsReportedOf, Reports, earlier};
 ghost use Rattle.config_words.specs.Places.{closed, is_section};
 ghost use Rattle.config.specs.Readings.{IsLine, IsRead};
 ghost use Rattle.config.specs.Standing.{Outline, no_lines, outlined, standing_at};
@@ -72,7 +72,7 @@ impl Reading {
         requires read { IsRead number self.old }
         ensures read { OnOk result (IsRead number self.new) }
         ensures outlined { (o : Outline) → IsOutlined o self.old →
-            OnOk result (IsBehindWords o (keyword.now, arguments.now) number self.new) }
+            OnOk result (IsAfterWords o (keyword.now, arguments.now) number self.new) }
         ensures meant { (p : Parts) → Knows p self.old → OnOk result (Knows (parted_words (Some (keyword.now, arguments.now)) p) self.new) }
         ensures took { OnOk result (Took (standing_of self.old.draft).at (keyword.now, arguments.now) self.old self.new) }
     {
@@ -104,7 +104,7 @@ impl Reading {
         requires read { IsRead number self.old }
         ensures read { OnOk result (IsRead number self.new) }
         ensures outlined { (o : Outline) → IsOutlined o self.old →
-            OnOk result (IsBehindWords o (keyword.now, arguments.now) number self.new) }
+            OnOk result (IsAfterWords o (keyword.now, arguments.now) number self.new) }
         ensures meant { (p : Parts) → Knows p self.old → OnOk result (Draws (parted_words (Some (keyword.now, arguments.now)) p) self.new) }
         ensures took { OnOk result (Took (standing_of self.old.draft).at (keyword.now, arguments.now) self.old self.new) }
     {
@@ -132,7 +132,7 @@ impl Reading {
     /// Ends the section that is open, if one is: at an empty line, and at the end of the text.
     fn end_section(&mut self) -> Result<(), AllocError>
         ensures read { (last : ℕ) → IsRead last self.old → OnOk result (IsRead last self.new) }
-        ensures told { (again : List ConfigFault) → Tells again self.old.first → Tells again self.new.first }
+        ensures reported { (again : List ConfigFault) → Reports again self.old.first → Reports again self.new.first }
         ensures standing { standing_of self.new.draft ≡ standing_at (closed (standing_of self.old.draft).at) (standing_of self.old.draft) }
         ensures meant { (p : Parts) → Knows p self.old → OnOk result (Knows (ended p) self.new) }
         ensures none { self.new.first ≡ None → self.old.first ≡ None }
@@ -157,11 +157,11 @@ impl Reading {
 
     /// The configuration after the last line, or the first faulty line.
     pub fn finish(mut self) -> Result<Result<Config, ConfigFault>, AllocError>
-        ensures lines { (last : ℕ) → IsRead last self → IfOk result (λ told. IfErr told (IsUpTo last)) }
-        ensures again { (again : List ConfigFault) → Tells again self.first →
-            IfOk result (λ told. MatchResult told (λ config. again ≡ []) (IsToldOf again)) }
-        ensures means { (p : Parts) → Knows p self → IfOk result (λ told. IfOk told (Means (meaning_of (ended p)))) }
-        ensures none { IfOk result (λ told. OnOk told (self.first ≡ None)) }
+        ensures lines { (last : ℕ) → IsRead last self → IfOk result (λ reported. IfErr reported (IsUpTo last)) }
+        ensures again { (again : List ConfigFault) → Reports again self.first →
+            IfOk result (λ reported. MatchResult reported (λ config. again ≡ []) (IsReportedOf again)) }
+        ensures means { (p : Parts) → Knows p self → IfOk result (λ reported. IfOk reported (Means (meaning_of (ended p)))) }
+        ensures none { IfOk result (λ reported. OnOk reported (self.first ≡ None)) }
     {
         self.end_section()?;
         let mut first = self.first;

@@ -4,7 +4,7 @@ use rules::sync_words::SyncWord;
 
 /// What the command line asks for.
 #[derive(Drop)]
-pub struct Request {
+pub struct RunRequest {
     /// The configuration file, if one is named (`-c FILE`).
     pub file: Option<String>,
     /// Which channels.

@@ -15,7 +15,7 @@ use crate::config::{Boxes, Channel, ImapStore, MaildirStore};
 use crate::group::GroupDraft;
 use box_patterns::patterns::{Pattern, Patterns};
 use config_words::fault::FaultKind;
-use config_words::keyword::Place;
+use config_words::keyword::LinePlace;
 use config_words::setting::Setting;
 use mailcore::keywords::Keywords;
 use mailcore::mailbox_name::MailboxName;
@@ -40,33 +40,33 @@ pub(crate) enum Section {
 
 impl Section {
     /// The section that begins at this place.
-    pub fn new(alloc: Global, place: Place) -> Self
+    pub fn new(alloc: Global, place: LinePlace) -> Self
         ensures place { place_of result ≡ place }
         ensures sketch { sketch result ≡ sketch_at place }
         ensures own { own_of result ≡ [] }
         ensures lines { (last : ℕ) → SectionLines last result }
     {
         match place {
-            Place::Start => Section::Start,
-            Place::Between => Section::Between,
-            Place::ImapStore => Section::ImapStore(ImapDraft::new()),
-            Place::MaildirStore => Section::MaildirStore(MaildirDraft::new()),
-            Place::Channel => Section::Channel(ChannelDraft::new(alloc)),
-            Place::Group => Section::Group(GroupDraft::new(alloc)),
+            LinePlace::Start => Section::Start,
+            LinePlace::Between => Section::Between,
+            LinePlace::ImapStore => Section::ImapStore(ImapDraft::new()),
+            LinePlace::MaildirStore => Section::MaildirStore(MaildirDraft::new()),
+            LinePlace::Channel => Section::Channel(ChannelDraft::new(alloc)),
+            LinePlace::Group => Section::Group(GroupDraft::new(alloc)),
         }
     }
 
     /// Where the next line stands.
-    pub fn place(&self) -> Place
+    pub fn place(&self) -> LinePlace
         ensures { result ≡ place_of self.now }
     {
         match self {
-            Section::Start => Place::Start,
-            Section::Between => Place::Between,
-            Section::ImapStore(_) => Place::ImapStore,
-            Section::MaildirStore(_) => Place::MaildirStore,
-            Section::Channel(_) => Place::Channel,
-            Section::Group(_) => Place::Group,
+            Section::Start => LinePlace::Start,
+            Section::Between => LinePlace::Between,
+            Section::ImapStore(_) => LinePlace::ImapStore,
+            Section::MaildirStore(_) => LinePlace::MaildirStore,
+            Section::Channel(_) => LinePlace::Channel,
+            Section::Group(_) => LinePlace::Group,
         }
     }
 

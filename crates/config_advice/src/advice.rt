@@ -4,9 +4,9 @@ use crate::allowed::{allowed_at, head_of, home_of, name_of, taken_by};
 use crate::classes::{Class, class_of};
 use crate::isync::in_place_of;
 use crate::page::Page;
-use crate::section::{Section, section_at};
+use crate::section::{OpenSection, section_at};
 use config_words::fault::{ConfigFault, FaultKind};
-use config_words::keyword::Keyword;
+use config_words::keyword::FirstWord;
 use config_words::words::{LineKind, is_plain};
 use std::alloc::{AllocError, Global};
 use texts::lines::{Line, Lines};
@@ -45,7 +45,7 @@ fn add_fault(
     alloc: Global,
     page: &mut Page,
     text: &[u8],
-    section: Section<'_>,
+    section: OpenSection<'_>,
     line: Line<'_>,
     kind: FaultKind,
 ) -> Result<(), AllocError> {
@@ -59,7 +59,11 @@ fn add_fault(
 }
 
 /// Adds what is wrong with a line, and what to write.
-fn add_class(page: &mut Page, section: Section<'_>, class: Class<'_>) -> Result<(), AllocError> {
+fn add_class(
+    page: &mut Page,
+    section: OpenSection<'_>,
+    class: Class<'_>,
+) -> Result<(), AllocError> {
     match class {
         Class::Unknown(word) => add_unknown(page, section, word),
         Class::Arguments(keyword) => {
@@ -73,7 +77,7 @@ fn add_class(page: &mut Page, section: Section<'_>, class: Class<'_>) -> Result<
 }
 
 /// Adds that a word is no keyword, and what stands in its place.
-fn add_unknown(page: &mut Page, section: Section<'_>, word: &[u8]) -> Result<(), AllocError> {
+fn add_unknown(page: &mut Page, section: OpenSection<'_>, word: &[u8]) -> Result<(), AllocError> {
     page.add_word(word)?;
     if let Some(instead) = in_place_of(word) {
         page.add(" is isync's: ")?;
@@ -84,7 +88,11 @@ fn add_unknown(page: &mut Page, section: Section<'_>, word: &[u8]) -> Result<(),
 }
 
 /// Adds that a keyword stands in a wrong place.
-fn add_outside(page: &mut Page, section: Section<'_>, keyword: Keyword) -> Result<(), AllocError> {
+fn add_outside(
+    page: &mut Page,
+    section: OpenSection<'_>,
+    keyword: FirstWord,
+) -> Result<(), AllocError> {
     page.add(name_of(keyword))?;
     page.add(" stands ")?;
     page.add(home_of(keyword))?;
@@ -106,7 +114,7 @@ fn reason_of(text: &[u8]) -> &'static str {
 /// Adds what a line is refused for that is right by itself.
 fn add_kind(page: &mut Page, line: Line<'_>, kind: FaultKind) -> Result<(), AllocError> {
     let keyword = match LineKind::of(line.text) {
-        LineKind::Words(word, _) => Keyword::read(word),
+        LineKind::Words(word, _) => FirstWord::read(word),
         LineKind::Empty | LineKind::Comment => None,
     };
     let name = keyword.map_or("this line", |keyword| name_of(keyword));
@@ -126,16 +134,16 @@ fn add_kind(page: &mut Page, line: Line<'_>, kind: FaultKind) -> Result<(), Allo
 }
 
 /// What is not known of a name.
-fn unknown_to(keyword: Option<Keyword>) -> &'static str {
+fn unknown_to(keyword: Option<FirstWord>) -> &'static str {
     match keyword {
-        Some(Keyword::Far) => ": no IMAPStore above has this name",
-        Some(Keyword::Near) => ": no MaildirStore above has this name",
+        Some(FirstWord::Far) => ": no IMAPStore above has this name",
+        Some(FirstWord::Near) => ": no MaildirStore above has this name",
         _ => ": no Channel has this name",
     }
 }
 
 /// Adds which keywords a section lacks.
-fn add_missing(page: &mut Page, text: &[u8], section: Section<'_>) -> Result<(), AllocError> {
+fn add_missing(page: &mut Page, text: &[u8], section: OpenSection<'_>) -> Result<(), AllocError> {
     page.add(head_of(section.place))?;
     page.add(" ")?;
     page.add_word(section.name.trim_ascii())?;
@@ -151,7 +159,7 @@ fn add_missing(page: &mut Page, text: &[u8], section: Section<'_>) -> Result<(),
 }
 
 /// Whether a line of this section has a keyword.
-fn has_keyword(text: &[u8], section: Section<'_>, keyword: Keyword) -> bool {
+fn has_keyword(text: &[u8], section: OpenSection<'_>, keyword: FirstWord) -> bool {
     let mut lines = Lines::new(text);
     while let Some(line) = lines.next_or_last() {
         if line.number <= section.first {
@@ -159,7 +167,7 @@ fn has_keyword(text: &[u8], section: Section<'_>, keyword: Keyword) -> bool {
         }
         match LineKind::of(line.text) {
             LineKind::Empty => return false,
-            LineKind::Words(word, _) if Keyword::read(word) == Some(keyword) => return true,
+            LineKind::Words(word, _) if FirstWord::read(word) == Some(keyword) => return true,
             LineKind::Comment | LineKind::Words(..) => {}
         }
     }
@@ -173,7 +181,7 @@ fn add_others(
     text: &[u8],
     number: usize,
 ) -> Result<(), AllocError> {
-    let mut section = Section::start();
+    let mut section = OpenSection::start();
     let mut lines = Lines::new(text);
     let mut left = OTHERS_MAX;
     while let Some(line) = lines.next_or_last() {

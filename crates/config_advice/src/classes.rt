@@ -1,8 +1,8 @@
 //! What is wrong with a line that is taken by itself.
 
-use crate::section::Section;
+use crate::section::OpenSection;
 use config_words::fault::FaultKind;
-use config_words::keyword::Keyword;
+use config_words::keyword::FirstWord;
 use config_words::setting::Setting;
 use config_words::words::{Arguments, LineKind, is_plain};
 use std::alloc::{AllocError, Global};
@@ -14,23 +14,23 @@ pub(crate) enum Class<'a> {
     /// Its first word is no keyword.
     Unknown(&'a [u8]),
     /// The keyword does not take these arguments.
-    Arguments(Keyword),
+    Arguments(FirstWord),
     /// A quote is not closed, or a character may not stand there.
     Text(&'a [u8]),
     /// The keyword does not stand there.
-    Outside(Keyword),
+    Outside(FirstWord),
 }
 
 /// What is wrong with a line in this section. None: nothing, as far as it alone says.
 pub(crate) fn class_of<'a>(
     alloc: Global,
-    section: Section<'a>,
+    section: OpenSection<'a>,
     line: Line<'a>,
 ) -> Result<Option<Class<'a>>, AllocError> {
     let LineKind::Words(word, arguments) = LineKind::of(line.text) else {
         return Ok(None);
     };
-    let Some(keyword) = Keyword::read(word) else {
+    let Some(keyword) = FirstWord::read(word) else {
         return Ok(Some(Class::Unknown(word)));
     };
     if section.is_account {
@@ -47,7 +47,7 @@ pub(crate) fn class_of<'a>(
 /// What is wrong with the arguments of a keyword.
 fn class_of_arguments<'a>(
     alloc: Global,
-    keyword: Keyword,
+    keyword: FirstWord,
     arguments: &'a [u8],
 ) -> Result<Option<Class<'a>>, AllocError> {
     let read = Arguments::read(alloc, arguments)?;

@@ -1,14 +1,14 @@
 //! In which section a line stands.
 
-use config_words::keyword::{Keyword, Place};
+use config_words::keyword::{FirstWord, LinePlace};
 use config_words::words::LineKind;
 use texts::lines::{Line, Lines};
 
 /// A section that is open, or none.
 #[derive(Clone, Copy)]
-pub(crate) struct Section<'a> {
+pub(crate) struct OpenSection<'a> {
     /// Where its lines stand.
-    pub(crate) place: Place,
+    pub(crate) place: LinePlace,
     /// Whether it is an `IMAPAccount`, which is isync's.
     pub(crate) is_account: bool,
     /// What follows its keyword: its name.
@@ -17,11 +17,11 @@ pub(crate) struct Section<'a> {
     pub(crate) first: usize,
 }
 
-impl<'a> Section<'a> {
+impl<'a> OpenSection<'a> {
     /// Before the first line.
-    pub(crate) fn start() -> Section<'static> {
-        Section {
-            place: Place::Start,
+    pub(crate) fn start() -> OpenSection<'static> {
+        OpenSection {
+            place: LinePlace::Start,
             is_account: false,
             name: b"",
             first: 0,
@@ -29,10 +29,10 @@ impl<'a> Section<'a> {
     }
 
     /// The same after this line.
-    pub(crate) fn after(self, line: Line<'a>) -> Section<'a> {
+    pub(crate) fn after(self, line: Line<'a>) -> OpenSection<'a> {
         match LineKind::of(line.text) {
-            LineKind::Empty if self.is_open() => Section {
-                place: Place::Between,
+            LineKind::Empty if self.is_open() => OpenSection {
+                place: LinePlace::Between,
                 is_account: false,
                 ..self
             },
@@ -44,16 +44,16 @@ impl<'a> Section<'a> {
     }
 
     /// The section that this keyword begins, or else the same.
-    fn begun(self, first: usize, keyword: &'a [u8], name: &'a [u8]) -> Section<'a> {
+    fn begun(self, first: usize, keyword: &'a [u8], name: &'a [u8]) -> OpenSection<'a> {
         let is_account = keyword.eq_ignore_ascii_case(b"IMAPAccount");
-        match Keyword::read(keyword).and_then(|keyword| keyword.section()) {
-            Some(place) => Section {
+        match FirstWord::read(keyword).and_then(|keyword| keyword.section()) {
+            Some(place) => OpenSection {
                 place,
                 is_account: false,
                 name,
                 first,
             },
-            None => Section {
+            None => OpenSection {
                 is_account,
                 name,
                 first,
@@ -69,8 +69,8 @@ impl<'a> Section<'a> {
 }
 
 /// The section in which the line of this number stands, and that line.
-pub(crate) fn section_at(text: &[u8], number: usize) -> (Section<'_>, Line<'_>) {
-    let mut section = Section::start();
+pub(crate) fn section_at(text: &[u8], number: usize) -> (OpenSection<'_>, Line<'_>) {
+    let mut section = OpenSection::start();
     let mut lines = Lines::new(text);
     let mut last = Line { number, text: b"" };
     while let Some(line) = lines.next_or_last() {

@@ -1,15 +1,15 @@
 -- The keywords that words name, and those that begin sections.
 use Rattle.std.specs.Prelude.{ℕ, Bool, true, false, ◌||◌, List, Option, Some, None, is_some, codes, if◌then◌else◌}
 use Rattle.std.specs.Str.{str_eq_ignore_ascii_case}
-use Rattle.config_words.specs.declared.keyword.Keyword.{Keyword}
-use Rattle.config_words.specs.declared.keyword.Keyword.TheVariants.{ImapStore, MaildirStore, Channel, Group, Host, Port, User, Pass, Path, Inbox, SubFolders, Far, Near, Patterns, Sync, Create, Expunge, SyncState, Channels}
-use Rattle.config_words.specs.declared.keyword.Keyword.TheVariants as keyword
-use Rattle.config_words.specs.declared.keyword.Place.{Place}
-use Rattle.config_words.specs.declared.keyword.Place.TheVariants as place
+use Rattle.config_words.specs.declared.keyword.FirstWord.{FirstWord}
+use Rattle.config_words.specs.declared.keyword.FirstWord.TheVariants.{ImapStore, MaildirStore, Channel, Group, Host, Port, User, Pass, Path, Inbox, SubFolders, Far, Near, Patterns, Sync, Create, Expunge, SyncState, Channels}
+use Rattle.config_words.specs.declared.keyword.FirstWord.TheVariants as keyword
+use Rattle.config_words.specs.declared.keyword.LinePlace.{LinePlace}
+use Rattle.config_words.specs.declared.keyword.LinePlace.TheVariants as place
 use Rattle.config_words.specs.Places.{is_section}
 
 -- the section that a keyword begins
-abbrev pub section_of : Keyword → Option Place
+abbrev pub section_of : FirstWord → Option LinePlace
 section_of ImapStore = Some place.ImapStore
 section_of MaildirStore = Some place.MaildirStore
 section_of Channel = Some place.Channel
@@ -32,13 +32,13 @@ section_of keyword.Keyword = None
 section_of Channels = None
 
 -- the section that it begins at a place: none within another one
-abbrev pub opened_by : Place → Keyword → Option Place
+abbrev pub opened_by : LinePlace → FirstWord → Option LinePlace
 opened_by place keyword = if is_section place then None else section_of keyword
 
 -- ---- where keywords may stand
 
 -- those that also stand before any section, for all channels
-abbrev pub is_default : Keyword → Bool
+abbrev pub is_default : FirstWord → Bool
 is_default Sync = true
 is_default Create = true
 is_default Expunge = true
@@ -46,7 +46,7 @@ is_default SyncState = true
 is_default keyword.Keyword = true
 is_default _ = false
 
-abbrev pub fits_at : Place → Keyword → Bool
+abbrev pub fits_at : LinePlace → FirstWord → Bool
 fits_at place.Start k = is_some (section_of k) || is_default k
 fits_at place.Between k = is_some (section_of k)
 fits_at place.ImapStore Host = true
@@ -66,7 +66,7 @@ fits_at place.Group Channels = true
 fits_at place.Group _ = false
 
 -- those that may stand in one place any number of times
-abbrev pub adds_up : Keyword → Bool
+abbrev pub adds_up : FirstWord → Bool
 adds_up Patterns = true
 adds_up keyword.Keyword = true
 adds_up Channels = true
@@ -74,7 +74,7 @@ adds_up _ = false
 
 -- ---- words, which compare without case
 
-abbrev pub manner_keyword : List ℕ → Option Keyword
+abbrev pub manner_keyword : List ℕ → Option FirstWord
 manner_keyword word =
     if str_eq_ignore_ascii_case word (codes "Sync") then Some Sync
     else (if str_eq_ignore_ascii_case word (codes "Create") then Some Create
@@ -83,7 +83,7 @@ manner_keyword word =
     else (if str_eq_ignore_ascii_case word (codes "Keyword") then Some keyword.Keyword
     else (if str_eq_ignore_ascii_case word (codes "Channels") then Some Channels else None)))))
 
-abbrev pub setting_keyword : List ℕ → Option Keyword
+abbrev pub setting_keyword : List ℕ → Option FirstWord
 setting_keyword word =
     if str_eq_ignore_ascii_case word (codes "Host") then Some Host
     else (if str_eq_ignore_ascii_case word (codes "Port") then Some Port
@@ -97,7 +97,7 @@ setting_keyword word =
     else (if str_eq_ignore_ascii_case word (codes "Pattern") || str_eq_ignore_ascii_case word (codes "Patterns") then Some Patterns
     else manner_keyword word)))))))))
 
-abbrev pub section_keyword : List ℕ → Option Keyword
+abbrev pub section_keyword : List ℕ → Option FirstWord
 section_keyword word =
     if str_eq_ignore_ascii_case word (codes "IMAPStore") then Some ImapStore
     else (if str_eq_ignore_ascii_case word (codes "MaildirStore") then Some MaildirStore
@@ -105,14 +105,14 @@ section_keyword word =
     else (if str_eq_ignore_ascii_case word (codes "Group") then Some Group else None)))
 
 -- the keyword that a word names, one that begins sections or else another one
-abbrev pub or_setting : Option Keyword → List ℕ → Option Keyword
+abbrev pub or_setting : Option FirstWord → List ℕ → Option FirstWord
 or_setting (Some k) word = Some k
 or_setting None word = setting_keyword word
 
-abbrev pub keyword_named : List ℕ → Option Keyword
+abbrev pub keyword_named : List ℕ → Option FirstWord
 keyword_named word = or_setting (section_keyword word) word
 
 -- what it means at a place: in a group `Channel` adds channels
-abbrev pub meant_at : Place → Keyword → Keyword
+abbrev pub meant_at : LinePlace → FirstWord → FirstWord
 meant_at place.Group Channel = Channels
 meant_at _ k = k

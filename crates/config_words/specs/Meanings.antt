@@ -10,8 +10,8 @@ use Rattle.rules.specs.declared.options.Sides.{Sides}
 use Rattle.rules.specs.declared.sync_words.SyncFault.{SyncFault}
 use Rattle.rules.specs.declared.sync_words.SyncFault.TheVariants.{BadWord, CellTwice}
 use Rattle.rules.specs.SyncWords.{sync_cells}
-use Rattle.config_words.specs.declared.keyword.Keyword.{Keyword}
-use Rattle.config_words.specs.declared.keyword.Keyword.TheVariants as keyword
+use Rattle.config_words.specs.declared.keyword.FirstWord.{FirstWord}
+use Rattle.config_words.specs.declared.keyword.FirstWord.TheVariants as keyword
 use Rattle.config_words.specs.declared.fault.FaultKind.{FaultKind}
 use Rattle.config_words.specs.declared.fault.FaultKind.TheVariants.{WrongArguments, NoMemory}
 use Rattle.config_words.specs.declared.setting.BoxPlace.{BoxPlace}
@@ -121,7 +121,7 @@ group_of (name ∷ channels) = Some (GroupIs name channels)
 -- ---- keywords
 
 -- what a keyword says with one argument that may be any text
-abbrev pub text_said : Keyword → List ℕ → Option Said
+abbrev pub text_said : FirstWord → List ℕ → Option Said
 text_said keyword.ImapStore text = Some (SectionIs text)
 text_said keyword.MaildirStore text = Some (SectionIs text)
 text_said keyword.Channel text = Some (SectionIs text)
@@ -132,7 +132,7 @@ text_said keyword.Inbox text = Some (InboxIs text)
 text_said _ text = None
 
 -- and with one argument
-abbrev pub one_said : Keyword → List ℕ → Option Said
+abbrev pub one_said : FirstWord → List ℕ → Option Said
 one_said keyword.Port text = option_map PortIs (port_of text)
 one_said keyword.Path text = option_map PathIs (path_of text)
 one_said keyword.Far text = option_map (λ place. FarIs place.0 place.1) (place_of text)
@@ -143,12 +143,12 @@ one_said keyword.SyncState text = word_said (codes "*") text
 one_said keyword.SubFolders text = word_said (codes "Verbatim") text
 one_said k text = text_said k text
 
-abbrev pub only_said : Keyword → List (List ℕ) → Option Said
+abbrev pub only_said : FirstWord → List (List ℕ) → Option Said
 only_said k (text ∷ []) = one_said k text
 only_said k [] = None
 only_said k (text ∷ more ∷ texts) = None
 
-abbrev pub all_said : Keyword → List (List ℕ) → Option Said
+abbrev pub all_said : FirstWord → List (List ℕ) → Option Said
 all_said keyword.Group arguments = group_of arguments
 all_said keyword.Channels arguments = option_map ChannelsAre (some_of arguments)
 all_said keyword.Patterns arguments = option_map PatternsAre (patterns_of arguments)
@@ -157,7 +157,7 @@ all_said keyword.Keyword arguments = keyword_of arguments
 all_said k arguments = only_said k arguments
 
 -- what a keyword says with these arguments; none where it does not take them
-abbrev pub said : Keyword → List (List ℕ) → Option Said
+abbrev pub said : FirstWord → List (List ℕ) → Option Said
 said k arguments = if list_all is_argument arguments then all_said k arguments else None
 
 -- ---- settings

@@ -1,11 +1,11 @@
 -- Where a line of a configuration stands, and which sections its first word begins.
 use Rattle.std.specs.Prelude.{ℕ, Bool, true, false, List, [], ◌∷◌, Option, Some, None, codes, if◌then◌else◌}
 use Rattle.std.specs.Str.{str_eq_ignore_ascii_case}
-use Rattle.config_words.specs.declared.keyword.Place.{Place}
-use Rattle.config_words.specs.declared.keyword.Place.TheVariants.{Start, Between, ImapStore, MaildirStore, Channel, Group}
+use Rattle.config_words.specs.declared.keyword.LinePlace.{LinePlace}
+use Rattle.config_words.specs.declared.keyword.LinePlace.TheVariants.{Start, Between, ImapStore, MaildirStore, Channel, Group}
 
 -- whether a section is open here
-abbrev pub is_section : Place → Bool
+abbrev pub is_section : LinePlace → Bool
 is_section Start = false
 is_section Between = false
 is_section ImapStore = true
@@ -14,7 +14,7 @@ is_section Channel = true
 is_section Group = true
 
 -- the place after an empty line, which ends a section
-abbrev pub closed : Place → Place
+abbrev pub closed : LinePlace → LinePlace
 closed Start = Start
 closed Between = Between
 closed ImapStore = Between
@@ -23,7 +23,7 @@ closed Channel = Between
 closed Group = Between
 
 -- the section that a word names; keywords compare without case
-abbrev pub section_named : List ℕ → Option Place
+abbrev pub section_named : List ℕ → Option LinePlace
 section_named word =
     if str_eq_ignore_ascii_case word (codes "IMAPStore") then Some ImapStore
     else (if str_eq_ignore_ascii_case word (codes "MaildirStore") then Some MaildirStore
@@ -31,5 +31,5 @@ section_named word =
     else (if str_eq_ignore_ascii_case word (codes "Group") then Some Group else None)))
 
 -- the section that a line with this first word begins: none within another one
-abbrev pub opened : Place → List ℕ → Option Place
+abbrev pub opened : LinePlace → List ℕ → Option LinePlace
 opened place word = if is_section place then None else section_named word

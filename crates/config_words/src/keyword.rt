@@ -6,7 +6,7 @@ ghost use Rattle.config_words.specs.Places.{is_section, section_named};
 
 /// What the first word of a line is.
 #[derive(Clone, Copy, PartialEq, Eq)]
-pub enum Keyword {
+pub enum FirstWord {
     ImapStore,
     MaildirStore,
     Channel,
@@ -31,7 +31,7 @@ pub enum Keyword {
 
 /// Where a line stands.
 #[derive(Clone, Copy, PartialEq, Eq)]
-pub enum Place {
+pub enum LinePlace {
     /// Before any section.
     Start,
     /// After a section, and in none.
@@ -42,110 +42,110 @@ pub enum Place {
     Group,
 }
 
-impl Keyword {
+impl FirstWord {
     /// The keyword of this word, or none if it is none. Words compare without case.
-    pub fn read(word: &[u8]) -> Option<Keyword>
+    pub fn read(word: &[u8]) -> Option<FirstWord>
         ensures section { option_and_then section_of result ≡ section_named word.now }
         ensures named { result ≡ keyword_named word.now }
     {
-        match Keyword::of_section(word) {
+        match FirstWord::of_section(word) {
             Some(keyword) => Some(keyword),
-            None => Keyword::of_setting(word),
+            None => FirstWord::of_setting(word),
         }
     }
 
     /// The keyword of this word, if it is one that begins a section.
-    fn of_section(word: &[u8]) -> Option<Keyword>
+    fn of_section(word: &[u8]) -> Option<FirstWord>
         ensures section { option_and_then section_of result ≡ section_named word.now }
         ensures none { IfNone result (section_named word.now ≡ None) }
         ensures named { result ≡ section_keyword word.now }
     {
         if word.eq_ignore_ascii_case(b"IMAPStore") {
-            Some(Keyword::ImapStore)
+            Some(FirstWord::ImapStore)
         } else if word.eq_ignore_ascii_case(b"MaildirStore") {
-            Some(Keyword::MaildirStore)
+            Some(FirstWord::MaildirStore)
         } else if word.eq_ignore_ascii_case(b"Channel") {
-            Some(Keyword::Channel)
+            Some(FirstWord::Channel)
         } else if word.eq_ignore_ascii_case(b"Group") {
-            Some(Keyword::Group)
+            Some(FirstWord::Group)
         } else {
             None
         }
     }
 
     /// The keyword of this word, if it is one that begins no section.
-    fn of_setting(word: &[u8]) -> Option<Keyword>
+    fn of_setting(word: &[u8]) -> Option<FirstWord>
         ensures section { option_and_then section_of result ≡ None }
         ensures named { result ≡ setting_keyword word.now }
     {
         if word.eq_ignore_ascii_case(b"Host") {
-            Some(Keyword::Host)
+            Some(FirstWord::Host)
         } else if word.eq_ignore_ascii_case(b"Port") {
-            Some(Keyword::Port)
+            Some(FirstWord::Port)
         } else if word.eq_ignore_ascii_case(b"User") {
-            Some(Keyword::User)
+            Some(FirstWord::User)
         } else if word.eq_ignore_ascii_case(b"Pass") {
-            Some(Keyword::Pass)
+            Some(FirstWord::Pass)
         } else if word.eq_ignore_ascii_case(b"Path") {
-            Some(Keyword::Path)
+            Some(FirstWord::Path)
         } else if word.eq_ignore_ascii_case(b"Inbox") {
-            Some(Keyword::Inbox)
+            Some(FirstWord::Inbox)
         } else if word.eq_ignore_ascii_case(b"SubFolders") {
-            Some(Keyword::SubFolders)
+            Some(FirstWord::SubFolders)
         } else if word.eq_ignore_ascii_case(b"Far") {
-            Some(Keyword::Far)
+            Some(FirstWord::Far)
         } else if word.eq_ignore_ascii_case(b"Near") {
-            Some(Keyword::Near)
+            Some(FirstWord::Near)
         } else if word.eq_ignore_ascii_case(b"Pattern") || word.eq_ignore_ascii_case(b"Patterns") {
-            Some(Keyword::Patterns)
+            Some(FirstWord::Patterns)
         } else {
-            Keyword::of_manner(word)
+            FirstWord::of_manner(word)
         }
     }
 
     /// The keyword of this word, if it is one of those that are left.
-    fn of_manner(word: &[u8]) -> Option<Keyword>
+    fn of_manner(word: &[u8]) -> Option<FirstWord>
         ensures section { option_and_then section_of result ≡ None }
         ensures named { result ≡ manner_keyword word.now }
     {
         if word.eq_ignore_ascii_case(b"Sync") {
-            Some(Keyword::Sync)
+            Some(FirstWord::Sync)
         } else if word.eq_ignore_ascii_case(b"Create") {
-            Some(Keyword::Create)
+            Some(FirstWord::Create)
         } else if word.eq_ignore_ascii_case(b"Expunge") {
-            Some(Keyword::Expunge)
+            Some(FirstWord::Expunge)
         } else if word.eq_ignore_ascii_case(b"SyncState") {
-            Some(Keyword::SyncState)
+            Some(FirstWord::SyncState)
         } else if word.eq_ignore_ascii_case(b"Keyword") {
-            Some(Keyword::Keyword)
+            Some(FirstWord::Keyword)
         } else if word.eq_ignore_ascii_case(b"Channels") {
-            Some(Keyword::Channels)
+            Some(FirstWord::Channels)
         } else {
             None
         }
     }
 
     /// What it means at this place: in a group `Channel` adds channels.
-    pub fn at(self, place: Place) -> Keyword
+    pub fn at(self, place: LinePlace) -> FirstWord
         ensures opened { opened_by place result ≡ opened_by place self }
         ensures meant { result ≡ meant_at place self }
     {
-        if self == Keyword::Channel && place == Place::Group {
-            Keyword::Channels
+        if self == FirstWord::Channel && place == LinePlace::Group {
+            FirstWord::Channels
         } else {
             self
         }
     }
 
     /// The place after it, if it begins a section.
-    pub fn section(self) -> Option<Place>
+    pub fn section(self) -> Option<LinePlace>
         ensures { result ≡ section_of self }
     {
         match self {
-            Keyword::ImapStore => Some(Place::ImapStore),
-            Keyword::MaildirStore => Some(Place::MaildirStore),
-            Keyword::Channel => Some(Place::Channel),
-            Keyword::Group => Some(Place::Group),
+            FirstWord::ImapStore => Some(LinePlace::ImapStore),
+            FirstWord::MaildirStore => Some(LinePlace::MaildirStore),
+            FirstWord::Channel => Some(LinePlace::Channel),
+            FirstWord::Group => Some(LinePlace::Group),
             _ => None,
         }
     }
@@ -156,29 +156,31 @@ impl Keyword {
     {
         matches!(
             self,
-            Keyword::Patterns | Keyword::Keyword | Keyword::Channels
+            FirstWord::Patterns | FirstWord::Keyword | FirstWord::Channels
         )
     }
 
     /// Whether it may stand at this place.
-    pub fn fits(self, place: Place) -> bool
+    pub fn fits(self, place: LinePlace) -> bool
         ensures section { IsSome (section_of self) → result ≡ not (is_section place) }
         ensures fits { result ≡ fits_at place self }
     {
         match place {
-            Place::Start => self.section().is_some() || self.is_default(),
-            Place::Between => self.section().is_some(),
-            Place::ImapStore => matches!(
+            LinePlace::Start => self.section().is_some() || self.is_default(),
+            LinePlace::Between => self.section().is_some(),
+            LinePlace::ImapStore => matches!(
                 self,
-                Keyword::Host | Keyword::Port | Keyword::User | Keyword::Pass
+                FirstWord::Host | FirstWord::Port | FirstWord::User | FirstWord::Pass
             ),
-            Place::MaildirStore => matches!(
+            LinePlace::MaildirStore => matches!(
                 self,
-                Keyword::Path | Keyword::Inbox | Keyword::SubFolders
+                FirstWord::Path | FirstWord::Inbox | FirstWord::SubFolders
             ),
-            Place::Channel => matches!(self, Keyword::Far | Keyword::Near | Keyword::Patterns)
-                || self.is_default(),
-            Place::Group => self == Keyword::Channels,
+            LinePlace::Channel => matches!(
+                self,
+                FirstWord::Far | FirstWord::Near | FirstWord::Patterns
+            ) || self.is_default(),
+            LinePlace::Group => self == FirstWord::Channels,
         }
     }
 
@@ -189,23 +191,23 @@ impl Keyword {
     {
         matches!(
             self,
-            Keyword::Sync
-                | Keyword::Create
-                | Keyword::Expunge
-                | Keyword::SyncState
-                | Keyword::Keyword
+            FirstWord::Sync
+                | FirstWord::Create
+                | FirstWord::Expunge
+                | FirstWord::SyncState
+                | FirstWord::Keyword
         )
     }
 }
 
-impl Place {
+impl LinePlace {
     /// The keywords that a section has to have.
-    pub fn required(self) -> &'static [Keyword] {
+    pub fn required(self) -> &'static [FirstWord] {
         match self {
-            Place::ImapStore => &[Keyword::Host, Keyword::User, Keyword::Pass],
-            Place::MaildirStore => &[Keyword::Path],
-            Place::Channel => &[Keyword::Far, Keyword::Near],
-            Place::Start | Place::Between | Place::Group => &[],
+            LinePlace::ImapStore => &[FirstWord::Host, FirstWord::User, FirstWord::Pass],
+            LinePlace::MaildirStore => &[FirstWord::Path],
+            LinePlace::Channel => &[FirstWord::Far, FirstWord::Near],
+            LinePlace::Start | LinePlace::Between | LinePlace::Group => &[],
         }
     }
 
@@ -213,6 +215,6 @@ impl Place {
     pub fn is_section(self) -> bool
         ensures { result ≡ is_section self }
     {
-        !matches!(self, Place::Start | Place::Between)
+        !matches!(self, LinePlace::Start | LinePlace::Between)
     }
 }

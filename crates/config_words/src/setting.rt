@@ -6,11 +6,11 @@ ghost use Rattle.config_words.specs.Keywords.{section_of};
 ghost use Rattle.config_words.specs.Meanings.{Gives, all_said, box_of, cells_of, group_of, keyword_of, names_a_box, one_said, parts_of, path_of, patterns_of, place_of};
 ghost use Rattle.config_words.specs.Meanings.{place_value, port_of, said, said_of, sides_of, some_of, text_said, word_said};
 ghost use Rattle.config_words.specs.Settings.{IsRefusal, SaysName, SaysNoName, SaysOne, heading, is_argument, name_among};
-ghost use Rattle.config_words.specs.declared.keyword.Place.TheVariants.{Group as in_group};
+ghost use Rattle.config_words.specs.declared.keyword.LinePlace.TheVariants.{Group as in_group};
 
 use crate::fault::FaultKind;
 use crate::inbox::is_inbox;
-use crate::keyword::Keyword;
+use crate::keyword::FirstWord;
 use box_patterns::patterns::Pattern;
 use mailcore::keywords::is_keyword_name;
 use mailcore::mailbox_name::MailboxName;
@@ -60,7 +60,7 @@ pub enum Setting {
 
 impl Setting {
     /// What this keyword says with these arguments. `WrongArguments`: it does not take them. `NoMemory`.
-    pub fn read(alloc: Global, keyword: Keyword, arguments: &[String]) -> Result<Self, FaultKind>
+    pub fn read(alloc: Global, keyword: FirstWord, arguments: &[String]) -> Result<Self, FaultKind>
         ensures name { SaysName (heading keyword (map string_bytes arguments.now)) result }
         ensures means { Gives said_of (said keyword (map string_bytes arguments.now)) result }
     {
@@ -83,16 +83,20 @@ impl Setting {
 }
 
 /// What this keyword says with arguments of which each is one.
-fn read_plainly(alloc: Global, keyword: Keyword, arguments: &[String]) -> Result<Setting, FaultKind>
+fn read_plainly(
+    alloc: Global,
+    keyword: FirstWord,
+    arguments: &[String],
+) -> Result<Setting, FaultKind>
     ensures name { SaysName (option_and_then (λ p. name_among p (map string_bytes arguments.now)) (section_of keyword)) result }
     ensures means { Gives said_of (all_said keyword (map string_bytes arguments.now)) result }
 {
     match keyword {
-        Keyword::Group => read_group(alloc, arguments),
-        Keyword::Channels => Ok(Setting::Channels(some_copies(alloc, arguments)?)),
-        Keyword::Patterns => Ok(Setting::Patterns(read_patterns(alloc, arguments)?)),
-        Keyword::Sync => Ok(Setting::Sync(read_cells(alloc, arguments)?)),
-        Keyword::Keyword => read_keyword(arguments),
+        FirstWord::Group => read_group(alloc, arguments),
+        FirstWord::Channels => Ok(Setting::Channels(some_copies(alloc, arguments)?)),
+        FirstWord::Patterns => Ok(Setting::Patterns(read_patterns(alloc, arguments)?)),
+        FirstWord::Sync => Ok(Setting::Sync(read_cells(alloc, arguments)?)),
+        FirstWord::Keyword => read_keyword(arguments),
         _ => match arguments {
             [argument] => read_one(alloc, keyword, argument),
             _ => Err(FaultKind::WrongArguments),
@@ -119,34 +123,36 @@ fn has_no_tab(text: &[u8]) -> bool
 }
 
 /// What a keyword says that takes one argument.
-fn read_one(alloc: Global, keyword: Keyword, argument: &str) -> Result<Setting, FaultKind>
+fn read_one(alloc: Global, keyword: FirstWord, argument: &str) -> Result<Setting, FaultKind>
     ensures name { SaysOne keyword argument.now result }
     ensures means { Gives said_of (one_said keyword argument.now) result }
 {
     match keyword {
-        Keyword::Port => Ok(Setting::Port(read_port(argument)?)),
-        Keyword::Path => Ok(Setting::Path(read_path(alloc, argument)?)),
-        Keyword::Far => Ok(Setting::Far(read_place(alloc, argument)?)),
-        Keyword::Near => Ok(Setting::Near(read_place(alloc, argument)?)),
-        Keyword::Create => Ok(Setting::Create(read_sides(argument)?)),
-        Keyword::Expunge => Ok(Setting::Expunge(read_sides(argument)?)),
-        Keyword::SyncState => read_word(argument, "*"),
-        Keyword::SubFolders => read_word(argument, "Verbatim"),
+        FirstWord::Port => Ok(Setting::Port(read_port(argument)?)),
+        FirstWord::Path => Ok(Setting::Path(read_path(alloc, argument)?)),
+        FirstWord::Far => Ok(Setting::Far(read_place(alloc, argument)?)),
+        FirstWord::Near => Ok(Setting::Near(read_place(alloc, argument)?)),
+        FirstWord::Create => Ok(Setting::Create(read_sides(argument)?)),
+        FirstWord::Expunge => Ok(Setting::Expunge(read_sides(argument)?)),
+        FirstWord::SyncState => read_word(argument, "*"),
+        FirstWord::SubFolders => read_word(argument, "Verbatim"),
         _ => read_text(keyword, String::from_str(alloc, argument)?),
     }
 }
 
 /// What a keyword says that takes any text.
-fn read_text(keyword: Keyword, text: String) -> Result<Setting, FaultKind>
+fn read_text(keyword: FirstWord, text: String) -> Result<Setting, FaultKind>
     ensures name { SaysOne keyword (string_bytes text) result }
     ensures means { Gives said_of (text_said keyword (string_bytes text)) result }
 {
     match keyword {
-        Keyword::ImapStore | Keyword::MaildirStore | Keyword::Channel => Ok(Setting::Section(text)),
-        Keyword::Host => Ok(Setting::Host(text)),
-        Keyword::User => Ok(Setting::User(text)),
-        Keyword::Pass => Ok(Setting::Pass(text)),
-        Keyword::Inbox => Ok(Setting::Inbox(text)),
+        FirstWord::ImapStore | FirstWord::MaildirStore | FirstWord::Channel => Ok(Setting::Section(
+            text,
+        )),
+        FirstWord::Host => Ok(Setting::Host(text)),
+        FirstWord::User => Ok(Setting::User(text)),
+        FirstWord::Pass => Ok(Setting::Pass(text)),
+        FirstWord::Inbox => Ok(Setting::Inbox(text)),
         _ => Err(FaultKind::WrongArguments),
     }
 }

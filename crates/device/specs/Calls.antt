@@ -27,7 +27,7 @@ pub data Others (Stored : Type 0) : Type 1 where
 pub record Follows {Stored : Type 0} (others own : Effect Stored) (old new : Stored) : Type 0 where
   pub mid : Stored
   pub before : others old mid
-  pub behind : own mid new
+  pub following : own mid new
 
 -- an effect after what others did
 abbrev pub among : {Stored : Type 0} → Others Stored → Effect Stored → Effect Stored
@@ -67,8 +67,8 @@ abbrev pub Stays : {Stored : Type 0} → Effect Stored
 Stays old new = new ≡ old
 
 -- nothing is changed, and the answer is so
-abbrev pub Answers : {Stored T : Type 0} → (tells : T → Stored → Type 0) → T → Effect Stored
-Answers tells answer old new = (new ≡ old) × tells answer old
+abbrev pub Answers : {Stored T : Type 0} → (states : T → Stored → Type 0) → T → Effect Stored
+Answers states answer old new = (new ≡ old) × states answer old
 
 -- there are no parts of this call
 abbrev pub Nothing : {Stored : Type 0} → Effect Stored
@@ -85,8 +85,8 @@ abbrev pub Call : {Stored T : Type 0} → Bool → (does part : Effect Stored) �
 Call is_honest does part = Acts (is_honest ≡ true) IsStop Nobody (λ answer. does) (λ fault. Leaves does part)
 
 -- a call that changes nothing and answers what is so
-abbrev pub Read : {Stored T : Type 0} → Bool → (tells : T → Stored → Type 0) → Seen Stored → Seen Stored → Result T DeviceFault → Type 0
-Read is_honest tells = Acts (is_honest ≡ true) IsStop Nobody (Answers tells) (λ fault. Stays)
+abbrev pub Read : {Stored T : Type 0} → Bool → (states : T → Stored → Type 0) → Seen Stored → Seen Stored → Result T DeviceFault → Type 0
+Read is_honest states = Acts (is_honest ≡ true) IsStop Nobody (Answers states) (λ fault. Stays)
 
 -- a call that changes nothing and answers nothing
 abbrev pub Rest : {Stored T : Type 0} → Bool → Seen Stored → Seen Stored → Result T DeviceFault → Type 0

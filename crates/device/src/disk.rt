@@ -77,7 +77,7 @@ impl<R: Files + AllocGlobal + Clone + Drop> Disk<R> {
     }
 
     /// What a call answers to whom the system answered this. After an error each later call stops.
-    pub fn tell<T>(&mut self, answer: io::Result<T>) -> Result<T, DeviceFault>
+    pub fn report<T>(&mut self, answer: io::Result<T>) -> Result<T, DeviceFault>
         ensures ok { OnOk result (self.new ≡ self.old) }
         ensures path { self.new.path ≡ self.old.path }
         ensures broken { OnErr result (self.new.condition.is_broken ≡ true) }

@@ -20,7 +20,7 @@ pub enum Moment {
 
 /// A stop of a schedule. `C` names the calls of a device.
 #[derive(Clone, Copy, PartialEq, Eq)]
-pub struct Stop<C> {
+pub struct CallStop<C> {
     /// Which call stops.
     pub call: C,
     /// Which of the calls of this name, counted from 1 over the device's life. A stop at 0 is never met.
@@ -35,7 +35,7 @@ pub struct Stop<C> {
 pub struct Scheduled<C> {
     condition: Condition,
     /// Each with the number of calls that are still to be made until it is met, itself included; 0 once it was.
-    stops: Vec<Stop<C>>,
+    stops: Vec<CallStop<C>>,
 }
 
 impl<C> Model for Scheduled<C> {
@@ -48,7 +48,7 @@ impl<C> Model for Scheduled<C> {
 
 impl<C: Copy + PartialEq> Scheduled<C> {
     /// A device of which no call was made, and whose calls stop as the schedule says.
-    pub fn new(schedule: Vec<Stop<C>>) -> Self
+    pub fn new(schedule: Vec<CallStop<C>>) -> Self
         ensures { result ≡ whole }
     {
         Scheduled {

@@ -36,9 +36,9 @@ pub ends_unmade : (T : Type 0) (old new : State) (e : FarFault) → old.stops �
 ends_unmade T old new e counts stopped = (λ is. sent_cause (tag_text 1) old new (stopped (ap failed_with is)), counts)
 
 -- one call after another
-pub ends_behind : {T : Type 0} (old mid new : State) (r : Result T FarFault) → mid.stops ≡ old.stops → Ends mid new r → Ends old new r
-ends_behind old mid new (Ok x) same ends = (ends.0, ends.1 ∙ same)
-ends_behind old mid new (Err e) same ends = (
+pub ends_after : {T : Type 0} (old mid new : State) (r : Result T FarFault) → mid.stops ≡ old.stops → Ends mid new r → Ends old new r
+ends_after old mid new (Ok x) same ends = (ends.0, ends.1 ∙ same)
+ends_after old mid new (Err e) same ends = (
   λ is. subst (λ (n : ℕ). (n < new.stops) ⊎ HasEnded new) same (ends.0 is),
   subst (λ (n : ℕ). n ≤ new.stops) same ends.1,
 )

@@ -9,7 +9,7 @@ use Rattle.mailcore.specs.Stores.{Store, IsStore}
 use Rattle.mailcore.specs.declared.listing.Item.{Item}
 use Rattle.mailcore.specs.KeywordNames.{IsWithin}
 use Rattle.mailcore.proofs.KnownFlags.{kept-within}
-use Rattle.mailbox.specs.Operations.{ListsFar, ListsWithin, TellsNext}
+use Rattle.mailbox.specs.Operations.{ListsFar, ListsWithin, ReportsNext}
 use Rattle.visitors.specs.Visitors.{Visitors}
 use Rattle.imap_session.specs.Visits.{AllGain, Visits, Among}
 use Rattle.imap_client.proofs.Visited.{at_once}
@@ -26,9 +26,9 @@ use Rattle.imap_session.specs.Mailboxes.{FarMailbox, mailbox_at}
 use Rattle.imap_session.specs.Servers.{Server, is_before_login, is_logged_in}
 use Rattle.imap_answers.specs.Listings.{ListsFrom, next_above}
 use Rattle.imap_client.specs.Logins.{Authenticates, Rejects, Remains}
-use Rattle.imap_client.specs.Readings.{Tells}
+use Rattle.imap_client.specs.Readings.{Reports}
 use Rattle.far_side.specs.declared.stage.Stage.{Stage}
-use Rattle.far_side.specs.Chosen.{IsChosen, IsUnknown, KeepsMailboxes, ListsAll, LogsIn, Misses, TellsValidity, store_at}
+use Rattle.far_side.specs.Chosen.{IsChosen, IsUnknown, KeepsMailboxes, ListsAll, LogsIn, Misses, ReportsValidity, store_at}
 use Rattle.far_side.specs.Stages.{RefusesAll}
 use Rattle.far_side.proofs.Mailboxes.{store_is}
 
@@ -103,10 +103,10 @@ module _ (v : Visitors) (user password : List ℕ) (old mid : Server) where
 -- ---- a selection after it
 
 module _ (stage : Stage) (user password name : List ℕ) (old mid new : Server) where
-  pub reached : KeepsMailboxes old mid → (r : Result ℕ FarFault) → Outcome (TellsValidity name) (Misses name) KeepsMailboxes r mid new → Outcome (TellsValidity name) (RefusesAll stage user password name) KeepsMailboxes r old new
+  pub reached : KeepsMailboxes old mid → (r : Result ℕ FarFault) → Outcome (ReportsValidity name) (Misses name) KeepsMailboxes r mid new → Outcome (ReportsValidity name) (RefusesAll stage user password name) KeepsMailboxes r old new
   reached before r o =
       joined (Misses name) (RefusesAll stage user password name) KeepsMailboxes old mid new before (λ k. k)
-      (λ m. inr (sym (ap (mailbox_at name) before) ∙ m.0, m.1 ∙ before)) (TellsValidity name) (TellsValidity name)
+      (λ m. inr (sym (ap (mailbox_at name) before) ∙ m.0, m.1 ∙ before)) (ReportsValidity name) (ReportsValidity name)
       (λ validity t. (t.0 ∙ before, t.1 ∙ ap (λ (ms : List FarMailbox). (store_at name ms).validity) before)) r o
 
 -- ---- what is listed, where the mailbox is selected again
@@ -131,9 +131,9 @@ module _ (known next : ℕ) (s : Store) (listing : Listing) (is : IsStore s) (le
   next_is : listing.next ≡ next_above next (map (item_of Far) s.messages)
   next_is = l.next ∙ ap (next_above next) l.items
 
-  tells : (alone : Bool) → (alone ≡ true → next ≡ s.next) → TellsNext alone known listing s
-  tells true same = (shows_so next s listing is (same refl) l).next
-  tells false same =
+  states : (alone : Bool) → (alone ≡ true → next ≡ s.next) → ReportsNext alone known listing s
+  states true same = (shows_so next s listing is (same refl) l).next
+  states false same =
       inr (record {
         least = (let a = above_least s.messages next in omega (arith, next_is, a, least));
         above = subst (λ (n : ℕ). All (λ m. m.uid < n) s.messages) (sym next_is) (above_each s.messages next);
@@ -141,11 +141,11 @@ module _ (known next : ℕ) (s : Store) (listing : Listing) (is : IsStore s) (le
       })
 
   pub lists_far : (alone : Bool) → (alone ≡ true → next ≡ s.next) → ListsFar alone known listing s
-  lists_far alone same = record { shows = record { validity = l.validity; next = refl; items = l.items }; next = tells alone same }
+  lists_far alone same = record { shows = record { validity = l.validity; next = refl; items = l.items }; next = states alone same }
 
 module _ (keywords : List Keyword) (alone : Bool) (known : ℕ) (name : List ℕ) (old mid new : Server) where
   pub listed : (next : ℕ) (c : IsChosen name mid) → KeepsMailboxes old mid → IsStore c.mailbox.store → known ≤ next → next ≤ c.mailbox.store.next → (alone ≡ true → next ≡ c.mailbox.store.next) → (r : Result Listing FarFault)
-      → Outcome (Tells (ListsFrom next (seen_through keywords c.mailbox.store))) Unrefused Remains r mid new → Outcome (ListsAll keywords alone known name) Unrefused KeepsMailboxes r old new
+      → Outcome (Reports (ListsFrom next (seen_through keywords c.mailbox.store))) Unrefused Remains r mid new → Outcome (ListsAll keywords alone known name) Unrefused KeepsMailboxes r old new
   listed next c before is least most same (Ok listing) o = (
     ap boxes_of o.1 ∙ before,
     subst (λ (ms : List FarMailbox). ListsFar alone known listing (seen_through keywords (store_at name ms))) before
@@ -153,7 +153,7 @@ module _ (keywords : List Keyword) (alone : Bool) (known : ℕ) (name : List ℕ
         (lists_far known next (seen_through keywords c.mailbox.store) listing (seen_is_store keywords c.mailbox.store is) least most o.0 alone same)),
   )
   listed next c before is least most same (Err e) o =
-      err_so Unrefused Unrefused Remains old mid new before (λ q. ap boxes_of q) (λ h. h) Listing Listing (Tells (ListsFrom next (seen_through keywords c.mailbox.store))) (ListsAll keywords alone known name) e o
+      err_so Unrefused Unrefused Remains old mid new before (λ q. ap boxes_of q) (λ h. h) Listing Listing (Reports (ListsFrom next (seen_through keywords c.mailbox.store))) (ListsAll keywords alone known name) e o
 
 -- each flag that is listed has a name
 module _ (keywords : List Keyword) (alone : Bool) (known : ℕ) (name : List ℕ) (old new : Server) where

@@ -21,7 +21,7 @@ use Rattle.imap_client.specs.declared.far_box.FarBox.{FarBox}
 use Rattle.imap_client.specs.Appending.{Adds, AddsSome, NoUidLeft}
 use Rattle.imap_client.specs.Boxes.{Becomes, IsSelected}
 use Rattle.imap_client.specs.Logins.{Remains}
-use Rattle.imap_client.specs.Readings.{Tells}
+use Rattle.imap_client.specs.Readings.{Reports}
 use Rattle.imap_client.specs.Sessions.{server_of, state_of}
 use Rattle.imap_client.specs.Seen.{HasMap, KeepsMap, seen_through}
 use Rattle.imap_client.specs.States.{EndsSo}
@@ -33,7 +33,7 @@ use Rattle.mailbox.specs.Operations.{Answers, Appends, Loads, NoRoom, Turns}
 use Rattle.far_side.specs.declared.stage.Stage.{Stage}
 use Rattle.far_side.specs.declared.stage.Stage.TheVariants.{Closed, LoggedIn, Open}
 use Rattle.far_side.specs.Chosen.{IsChosen, box_at, settled}
-use Rattle.far_side.specs.FarFaults.{told, told_by}
+use Rattle.far_side.specs.FarFaults.{reported, reported_by}
 use Rattle.far_side.specs.FarSides.{seen_at}
 use Rattle.far_side.specs.FarStops.{Ends, HasEnded}
 use Rattle.far_side.specs.Stages.{is_broken_at, is_open_at, is_reached}
@@ -70,14 +70,14 @@ reached_open Closed o = o
 reached_open LoggedIn o = refl
 reached_open Open o = refl
 
-told_stopped : (e : FarFault) → told e ≡ boxes.Stopped → e ≡ far.Stopped
-told_stopped far.Stopped is = refl
-told_stopped far.Refused is = absurd cc
-told_stopped far.Protocol is = absurd cc
-told_stopped far.TooLong is = absurd cc
-told_stopped far.NoRev2 is = absurd cc
-told_stopped far.ReadOnly is = absurd cc
-told_stopped far.NoMemory is = absurd cc
+reported_stopped : (e : FarFault) → reported e ≡ boxes.Stopped → e ≡ far.Stopped
+reported_stopped far.Stopped is = refl
+reported_stopped far.Refused is = absurd cc
+reported_stopped far.Protocol is = absurd cc
+reported_stopped far.TooLong is = absurd cc
+reported_stopped far.NoRev2 is = absurd cc
+reported_stopped far.ReadOnly is = absurd cc
+reported_stopped far.NoMemory is = absurd cc
 
 module _ {L : Type 0} {links : link.Ghosts L} (keywords : List Keyword) (name : List ℕ) (old_stage new_stage : Stage) (old new : FarBox L links) where
   -- ---- any call
@@ -85,17 +85,17 @@ module _ {L : Type 0} {links : link.Ghosts L} (keywords : List Keyword) (name : 
   pub far_call : {T : Type 0} (honest : Type 0) (because : BoxFault → Mailbox → Type 0) (does : T → Effect Mailbox) (part : Effect Mailbox) (r : Result T FarFault)
       → is_broken_at old_stage old.is_selected old.session.is_ready ≡ false → OnOk r (new.is_selected ≡ true) → Ends (state_of old.session) (state_of new.session) r
       → (honest → Among links.visitors (λ s t. Did does part because r (box_at keywords name s) (box_at keywords name t)) (server_of old.session) (server_of new.session))
-      → Call honest (HasEnded (state_of new.session)) (Arrives Far links.visitors.ours links.visitors.alone) because does part (seen_at old_stage keywords name old) (seen_at new_stage keywords name new) (told_by r)
+      → Call honest (HasEnded (state_of new.session)) (Arrives Far links.visitors.ours links.visitors.alone) because does part (seen_at old_stage keywords name old) (seen_at new_stage keywords name new) (reported_by r)
   far_call honest because does part (Ok a) whole selected ends did = record {
     was_whole = whole;
     is_whole = is_whole new_stage new.is_selected new.session.is_ready ends.0 selected;
     stops = ends.1;
-    effect = λ h. let a = did h in record { mid = box_at keywords name a.mid; before = arrives links.visitors keywords name (server_of old.session) a.mid a.visits; behind = a.then };
+    effect = λ h. let a = did h in record { mid = box_at keywords name a.mid; before = arrives links.visitors keywords name (server_of old.session) a.mid a.visits; following = a.then };
   }
   far_call honest because does part (Err e) whole selected ends did = record {
-    cause = λ is. ends.0 (told_stopped e is);
+    cause = λ is. ends.0 (reported_stopped e is);
     no_less = ends.1;
-    left = λ h. let a = did h in record { mid = box_at keywords name a.mid; before = arrives links.visitors keywords name (server_of old.session) a.mid a.visits; behind = a.then };
+    left = λ h. let a = did h in record { mid = box_at keywords name a.mid; before = arrives links.visitors keywords name (server_of old.session) a.mid a.visits; following = a.then };
   }
 
 pub loaded : (keywords : List Keyword) (uid : ℕ) (body : List ℕ) (is_there : Bool) (s : Store) → (if is_there then Some body else None) ≡ bytes_of uid s → Loads uid body is_there (settled (seen_through keywords s))
@@ -161,13 +161,13 @@ module _ {L : Type 0} {links : link.Ghosts L} {name : List ℕ} {stage : Stage} 
   module _ (sound : (l : L) → links.honest l → AreSound (links.line l).end.server.mailboxes) where
     abbrev Says : {T : Type 0} → (because : BoxFault → Mailbox → Type 0) → (does : T → Effect Mailbox) → Result T FarFault → Type 0
     Says because does r =
-        Call (links.honest new.session.wire.link) (HasEnded (state_of new.session)) (Arrives Far links.visitors.ours links.visitors.alone) because does Nothing (seen_at stage keywords name old) (seen_at stage new.keywords name new) (told_by r)
+        Call (links.honest new.session.wire.link) (HasEnded (state_of new.session)) (Arrives Far links.visitors.ours links.visitors.alone) because does Nothing (seen_at stage keywords name old) (seen_at stage new.keywords name new) (reported_by r)
 
     says : {T : Type 0} (because : BoxFault → Mailbox → Type 0) (does : T → Effect Mailbox) (commands : ℕ) (r : Result T FarFault) → EndsSo commands (state_of old.session) (state_of new.session) r
         → (links.honest new.session.wire.link → Among links.visitors (λ s t. Did does Nothing because r (box_at keywords name s) (box_at keywords name t)) (server_of old.session) (server_of new.session)) → Says because does r
     says because does commands r ends did =
         subst
-        (λ (k : List Keyword). Call (links.honest new.session.wire.link) (HasEnded (state_of new.session)) (Arrives Far links.visitors.ours links.visitors.alone) because does Nothing (seen_at stage keywords name old) (seen_at stage k name new) (told_by r))
+        (λ (k : List Keyword). Call (links.honest new.session.wire.link) (HasEnded (state_of new.session)) (Arrives Far links.visitors.ours links.visitors.alone) because does Nothing (seen_at stage keywords name old) (seen_at stage k name new) (reported_by r))
         (sym k.keywords)
         (far_call keywords name stage stage old new (links.honest new.session.wire.link) because does Nothing r k.whole (on_ok (new.is_selected ≡ true) r (k.still ∙ is_selected))
         (ends_of commands (state_of old.session) (state_of new.session) r is_ready k.counts ends) did)
@@ -189,11 +189,11 @@ module _ {L : Type 0} {links : link.Ghosts L} {name : List ℕ} {stage : Stage} 
       late_range : AreInRange late.mailbox.store.messages
       late_range = range_then links.visitors (chosen h).mailbox.store found.mailbox.store found.gains was_sound.range.messages
 
-    pub reads : {T : Type 0} (tells : T → Mailbox → Type 0) (P : T → Store → Type 0) → ((answer : T) (s : Store) → P answer s → tells answer (settled (seen_through keywords s))) → (r : Result T FarFault) → EndsSo 1 (state_of old.session) (state_of new.session) r
-        → (links.honest new.session.wire.link → Among links.visitors (λ s t. (m : FarMailbox) → selected s ≡ Some m → IsStore m.store → AreInRange m.store.messages → Outcome (Tells (λ answer. P answer m.store)) Unrefused Remains r s t) (server_of old.session) (server_of new.session))
-        → Says Never (Answers tells) r
-    reads tells P to r ends outcome =
-        says Never (Answers tells) 1 r ends
+    pub reads : {T : Type 0} (states : T → Mailbox → Type 0) (P : T → Store → Type 0) → ((answer : T) (s : Store) → P answer s → states answer (settled (seen_through keywords s))) → (r : Result T FarFault) → EndsSo 1 (state_of old.session) (state_of new.session) r
+        → (links.honest new.session.wire.link → Among links.visitors (λ s t. (m : FarMailbox) → selected s ≡ Some m → IsStore m.store → AreInRange m.store.messages → Outcome (Reports (λ answer. P answer m.store)) Unrefused Remains r s t) (server_of old.session) (server_of new.session))
+        → Says Never (Answers states) r
+    reads states P to r ends outcome =
+        says Never (Answers states) 1 r ends
         (λ h.
         let a = outcome h in
         let c = late h a.mid a.visits in
@@ -201,8 +201,8 @@ module _ {L : Type 0} {links : link.Ghosts L} {name : List ℕ} {stage : Stage} 
           mid = a.mid;
           visits = a.visits;
           then =
-              read_did keywords name a.mid (server_of new.session) (Tells (λ answer. P answer c.mailbox.store)) Unrefused Remains tells Never
-              (λ answer o. (ap (λ (x : Server). x.mailboxes) o.1, subst (λ (x : Store). tells answer (settled (seen_through keywords x))) (sym (store_is name a.mid c)) (to answer c.mailbox.store o.0)))
+              read_did keywords name a.mid (server_of new.session) (Reports (λ answer. P answer c.mailbox.store)) Unrefused Remains states Never
+              (λ answer o. (ap (λ (x : Server). x.mailboxes) o.1, subst (λ (x : Store). states answer (settled (seen_through keywords x))) (sym (store_is name a.mid c)) (to answer c.mailbox.store o.0)))
               (λ e. ap (λ (x : Server). x.mailboxes) e) (λ refused. absurd refused) r (a.then c.mailbox (selected_is name a.mid c) (late_store h a.mid a.visits) (late_range h a.mid a.visits));
         })
 

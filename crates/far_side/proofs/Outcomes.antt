@@ -18,13 +18,13 @@ use Rattle.imap_client.specs.Appending as appending
 use Rattle.imap_client.specs.Boxes.{Becomes}
 use Rattle.imap_client.specs.Seen.{seen_through}
 use Rattle.mailbox.proofs.Admitted.{admits_all}
-use Rattle.mailbox.specs.Operations.{Tells, Admits, Answers, Appends, NoRoom, Turns}
+use Rattle.mailbox.specs.Operations.{Reports, Admits, Answers, Appends, NoRoom, Turns}
 use Rattle.mailbox.specs.declared.fault.BoxFault.{BoxFault}
 use Rattle.mailbox.specs.declared.fault.BoxFault.TheVariants as boxes
 use Rattle.mailbox.specs.Arrivals.{Arrives}
 use Rattle.mailbox.specs.Calls.{DoesSome, LeavesBy, Never, Seen}
 use Rattle.far_side.specs.Chosen.{IsChosen, KeepsMailboxes, box_at, settled, store_at}
-use Rattle.far_side.specs.FarFaults.{told}
+use Rattle.far_side.specs.FarFaults.{reported}
 use Rattle.far_side.proofs.Mailboxes.{changed_store, store_is}
 use Rattle.far_side.proofs.SeenThrough.{added_seen}
 use Rattle.far_side.proofs.Visited.{arrives_none}
@@ -36,7 +36,7 @@ rests v honest does seen whole done = record {
   was_whole = whole;
   is_whole = whole;
   stops = refl;
-  effect = λ h. record { mid = seen.stored; before = arrives_none v seen.stored; behind = done };
+  effect = λ h. record { mid = seen.stored; before = arrives_none v seen.stored; following = done };
 }
 
 -- nothing waits, so that nothing is admitted
@@ -51,7 +51,7 @@ none_admitted alone s =
 
 abbrev pub Did : {T : Type 0} → (does : T → Effect Mailbox) → (part : Effect Mailbox) → (because : BoxFault → Mailbox → Type 0) → Result T FarFault → Mailbox → Mailbox → Type 0
 Did does part because (Ok answer) b b' = does answer b b'
-Did does part because (Err e) b b' = LeavesBy does part because (told e) b b'
+Did does part because (Err e) b b' = LeavesBy does part because (reported e) b b'
 
 module _ (keywords : List Keyword) (name : List ℕ) (old new : Server) where
   stays : KeepsMailboxes old new → box_at keywords name new ≡ box_at keywords name old
@@ -59,14 +59,14 @@ module _ (keywords : List Keyword) (name : List ℕ) (old new : Server) where
 
   -- ---- a call that changes no mailbox
 
-  module _ {T : Type 0} (does : T → Server → Server → Type 0) (refuses effect : Server → Server → Type 0) (tells : T → Mailbox → Type 0) (because : BoxFault → Mailbox → Type 0)
-      (done : (answer : T) → does answer old new → KeepsMailboxes old new × tells answer (box_at keywords name old)) (keeps : effect old new → KeepsMailboxes old new)
+  module _ {T : Type 0} (does : T → Server → Server → Type 0) (refuses effect : Server → Server → Type 0) (states : T → Mailbox → Type 0) (because : BoxFault → Mailbox → Type 0)
+      (done : (answer : T) → does answer old new → KeepsMailboxes old new × states answer (box_at keywords name old)) (keeps : effect old new → KeepsMailboxes old new)
       (refused : refuses old new → KeepsMailboxes old new × because boxes.Refused (box_at keywords name old)) where
-    may_read : MayHave effect old new → Leaves (DoesSome (Answers tells)) Nothing (box_at keywords name old) (box_at keywords name new)
+    may_read : MayHave effect old new → Leaves (DoesSome (Answers states)) Nothing (box_at keywords name old) (box_at keywords name new)
     may_read (inl quiet) = inl (stays (ap (λ (s : Server). s.mailboxes) quiet))
     may_read (inr e) = inl (stays (keeps e))
 
-    pub read_did : (r : Result T FarFault) → Outcome does refuses effect r old new → Did (Answers tells) Nothing because r (box_at keywords name old) (box_at keywords name new)
+    pub read_did : (r : Result T FarFault) → Outcome does refuses effect r old new → Did (Answers states) Nothing because r (box_at keywords name old) (box_at keywords name new)
     read_did (Ok a) o = let d = done a o in (stays d.0, d.1)
     read_did (Err far.Stopped) o = may_read o
     read_did (Err far.Refused) o = let d = refused o in (stays d.0, d.1)
@@ -99,14 +99,14 @@ module _ (keywords : List Keyword) (name : List ℕ) (old new : Server) where
   -- ---- a message is added
 
   module _ (bytes : List ℕ) (flags : ℕ) (c : IsChosen name old) where
-    told_so : (told : Option ℕ) (uid : ℕ) → appending.IsTold told uid → Tells told uid
-    told_so None uid t = tt
-    told_so (Some n) uid t = t
+    reported_so : (reported : Option ℕ) (uid : ℕ) → appending.IsReported reported uid → Reports reported uid
+    reported_so None uid t = tt
+    reported_so (Some n) uid t = t
 
-    appends : (told : Option ℕ) (uid : ℕ) → appending.AddsUnder c.mailbox (kept keywords flags) bytes uid old new → appending.IsTold told uid → Appends Far bytes (kept keywords flags) told (box_at keywords name old) (box_at keywords name new)
-    appends told uid u t = record {
+    appends : (reported : Option ℕ) (uid : ℕ) → appending.AddsUnder c.mailbox (kept keywords flags) bytes uid old new → appending.IsReported reported uid → Appends Far bytes (kept keywords flags) reported (box_at keywords name old) (box_at keywords name new)
+    appends reported uid u t = record {
       uid = uid;
-      gives = (subst (λ (s : Store). s.next ≤ uid) (sym (store_is name old c)) u.may.at_least, told_so told uid t);
+      gives = (subst (λ (s : Store). s.next ≤ uid) (sym (store_is name old c)) u.may.at_least, reported_so reported uid t);
       now =
           ap (box_at keywords name) u.after ∙ ap (λ (s : Store). settled (seen_through keywords s)) (changed_store (added uid (kept keywords flags) bytes) name old c)
           ∙ ap settled (added_seen keywords uid flags bytes (store_at name old.mailboxes));
@@ -121,7 +121,7 @@ module _ (keywords : List Keyword) (name : List ℕ) (old new : Server) where
 
     pub add_did : (r : Result (Option ℕ) FarFault) → Outcome (appending.Adds c.mailbox (kept keywords flags) bytes) (appending.NoUidLeft c.mailbox) (appending.AddsSome c.mailbox (kept keywords flags) bytes) r old new
         → Did (Appends Far bytes (kept keywords flags)) Nothing (NoRoom Far (λ _. 1)) r (box_at keywords name old) (box_at keywords name new)
-    add_did (Ok told) a = appends told a.uid a.under a.is_told
+    add_did (Ok reported) a = appends reported a.uid a.under a.is_reported
     add_did (Err far.Stopped) o = may_add o
     add_did (Err far.Refused) o = (ap (box_at keywords name) o.0, (refl, full o.1))
     add_did (Err far.Protocol) o = absurd o

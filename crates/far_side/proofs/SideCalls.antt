@@ -16,8 +16,8 @@ use Rattle.mailbox.specs.Arrivals.{Arrives}
 use Rattle.mailbox.specs.Calls.{Call, Never}
 use Rattle.mailbox.specs.Operations as ops
 use Rattle.far_side.specs.declared.far_side.FarSide.{FarSide}
-use Rattle.far_side.specs.Chosen.{KeepsMailboxes, ListsAll, TellsValidity, box_at}
-use Rattle.far_side.specs.FarFaults.{told_by}
+use Rattle.far_side.specs.Chosen.{KeepsMailboxes, ListsAll, ReportsValidity, box_at}
+use Rattle.far_side.specs.FarFaults.{reported_by}
 use Rattle.far_side.specs.FarSides.{Unfit, honest_of, seen_at, seen_of, server_at}
 use Rattle.far_side.specs.FarStops.{Ends, HasEnded}
 use Rattle.far_side.specs.Stages.{RefusesAll}
@@ -35,7 +35,7 @@ module _ {L : Type 0} {links : link.Ghosts L} (old new : FarSide L links) (same 
   keywords = old.far.keywords
 
   abbrev Says : {T : Type 0} → (because : BoxFault → Mailbox → Type 0) → (does : T → Effect Mailbox) → List Keyword → List ℕ → Result T FarFault → Type 0
-  Says because does k n r = Call (honest_of new) (HasEnded (state_of new.far.session)) (Arrives Far links.visitors.ours links.visitors.alone) because does Nothing (seen_of old) (seen_at new.stage k n new.far) (told_by r)
+  Says because does k n r = Call (honest_of new) (HasEnded (state_of new.far.session)) (Arrives Far links.visitors.ours links.visitors.alone) because does Nothing (seen_of old) (seen_at new.stage k n new.far) (reported_by r)
 
   says : {T : Type 0} (because : BoxFault → Mailbox → Type 0) (does : T → Effect Mailbox) (r : Result T FarFault) → OnOk r (new.far.is_selected ≡ true) → Ends (state_of old.far.session) (state_of new.far.session) r
       → (honest_of new → Among links.visitors (λ s t. Did does Nothing because r (box_at keywords name s) (box_at keywords name t)) (server_at old) (server_at new)) → Says because does new.far.keywords new.account.mailbox.items r
@@ -51,17 +51,17 @@ module _ {L : Type 0} {links : link.Ghosts L} (old new : FarSide L links) (same 
   unfit mid h (inr m) = (m.1, inr (missed_before links.visitors name (server_at old) mid h m.0))
 
   pub opens : (r : Result ℕ FarFault) → OnOk r (new.far.is_selected ≡ true) → Ends (state_of old.far.session) (state_of new.far.session) r
-      → (honest_of new → Among links.visitors (Outcome (TellsValidity name) (RefusesAll old.stage old.account.user.items old.account.password.items name) KeepsMailboxes r) (server_at old) (server_at new))
-      → Says (λ fault _. Unfit old fault) (ops.Answers ops.TellsValidity) new.far.keywords new.account.mailbox.items r
+      → (honest_of new → Among links.visitors (Outcome (ReportsValidity name) (RefusesAll old.stage old.account.user.items old.account.password.items name) KeepsMailboxes r) (server_at old) (server_at new))
+      → Says (λ fault _. Unfit old fault) (ops.Answers ops.ReportsValidity) new.far.keywords new.account.mailbox.items r
   opens r selected ends outcome =
-      says (λ fault _. Unfit old fault) (ops.Answers ops.TellsValidity) r selected ends
+      says (λ fault _. Unfit old fault) (ops.Answers ops.ReportsValidity) r selected ends
       (λ h.
       let a = outcome h in
       record {
         mid = a.mid;
         visits = a.visits;
         then =
-            read_did keywords name a.mid (server_at new) (TellsValidity name) (RefusesAll old.stage old.account.user.items old.account.password.items name) KeepsMailboxes ops.TellsValidity (λ fault _. Unfit old fault)
+            read_did keywords name a.mid (server_at new) (ReportsValidity name) (RefusesAll old.stage old.account.user.items old.account.password.items name) KeepsMailboxes ops.ReportsValidity (λ fault _. Unfit old fault)
             (λ validity t. t) (λ k. k) (λ refused. unfit a.mid a.visits refused) r a.then;
       })
 

@@ -52,8 +52,8 @@ abbrev pub IsUnknown : (user password : List ℕ) → Server → Server → Type
 IsUnknown user password old new = (is_known user password old ≡ false) × KeepsMailboxes old new
 
 -- the mailbox of this name was selected, and this is its UIDVALIDITY
-abbrev pub TellsValidity : (name : List ℕ) → (validity : ℕ) → Server → Server → Type 0
-TellsValidity name validity old new = KeepsMailboxes old new × (validity ≡ (store_at name old.mailboxes).validity)
+abbrev pub ReportsValidity : (name : List ℕ) → (validity : ℕ) → Server → Server → Type 0
+ReportsValidity name validity old new = KeepsMailboxes old new × (validity ≡ (store_at name old.mailboxes).validity)
 
 -- this is what the mailbox of this name lists, where this next UID was known
 abbrev pub ListsAll : List Keyword → (alone : Bool) → (known : ℕ) → (name : List ℕ) → Listing → Server → Server → Type 0

@@ -7,15 +7,15 @@ use Rattle.mailbox.specs.declared.fault.BoxFault.TheVariants.{Stopped, Refused, 
 use Rattle.mailbox.specs.FaultNumbers.{FAR_UNKNOWN_ANSWER, FAR_TOO_LONG, FAR_NO_REV2, FAR_READ_ONLY}
 
 -- those that are its own have numbers
-abbrev pub told : FarFault → BoxFault
-told far.Stopped = Stopped
-told far.Refused = Refused
-told far.Protocol = Own FAR_UNKNOWN_ANSWER
-told far.TooLong = Own FAR_TOO_LONG
-told far.NoRev2 = Own FAR_NO_REV2
-told far.ReadOnly = Own FAR_READ_ONLY
-told far.NoMemory = NoMemory
+abbrev pub reported : FarFault → BoxFault
+reported far.Stopped = Stopped
+reported far.Refused = Refused
+reported far.Protocol = Own FAR_UNKNOWN_ANSWER
+reported far.TooLong = Own FAR_TOO_LONG
+reported far.NoRev2 = Own FAR_NO_REV2
+reported far.ReadOnly = Own FAR_READ_ONLY
+reported far.NoMemory = NoMemory
 
-abbrev pub told_by : {T : Type 0} → Result T FarFault → Result T BoxFault
-told_by (Ok answer) = Ok answer
-told_by (Err fault) = Err (told fault)
+abbrev pub reported_by : {T : Type 0} → Result T FarFault → Result T BoxFault
+reported_by (Ok answer) = Ok answer
+reported_by (Err fault) = Err (reported fault)

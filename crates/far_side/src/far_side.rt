@@ -8,15 +8,15 @@ ghost use Rattle.imap_link.specs.Outcomes.{Never, Outcome};
 ghost use Rattle.mailbox.specs.Operations.{HasNumbers, ListsWithin};
 ghost use Rattle.imap_session.specs.Servers.{is_logged_in};
 ghost use Rattle.imap_session.specs.Visits.{Among};
-ghost use Rattle.far_side.specs.Chosen.{KeepsMailboxes, ListsAll, Misses, TellsValidity, box_at, store_at};
+ghost use Rattle.far_side.specs.Chosen.{KeepsMailboxes, ListsAll, Misses, ReportsValidity, box_at, store_at};
 ghost use Rattle.far_side.specs.FarStops.{Ends};
 ghost use Rattle.far_side.specs.Stages.{RefusesAll, Unopened, is_open_at, is_reached};
 
 use crate::account::Account;
 use crate::entering::log_in;
 use crate::logged_in::LoggedIn;
+use crate::reported::reported_by;
 use crate::stage::Stage;
-use crate::told::told_by;
 use imap_client::far_box::FarBox;
 use imap_client::session::Session;
 use imap_link::fault::FarFault;
@@ -166,7 +166,7 @@ impl<L: Link + Drop> FarSide<L> {
         ensures stays { OnErr result (self.new.stage ≡ self.old.stage) }
         ensures ends { Ends (state_of self.old.far.session) (state_of self.new.far.session) result }
         ensures outcome { honest_of self.new → Among L.visitors
-            (Outcome (TellsValidity self.old.account.mailbox.items) (Misses self.old.account.mailbox.items) KeepsMailboxes result)
+            (Outcome (ReportsValidity self.old.account.mailbox.items) (Misses self.old.account.mailbox.items) KeepsMailboxes result)
             (server_at self.old) (server_at self.new) }
     {
         self.is_fresh = false;
@@ -185,7 +185,7 @@ impl<L: Link + Drop> FarSide<L> {
         ensures open { OnOk result (is_open_at self.new.stage ≡ true) }
         ensures selected { OnOk result (self.new.far.is_selected ≡ true) }
         ensures ends { Ends (state_of self.old.far.session) (state_of self.new.far.session) result }
-        ensures outcome { honest_of self.new → Among L.visitors (Outcome (TellsValidity self.old.account.mailbox.items)
+        ensures outcome { honest_of self.new → Among L.visitors (Outcome (ReportsValidity self.old.account.mailbox.items)
             (RefusesAll self.old.stage self.old.account.user.items self.old.account.password.items self.old.account.mailbox.items)
             KeepsMailboxes result) (server_at self.old) (server_at self.new) }
     {
@@ -274,21 +274,21 @@ impl<L: Link + Drop> Mailbox for FarSide<L> {
     ghost is_synced = { λ _. true };
 
     fn open(&mut self) -> Result<u32, BoxFault> {
-        told_by(self.reach())
+        reported_by(self.reach())
     }
 
     fn list(&mut self, _spared: &Spared) -> Result<Listing, BoxFault> {
-        told_by(self.list_anew())
+        reported_by(self.list_anew())
     }
 
     fn find_mark(&mut self, mark: Tuid, from: u32) -> Result<Option<Uid>, BoxFault> {
         self.is_fresh = false;
-        told_by(self.far.find_mark(mark, from))
+        reported_by(self.far.find_mark(mark, from))
     }
 
     fn load(&mut self, uid: Uid) -> Result<bool, BoxFault> {
         self.is_fresh = false;
-        told_by(self.far.load(uid))
+        reported_by(self.far.load(uid))
     }
 
     fn body(&self) -> &[u8] {
@@ -297,22 +297,22 @@ impl<L: Link + Drop> Mailbox for FarSide<L> {
 
     fn append_copy(&mut self, copy: CopyPieces<'_>, flags: Flags) -> Result<Option<Uid>, BoxFault> {
         self.is_fresh = false;
-        told_by(self.far.append_copy(copy, flags))
+        reported_by(self.far.append_copy(copy, flags))
     }
 
     fn add_flags(&mut self, uid: Uid, flags: Flags) -> Result<(), BoxFault> {
         self.is_fresh = false;
-        told_by(self.far.add_flags(uid, flags))
+        reported_by(self.far.add_flags(uid, flags))
     }
 
     fn remove_flags(&mut self, uid: Uid, flags: Flags) -> Result<(), BoxFault> {
         self.is_fresh = false;
-        told_by(self.far.remove_flags(uid, flags))
+        reported_by(self.far.remove_flags(uid, flags))
     }
 
     fn expunge(&mut self, uid: Uid) -> Result<(), BoxFault> {
         self.is_fresh = false;
-        told_by(self.far.expunge(&[uid]))
+        reported_by(self.far.expunge(&[uid]))
     }
 
     fn admit(&mut self) -> Result<(), BoxFault> {

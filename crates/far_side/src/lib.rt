@@ -5,5 +5,5 @@ pub mod account;
 mod entering;
 pub mod far_side;
 pub mod logged_in;
+pub mod reported;
 mod stage;
-pub mod told;

@@ -1,7 +1,7 @@
 //! A session whose user has logged in.
 
 ghost use Rattle.std.specs.Prelude.{◌≡◌, true, IfOk};
-ghost use Rattle.imap_answers.specs.MailboxNames.{TellsNames};
+ghost use Rattle.imap_answers.specs.MailboxNames.{ReportsNames};
 ghost use Rattle.imap_client.specs.Creations.{CannotMake, Makes};
 ghost use Rattle.imap_client.specs.Logins.{Remains};
 ghost use Rattle.imap_client.specs.Requests.{IsWord};
@@ -56,7 +56,7 @@ impl<L: Link + Drop> LoggedIn<L> {
         ensures was_honest { L.honest self.new.session.wire.link → L.honest self.old.session.wire.link }
         ensures ends { EndsSo 1 (state_of self.old.session) (state_of self.new.session) result }
         ensures outcome { L.honest self.new.session.wire.link
-            → Among L.visitors (Outcome (λ names. TellsNames names.items) Never Remains result)
+            → Among L.visitors (Outcome (λ names. ReportsNames names.items) Never Remains result)
             (server_of self.old.session) (server_of self.new.session) }
     {
         self.session.list()

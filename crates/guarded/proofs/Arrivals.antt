@@ -42,10 +42,10 @@ gathered_again xs ys zs fs ws m k =
     (IsPermutation-trans ((xs ++ ys) ++ fs) (zs ++ fs) ws (IsPermutation-append_left fs (xs ++ ys) zs m) k)
 
 -- UIDs after others
-rise_behind : (from : ℕ) (us : List ℕ) (mid : ℕ) (vs : List ℕ) (next : ℕ) → Rise from us mid → Rise mid vs next → Rise from (us ++ vs) next
-rise_behind from [] mid [] next le rise = omega arith
-rise_behind from [] mid (v ∷ vs) next le rise = (omega arith, rise.1)
-rise_behind from (u ∷ us) mid vs next first rise = (first.0, rise_behind (u + 1) us mid vs next first.1 rise)
+rise_after : (from : ℕ) (us : List ℕ) (mid : ℕ) (vs : List ℕ) (next : ℕ) → Rise from us mid → Rise mid vs next → Rise from (us ++ vs) next
+rise_after from [] mid [] next le rise = omega arith
+rise_after from [] mid (v ∷ vs) next le rise = (omega arith, rise.1)
+rise_after from (u ∷ us) mid vs next first rise = (first.0, rise_after (u + 1) us mid vs next first.1 rise)
 
 -- a device to which these messages and files were added
 abbrev added : (messages : List Message) (next : ℕ) (waiting : List Waiting) → Device → Device
@@ -65,7 +65,7 @@ arrives_again ours alone d m e a b =
       next = c.next;
       files = a.files ++ c.files;
       waiting = c.waiting;
-      rise = subst (λ us. Rise d.far.next us c.next) (sym (map-append uid a.messages c.messages)) (rise_behind d.far.next (map uid a.messages) a.next (map uid c.messages) c.next a.rise c.rise);
+      rise = subst (λ us. Rise d.far.next us c.next) (sym (map-append uid a.messages c.messages)) (rise_after d.far.next (map uid a.messages) a.next (map uid c.messages) c.next a.rise c.rise);
       gathered = gathered_again d.near.waiting a.files a.waiting c.files c.waiting a.gathered c.gathered;
       far_sound = All-append IsFarMessage a.messages c.messages a.far_sound c.far_sound;
       near_sound = All-append IsFile a.files c.files a.near_sound c.near_sound;

@@ -24,19 +24,19 @@ as_box (BadState line) h = absurd h
 as_box (BadJournal line) h = absurd h
 as_box NoMemory h = tt
 
-pub fails_same : {T U : Type 0} {tells : U → Device → Type 0} (honest : Type 0) (ours : List ℕ → Bool) (alone : Bool) (copies : T → ℕ) (does : T → Effect Device) (part : Effect Device) (fault : OutsideFault) (old new : Seen)
-    → Opens honest (Arrives ours alone) tells old new (Err fault) → Call honest (Arrives ours alone) copies FromBox does (LeavesBy does part) old new (Err fault)
+pub fails_same : {T U : Type 0} {states : U → Device → Type 0} (honest : Type 0) (ours : List ℕ → Bool) (alone : Bool) (copies : T → ℕ) (does : T → Effect Device) (part : Effect Device) (fault : OutsideFault) (old new : Seen)
+    → Opens honest (Arrives ours alone) states old new (Err fault) → Call honest (Arrives ours alone) copies FromBox does (LeavesBy does part) old new (Err fault)
 fails_same honest ours alone copies does part fault old new c = record {
   acts = record {
     is_broken = c.acts.is_broken;
     counted = c.acts.counted;
     no_less = c.acts.no_less;
     stuck = c.acts.stuck;
-    left = λ h. let f = c.acts.left h in record { mid = f.mid; before = f.before; behind = left_same does part fault f.mid new.device f.behind };
+    left = λ h. let f = c.acts.left h in record { mid = f.mid; before = f.before; following = left_same does part fault f.mid new.device f.following };
   };
   goes_on = c.goes_on;
   counts = record {
-    told = as_box fault c.counts.told;
+    reported = as_box fault c.counts.reported;
     noted = c.counts.noted;
     stopped = c.counts.stopped;
     appends = c.counts.appends;

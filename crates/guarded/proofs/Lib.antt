@@ -1,6 +1,6 @@
 mod Again
 mod Arrivals
-mod Behind
+mod Following
 mod Dropped
 mod Fails
 mod LookedUp

@@ -92,8 +92,8 @@ same_number x y e = grind (arith, nat_tests)
 not_before : (x y : ℕ) → nat_cmp x y ≡ Less → x ≢ y
 not_before x y e same = grind (arith, nat_tests)
 
-not_behind : (x y : ℕ) → nat_cmp x y ≡ Greater → x ≢ y
-not_behind x y e same = grind (arith, nat_tests)
+not_after : (x y : ℕ) → nat_cmp x y ≡ Greater → x ≢ y
+not_after x y e same = grind (arith, nat_tests)
 
 not_above : (x y : ℕ) → x ≤ y → is_lt (nat_cmp y x) ≡ false
 not_above x y le = grind (arith, nat_tests)
@@ -110,7 +110,7 @@ module _ {X : Type 0} (uid : X → ℕ) where
       let parts = found (searchable_from_sorted nat_cmp_total uid xs b (in_order xs rising)) in
       sym (any_none (λ x. uid x == u) xs (λ k e below. ne_eqb _ u (λ is. ⊎_elim
       (λ before. not_before _ b (parts.0 k e (omega arith) before) (is ∙ sym same))
-      (λ behind. not_behind _ b (parts.1 k e behind below) (is ∙ sym same))
+      (λ following. not_after _ b (parts.1 k e following below) (is ∙ sym same))
       (cases_lt k i))))
 
 -- what rises strictly rises

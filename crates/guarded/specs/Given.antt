@@ -10,7 +10,7 @@ use Rattle.rules.specs.Entries.{uid_of}
 use Rattle.sync_state.specs.declared.journal.Journal.{Journal}
 use Rattle.sync_state.specs.declared.journal.Logged.{Logged}
 use Rattle.sync_state.specs.declared.journal.Logged.TheVariants.{Copied}
-use Rattle.guarded.specs.declared.given.Given.{Given}
+use Rattle.guarded.specs.declared.given.FarGiven.{FarGiven}
 
 -- the greatest of a number and others
 abbrev pub greatest : ℕ → List ℕ → ℕ
@@ -30,10 +30,10 @@ abbrev pub greatest_copied : Journal → ℕ
 greatest_copied journal = greatest 0 (map (λ one. copied_far one.0 one.1) (zip journal.plan.steps journal.log))
 
 -- what a state knows, and the plan that is pending after it
-abbrev pub given_by : SyncState → Option Journal → Given
+abbrev pub given_by : SyncState → Option Journal → FarGiven
 given_by state None = record { validity = state.far_validity; greatest = greatest_far state }
 given_by state (Some journal) = record { validity = journal.plan.far.validity; greatest = max (greatest_far state) (greatest_copied journal) }
 
 -- the greatest UID that is known, where a mailbox of this UIDVALIDITY and UIDNEXT is to give it again
-abbrev pub is_again : Given → ℕ → ℕ → Option ℕ
+abbrev pub is_again : FarGiven → ℕ → ℕ → Option ℕ
 is_again given validity next = if validity == given.validity && nat_le next given.greatest then Some given.greatest else None

@@ -11,19 +11,19 @@ use sync_state::journal::{Journal, Logged};
 
 /// What a far mailbox is known to have given.
 #[derive(Clone, Copy)]
-pub(crate) struct Given {
+pub(crate) struct FarGiven {
     /// Its UIDVALIDITY then, or 0 if none is known.
     pub(crate) validity: u32,
     /// The greatest UID, or 0.
     pub(crate) greatest: u32,
 }
 
-impl Given {
+impl FarGiven {
     /// Nothing is known.
     pub(crate) fn nothing() -> Self
         ensures { result ≡ record { validity = 0; greatest = 0 } }
     {
-        Given {
+        FarGiven {
             validity: 0,
             greatest: 0,
         }
@@ -35,11 +35,11 @@ impl Given {
     {
         let known = greatest_far(state);
         match pending {
-            Some(journal) => Given {
+            Some(journal) => FarGiven {
                 validity: journal.plan.far.validity,
                 greatest: known.max(greatest_copied(journal)),
             },
-            None => Given {
+            None => FarGiven {
                 validity: state.far_validity,
                 greatest: known,
             },

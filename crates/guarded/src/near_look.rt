@@ -5,7 +5,7 @@ ghost use Rattle.std.specs.Prelude.{◌≡◌, ◌&&◌, true, false, IfOk, IsEr
 ghost use Rattle.guarded.specs.Watches.{finds_nothing, objection_to, uids_due};
 
 use crate::due::due_of;
-use crate::given::Given;
+use crate::given::FarGiven;
 use crate::guard::{Change, Guard};
 use crate::objection::Objection;
 use crate::removals::Removals;
@@ -76,7 +76,7 @@ pub struct NearLook<R: Files + AllocGlobal + Clone + Drop> {
     rt: R,
     folder: String,
     /// What the far mailbox is known to have given.
-    given: Given,
+    given: FarGiven,
     /// What is watched of the plan that is pending.
     watch: Watch,
     /// When the last look was made before a message was marked or removed.
@@ -94,7 +94,7 @@ impl<R: Files + AllocGlobal + Clone + Drop> NearLook<R> {
         NearLook {
             rt,
             folder,
-            given: Given::nothing(),
+            given: FarGiven::nothing(),
             watch,
             looked_at: None,
             objection: Cell::new(None),
@@ -217,7 +217,7 @@ impl<R: Files + Clock + AllocGlobal + Clone + Drop> Guard for NearLook<R> {
         ensures given { self.new.given ≡ given_by state.now (option_copied pending.entry) }
         ensures watch { self.new.goes_on ≡ true → IsWatched (option_copied pending.entry) self.new.watch }
     {
-        self.given = Given::by(state, pending);
+        self.given = FarGiven::by(state, pending);
         let alloc = self.rt.alloc();
         match pending {
             Some(journal) => {

@@ -15,9 +15,9 @@ use Rattle.imap_replies.specs.declared.reply.Reply.TheVariants.{Notice}
 use Rattle.imap_session.specs.Heard.{AreSameFlags, AreSameItems, ShowsItem}
 use Rattle.law_session.proofs.HeardAs.{ReadsSame}
 use Rattle.imap_answers.specs.declared.opening.Opening.{Opening}
-use Rattle.imap_answers.specs.declared.told.Told.{Told}
-use Rattle.imap_answers.specs.declared.told.Row.{Row}
-use Rattle.imap_answers.specs.Fetching.{nothing_told, rows_more, told_more, told_of, with_row}
+use Rattle.imap_answers.specs.declared.reported.FetchReport.{FetchReport}
+use Rattle.imap_answers.specs.declared.reported.Row.{Row}
+use Rattle.imap_answers.specs.Fetching.{nothing_reported, rows_more, reported_more, reported_of, with_row}
 use Rattle.imap_answers.specs.MailboxNames.{names_more}
 use Rattle.imap_answers.specs.Openings.{opening_more, permits_all}
 
@@ -36,8 +36,8 @@ module _ {A : Type 0} (keywords : List Keyword) (more : A → FetchItem → A)
   items_same a (x ∷ hs) [] h = absurd h
   items_same a (x ∷ hs) (s ∷ ss) h = ap (λ (b : A). fold more b hs) (item_same a x s h.0) ∙ items_same (more a s) hs ss h.1
 
-told_same : (keywords : List Keyword) (heard said : List FetchItem) → AreSameItems keywords heard said → told_of keywords heard ≡ told_of keywords said
-told_same keywords = items_same keywords (told_more keywords) (λ t heard said same. ap (λ (f : ℕ). record t { flags = Some f }) same) nothing_told
+reported_same : (keywords : List Keyword) (heard said : List FetchItem) → AreSameItems keywords heard said → reported_of keywords heard ≡ reported_of keywords said
+reported_same keywords = items_same keywords (reported_more keywords) (λ t heard said same. ap (λ (f : ℕ). record t { flags = Some f }) same) nothing_reported
 
 -- ---- replies
 
@@ -46,7 +46,7 @@ rows_same keywords rows = record {
   without_uid = λ tag text validity uid. refl;
   flags = λ heard said same. refl;
   permanent = λ kind text heard said same star. refl;
-  message = λ place heard said same. ap (λ (t : Told). with_row rows t.uid t) (told_same keywords heard said same);
+  message = λ place heard said same. ap (λ (t : FetchReport). with_row rows t.uid t) (reported_same keywords heard said same);
 }
 
 pub names_same : (keywords : List Keyword) (names : List (List ℕ)) → ReadsSame keywords (names_more names)

@@ -1,7 +1,7 @@
 pub mod Left
 pub mod Unread
 pub mod Listed
-pub mod BodyTold
+pub mod BodyReported
 pub mod Placed
 pub mod HeardSame
 pub mod Permitted

@@ -18,22 +18,22 @@ next_within done scanner text count h e =
 
 pub octets_at : (text octets : List ℕ) (place : ℕ) (r : Bool) → r ≡ starts_with eqb (take (length text - place) (drop place text)) octets → r ≡ true → take (length octets) (drop place text) ≡ octets
 octets_at text octets place r e t =
-    let behind = take (length text - place) (drop place text) in
-    ap (take (length octets)) (sym (slice_is text text place refl) ∙ (starts_is Decides-eqb behind octets r e).0 t) ∙ take-append_seam octets (drop (length octets) behind)
+    let following = take (length text - place) (drop place text) in
+    ap (take (length octets)) (sym (slice_is text text place refl) ∙ (starts_is Decides-eqb following octets r e).0 t) ∙ take-append_seam octets (drop (length octets) following)
 
 begins_on : (octets front back : List ℕ) → take (length octets) front ≡ octets → take (length octets) (front ++ back) ≡ octets
 begins_on octets front back e =
-    let behind = drop (length octets) front in
-    let parts = sym (take-append-drop (length octets) front) ∙ ap (λ (l : List ℕ). l ++ behind) e in
-    ap (λ (l : List ℕ). take (length octets) (l ++ back)) parts ∙ ap (take (length octets)) (append_assoc octets behind back) ∙ take-append_seam octets (behind ++ back)
+    let following = drop (length octets) front in
+    let parts = sym (take-append-drop (length octets) front) ∙ ap (λ (l : List ℕ). l ++ following) e in
+    ap (λ (l : List ℕ). take (length octets) (l ++ back)) parts ∙ ap (take (length octets)) (append_assoc octets following back) ∙ take-append_seam octets (following ++ back)
 
 -- what stands in a part of the bytes stands in the bytes
 pub in_bytes : (bytes octets : List ℕ) (start len place : ℕ) → place ≤ length (take len (drop start bytes)) → take (length octets) (drop place (take len (drop start bytes))) ≡ octets
     → take (length octets) (drop (start + place) bytes) ≡ octets
 in_bytes bytes octets start len place h e =
-    let behind = drop start bytes in
-    let room : place + (len - place) ≡ len = omega (arith, h, length-take len behind) in
-    let part : drop place (take len behind) ≡ take (len - place) (drop place behind) = ap (λ (n : ℕ). drop place (take n behind)) (sym room) ∙ drop-take place (len - place) behind in
-    let whole = take-append-drop (len - place) (drop place behind) in
+    let following = drop start bytes in
+    let room : place + (len - place) ≡ len = omega (arith, h, length-take len following) in
+    let part : drop place (take len following) ≡ take (len - place) (drop place following) = ap (λ (n : ℕ). drop place (take n following)) (sym room) ∙ drop-take place (len - place) following in
+    let whole = take-append-drop (len - place) (drop place following) in
     ap (take (length octets)) (sym (drop-drop place start bytes) ∙ sym whole)
-    ∙ begins_on octets (take (len - place) (drop place behind)) (drop (len - place) (drop place behind)) (ap (take (length octets)) (sym part) ∙ e)
+    ∙ begins_on octets (take (len - place) (drop place following)) (drop (len - place) (drop place following)) (ap (take (length octets)) (sym part) ∙ e)

@@ -13,17 +13,17 @@ use Rattle.imap_answers.specs.declared.given.Given.{Given}
 use Rattle.imap_answers.specs.declared.opening.Opening.{Opening}
 use Rattle.imap_answers.specs.Given.{given_more, given_in}
 use Rattle.imap_answers.specs.MailboxNames.{names_more, names_in}
-use Rattle.imap_answers.specs.Openings.{opening_more, opening_of, nothing_told}
+use Rattle.imap_answers.specs.Openings.{opening_more, opening_of, nothing_reported}
 
-module _ {A : Type 0} (more : A → Reply → A) (read : Reply → Bool) (idle : (told : A) (r : Reply) → read r ≡ false → more told r ≡ told) where
-  read_by : (b : Bool) (told : A) (r : Reply) (rs : List Reply) → read r ≡ b → ((x : A) → fold more x (filter read rs) ≡ fold more x rs)
-      → fold more told (if b then r ∷ filter read rs else filter read rs) ≡ fold more told (r ∷ rs)
-  read_by true told r rs e h = h (more told r)
-  read_by false told r rs e h = h told ∙ sym (ap (λ (x : A). fold more x rs) (idle told r e))
+module _ {A : Type 0} (more : A → Reply → A) (read : Reply → Bool) (idle : (reported : A) (r : Reply) → read r ≡ false → more reported r ≡ reported) where
+  read_by : (b : Bool) (reported : A) (r : Reply) (rs : List Reply) → read r ≡ b → ((x : A) → fold more x (filter read rs) ≡ fold more x rs)
+      → fold more reported (if b then r ∷ filter read rs else filter read rs) ≡ fold more reported (r ∷ rs)
+  read_by true reported r rs e h = h (more reported r)
+  read_by false reported r rs e h = h reported ∙ sym (ap (λ (x : A). fold more x rs) (idle reported r e))
 
-  fold_read : (told : A) (rs : List Reply) → fold more told (filter read rs) ≡ fold more told rs
-  fold_read told [] = refl
-  fold_read told (r ∷ rs) = read_by (read r) told r rs refl (λ x. fold_read x rs)
+  fold_read : (reported : A) (rs : List Reply) → fold more reported (filter read rs) ≡ fold more reported rs
+  fold_read reported [] = refl
+  fold_read reported (r ∷ rs) = read_by (read r) reported r rs refl (λ x. fold_read x rs)
 
 -- ---- names of mailboxes
 
@@ -72,7 +72,7 @@ opening_idle keywords o (Other word text) e = refl
 opening_idle keywords o (OtherNumbered n event text) e = refl
 
 pub opening_of_read : (keywords : List Keyword) (rs : List Reply) → opening_of keywords (filter (is_used opening_read) rs) ≡ opening_of keywords rs
-opening_of_read keywords rs = fold_read (opening_more keywords) (is_used opening_read) (opening_idle keywords) nothing_told rs
+opening_of_read keywords rs = fold_read (opening_more keywords) (is_used opening_read) (opening_idle keywords) nothing_reported rs
 
 -- ---- a message that was added
 

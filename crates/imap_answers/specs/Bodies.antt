@@ -21,26 +21,26 @@ body_bytes (Some (Quoted raw)) = if list_any (λ b. b == 92) raw then None else 
 -- What was reported so far: nothing that the call can take, or the bytes, if any were reported.
 abbrev pub body_more : Option (Option (List ℕ)) → FetchItem → Option (Option (List ℕ))
 body_more None item = None
-body_more (Some told) (items.Uid uid) = Some told
-body_more (Some told) (items.Flags flags) = Some told
-body_more (Some told) (items.Size size) = Some told
-body_more (Some told) (items.Body body) = option_map (λ bytes. Some bytes) (body_bytes body)
-body_more (Some told) (items.Head head) = Some told
+body_more (Some reported) (items.Uid uid) = Some reported
+body_more (Some reported) (items.Flags flags) = Some reported
+body_more (Some reported) (items.Size size) = Some reported
+body_more (Some reported) (items.Body body) = option_map (λ bytes. Some bytes) (body_bytes body)
+body_more (Some reported) (items.Head head) = Some reported
 
 abbrev pub body_in : Option (Option (List ℕ)) → List FetchItem → Option (Option (List ℕ))
-body_in told list = fold body_more told list
+body_in reported list = fold body_more reported list
 
-abbrev pub is_told : (uid : ℕ) → Option ℕ → Bool
-is_told uid None = false
-is_told uid (Some told) = told == uid
+abbrev pub is_reported : (uid : ℕ) → Option ℕ → Bool
+is_reported uid None = false
+is_reported uid (Some reported) = reported == uid
 
 -- with one reply more: one of another message is skipped
 abbrev pub bodies_more : (uid : ℕ) → Option (Option (List ℕ)) → Reply → Option (Option (List ℕ))
-bodies_more uid told (Fetch n list) = if is_told uid (uid_of list) then body_in told list else told
-bodies_more uid told _ = told
+bodies_more uid reported (Fetch n list) = if is_reported uid (uid_of list) then body_in reported list else reported
+bodies_more uid reported _ = reported
 
-abbrev pub body_told : (uid : ℕ) → List Reply → Option (Option (List ℕ))
-body_told uid replies = fold (bodies_more uid) (Some None) replies
+abbrev pub body_reported : (uid : ℕ) → List Reply → Option (Option (List ℕ))
+body_reported uid replies = fold (bodies_more uid) (Some None) replies
 
 -- ---- where they stand
 

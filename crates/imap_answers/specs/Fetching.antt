@@ -12,30 +12,30 @@ use Rattle.imap_replies.specs.declared.fetch.FetchItem.{FetchItem}
 use Rattle.imap_replies.specs.declared.fetch.FetchItem.TheVariants as items
 use Rattle.imap_replies.specs.declared.reply.Reply.{Reply}
 use Rattle.imap_replies.specs.declared.reply.Reply.TheVariants.{Fetch}
-use Rattle.imap_answers.specs.declared.told.Told.{Told}
-use Rattle.imap_answers.specs.declared.told.Row.{Row}
+use Rattle.imap_answers.specs.declared.reported.FetchReport.{FetchReport}
+use Rattle.imap_answers.specs.declared.reported.Row.{Row}
 
-abbrev pub nothing_told : Told
-nothing_told = record { uid = None; flags = None; size = None }
+abbrev pub nothing_reported : FetchReport
+nothing_reported = record { uid = None; flags = None; size = None }
 
 -- with one item more
-abbrev pub told_more : List Keyword → Told → FetchItem → Told
-told_more keywords t (items.Uid uid) = record t { uid = Some uid }
-told_more keywords t (items.Flags names) = record t { flags = Some (named_set keywords names) }
-told_more keywords t (items.Size size) = record t { size = Some size }
-told_more keywords t (items.Body body) = t
-told_more keywords t (items.Head head) = t
+abbrev pub reported_more : List Keyword → FetchReport → FetchItem → FetchReport
+reported_more keywords t (items.Uid uid) = record t { uid = Some uid }
+reported_more keywords t (items.Flags names) = record t { flags = Some (named_set keywords names) }
+reported_more keywords t (items.Size size) = record t { size = Some size }
+reported_more keywords t (items.Body body) = t
+reported_more keywords t (items.Head head) = t
 
-abbrev pub told_of : List Keyword → List FetchItem → Told
-told_of keywords list = fold (told_more keywords) nothing_told list
+abbrev pub reported_of : List Keyword → List FetchItem → FetchReport
+reported_of keywords list = fold (reported_more keywords) nothing_reported list
 
 -- the UID alone
 abbrev pub uid_more : Option ℕ → FetchItem → Option ℕ
-uid_more told (items.Uid uid) = Some uid
-uid_more told (items.Flags names) = told
-uid_more told (items.Size size) = told
-uid_more told (items.Body body) = told
-uid_more told (items.Head head) = told
+uid_more reported (items.Uid uid) = Some uid
+uid_more reported (items.Flags names) = reported
+uid_more reported (items.Size size) = reported
+uid_more reported (items.Body body) = reported
+uid_more reported (items.Head head) = reported
 
 abbrev pub uid_of : List FetchItem → Option ℕ
 uid_of list = fold uid_more None list
@@ -43,16 +43,16 @@ uid_of list = fold uid_more None list
 -- ---- what replies report, in the order of UIDs
 
 -- what is kept of a message: its flags, and whether its size is within the limit
-abbrev pub row_of : Told → Row
+abbrev pub row_of : FetchReport → Row
 row_of t = record { flags = t.flags; fit = option_map (λ size. nat_le size size_limit) t.size }
 
-abbrev pub with_row : List (ℕ × Row) → Option ℕ → Told → List (ℕ × Row)
+abbrev pub with_row : List (ℕ × Row) → Option ℕ → FetchReport → List (ℕ × Row)
 with_row rows None t = rows
 with_row rows (Some uid) t = insert_entry nat_cmp rows uid (row_of t)
 
 -- with one reply more
 abbrev pub rows_more : List Keyword → List (ℕ × Row) → Reply → List (ℕ × Row)
-rows_more keywords rows (Fetch n list) = with_row rows (told_of keywords list).uid (told_of keywords list)
+rows_more keywords rows (Fetch n list) = with_row rows (reported_of keywords list).uid (reported_of keywords list)
 rows_more keywords rows _ = rows
 
 abbrev pub rows_of : List Keyword → List Reply → List (ℕ × Row)

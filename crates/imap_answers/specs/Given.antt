@@ -34,7 +34,7 @@ given_in replies = fold given_more None replies
 
 -- The UID that was reported, if one was, in a mailbox of this validity whose next UID was at least this. It breaks the protocol if it is of
 -- another validity, if it was given before, or if no UID is above it.
-abbrev pub uid_told : Option Given → (validity next : ℕ) → Result (Option ℕ) FarFault
-uid_told None validity next = Ok None
-uid_told (Some given) validity next =
+abbrev pub uid_reported : Option Given → (validity next : ℕ) → Result (Option ℕ) FarFault
+uid_reported None validity next = Ok None
+uid_reported (Some given) validity next =
     if given.validity == validity && nat_le next given.uid && nat_lt given.uid 4294967295 then Ok (Some given.uid) else Err Protocol

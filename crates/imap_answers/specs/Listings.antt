@@ -6,7 +6,7 @@ use Rattle.mailcore.specs.declared.listing.Item.{Item}
 use Rattle.mailcore.specs.declared.listing.Listing.{Listing}
 use Rattle.mailcore.specs.Listed.{item_of}
 use Rattle.mailcore.specs.Stores.{Store}
-use Rattle.imap_answers.specs.declared.told.Row.{Row}
+use Rattle.imap_answers.specs.declared.reported.Row.{Row}
 
 -- ---- what is reported about messages, as a list of them
 
@@ -14,10 +14,10 @@ abbrev pub is_uid : ℕ → Bool
 is_uid n = nat_lt 0 n && nat_lt n 4294967295
 
 -- a message with its flags, of which the size was reported
-abbrev pub item_told : (uid : ℕ) → (flags : Option ℕ) → (fit : Option Bool) → Option Item
-item_told uid None fit = None
-item_told uid (Some flags) None = None
-item_told uid (Some flags) (Some fit) = if is_uid uid then Some (record { uid = uid; flags = flags; fit = fit }) else None
+abbrev pub item_reported : (uid : ℕ) → (flags : Option ℕ) → (fit : Option Bool) → Option Item
+item_reported uid None fit = None
+item_reported uid (Some flags) None = None
+item_reported uid (Some flags) (Some fit) = if is_uid uid then Some (record { uid = uid; flags = flags; fit = fit }) else None
 
 abbrev pub joined : Option Item → Option (List Item) → Option (List Item)
 joined None items = None
@@ -25,9 +25,9 @@ joined (Some item) None = None
 joined (Some item) (Some items) = Some (item ∷ items)
 
 -- all of them, or none where one has no flags, no size or no UID
-abbrev pub items_told : List (ℕ × Row) → Option (List Item)
-items_told [] = Some []
-items_told (row ∷ rows) = joined (item_told row.0 row.1.flags row.1.fit) (items_told rows)
+abbrev pub items_reported : List (ℕ × Row) → Option (List Item)
+items_reported [] = Some []
+items_reported (row ∷ rows) = joined (item_reported row.0 row.1.flags row.1.fit) (items_reported rows)
 
 -- ---- what the mailbox lists
 

@@ -10,16 +10,16 @@ use Rattle.imap_session.specs.MailboxCommands.{names_matched}
 use Rattle.imap_session.specs.Servers.{Server}
 
 -- a name within the limits; others are skipped
-abbrev pub name_told : Reply → Option (List ℕ)
-name_told (Listed attributes delimiter name) = within_limits (value_of name)
-name_told _ = None
+abbrev pub name_reported : Reply → Option (List ℕ)
+name_reported (Listed attributes delimiter name) = within_limits (value_of name)
+name_reported _ = None
 
 abbrev pub with_name : List (List ℕ) → Option (List ℕ) → List (List ℕ)
 with_name names None = names
 with_name names (Some name) = names ++ name ∷ []
 
 abbrev pub names_more : List (List ℕ) → Reply → List (List ℕ)
-names_more names reply = with_name names (name_told reply)
+names_more names reply = with_name names (name_reported reply)
 
 abbrev pub names_in : List Reply → List (List ℕ)
 names_in replies = fold names_more [] replies
@@ -30,5 +30,5 @@ abbrev pub names_of : Server → List (List ℕ)
 names_of s = filter is_mailbox_name (map unescaped (names_matched (42 ∷ []) s.mailboxes))
 
 -- these are returned, and nothing changed
-abbrev pub TellsNames : List (List ℕ) → Server → Server → Type 0
-TellsNames names old new = (names ≡ names_of old) × (new ≡ old)
+abbrev pub ReportsNames : List (List ℕ) → Server → Server → Type 0
+ReportsNames names old new = (names ≡ names_of old) × (new ≡ old)

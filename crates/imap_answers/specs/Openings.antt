@@ -26,8 +26,8 @@ abbrev pub permits_all : List Keyword → (flags : ℕ) → (others : Bool) → 
 permits_all keywords flags others =
     list_all (λ flag. has flags (place flag)) system_flags && (others || minus (known_set keywords) flags == 0)
 
-abbrev pub nothing_told : Opening
-nothing_told = record { next = None; validity = None; is_read_only = false }
+abbrev pub nothing_reported : Opening
+nothing_reported = record { next = None; validity = None; is_read_only = false }
 
 abbrev pub code_more : List Keyword → Opening → Code → Opening
 code_more keywords o (codes_of.UidNext n) = record o { next = Some n }
@@ -49,7 +49,7 @@ opening_more keywords o (Notice notices.Ok text) = text_more keywords o text
 opening_more keywords o _ = o
 
 abbrev pub opening_of : List Keyword → List Reply → Opening
-opening_of keywords replies = fold (opening_more keywords) nothing_told replies
+opening_of keywords replies = fold (opening_more keywords) nothing_reported replies
 
 abbrev pub NoneOrPositive : Option ℕ → Type 0
 NoneOrPositive None = Unit {0}

@@ -5,8 +5,8 @@ use Rattle.imap_link.specs.declared.fault.FarFault.{FarFault}
 use Rattle.imap_link.specs.declared.fault.FarFault.TheVariants.{Stopped, Refused, Protocol, TooLong, NoRev2, ReadOnly, NoMemory}
 
 -- the answer is so, and nothing changed
-abbrev pub Tells : {T : Type 0} → (T → Type 0) → T → Server → Server → Type 0
-Tells P answer old new = P answer × (new ≡ old)
+abbrev pub Reports : {T : Type 0} → (T → Type 0) → T → Server → Server → Type 0
+Reports P answer old new = P answer × (new ≡ old)
 
 -- replies read: what they say, or `Protocol` where they say nothing that the call can take
 abbrev pub ReadsAs : {T X : Type 0} → (view : T → X) → Result T FarFault → Option X → Type 0

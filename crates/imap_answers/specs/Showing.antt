@@ -21,10 +21,10 @@ nothing_shown = record { top = None; marks = [] }
 -- ---- marks
 
 -- the mark that the beginning of a message bears
-abbrev pub mark_told : Option WireString → Option (List ℕ)
-mark_told None = None
-mark_told (Some (Literal bytes)) = mark_of bytes
-mark_told (Some (Quoted raw)) = mark_of raw
+abbrev pub mark_reported : Option WireString → Option (List ℕ)
+mark_reported None = None
+mark_reported (Some (Literal bytes)) = mark_of bytes
+mark_reported (Some (Quoted raw)) = mark_of raw
 
 -- the mark that an item shows
 abbrev pub mark_shown : FetchItem → Option (List ℕ)
@@ -32,7 +32,7 @@ mark_shown (items.Uid uid) = None
 mark_shown (items.Flags flags) = None
 mark_shown (items.Size size) = None
 mark_shown (items.Body body) = None
-mark_shown (items.Head head) = mark_told head
+mark_shown (items.Head head) = mark_reported head
 
 abbrev pub with_mark : List (List ℕ) → Option (List ℕ) → List (List ℕ)
 with_mark marks None = marks

@@ -4,13 +4,13 @@ ghost use Rattle.std.specs.Prelude.{◌≡◌, ◌≤◌, ◌+◌, List, None, S
 ghost use Rattle.std.specs.Option.{option_map};
 ghost use Rattle.imap_replies.specs.declared.reply.Reply.{Reply};
 ghost use Rattle.imap_session.specs.Heard.{AreReplies};
-ghost use Rattle.imap_answers.specs.Bodies.{bodies_more, body_at, body_bytes, body_in, body_told, found_at, is_told};
+ghost use Rattle.imap_answers.specs.Bodies.{bodies_more, body_at, body_bytes, body_in, body_reported, found_at, is_reported};
 ghost use Rattle.imap_answers.specs.Fetching.{uid_of};
 ghost use Rattle.imap_answers.specs.Readings.{ReadsAs, IsReadFault};
 ghost use Rattle.imap_answers.specs.Spoken.{Speaks};
 
 use crate::reading::first_reply;
-use crate::told::uid_of;
+use crate::reported::uid_of;
 use imap_link::fault::FarFault;
 use imap_replies::fetch::FetchItem;
 use imap_replies::reply::Reply;
@@ -40,8 +40,8 @@ impl FoundBody {
     {
         match self {
             FoundBody::At { from, len } => {
-                let behind = &bytes[(*from).min(bytes.len())..];
-                &behind[..(*len).min(behind.len())]
+                let following = &bytes[(*from).min(bytes.len())..];
+                &following[..(*len).min(following.len())]
             }
             FoundBody::Copied(copy) => copy.as_slice(),
         }
@@ -52,9 +52,9 @@ impl FoundBody {
 /// counts.
 ///
 /// `Protocol`: they are reported as NIL, or quoted with a backslash. `NoMemory`.
-pub fn body_told(alloc: Global, bytes: &[u8], uid: Uid) -> Result<Option<FoundBody>, FarFault>
+pub fn body_reported(alloc: Global, bytes: &[u8], uid: Uid) -> Result<Option<FoundBody>, FarFault>
     requires { Speaks bytes.now }
-    ensures told { (rs : List Reply) → AreReplies rs bytes.now → ReadsAs (found_at bytes.now) result (body_told uid rs) }
+    ensures reported { (rs : List Reply) → AreReplies rs bytes.now → ReadsAs (found_at bytes.now) result (body_reported uid rs) }
     ensures err { IfErr result IsReadFault }
 {
     let mut found = None;
@@ -122,27 +122,27 @@ fn next_place(scanner: &mut Scanner, text: &[u8], done: usize) -> Option<usize>
 ///
 /// `Protocol`: it reports them as NIL, or quoted with a backslash.
 fn body_of<'a>(reply: &'a Reply<'_>, uid: Uid) -> Result<Option<&'a [u8]>, FarFault>
-    ensures told { ReadsAs (option_map (λ b. b.now)) result (bodies_more uid (Some None) reply.now) }
+    ensures reported { ReadsAs (option_map (λ b. b.now)) result (bodies_more uid (Some None) reply.now) }
 {
     match reply {
-        Reply::Fetch(_, items) if is_told(items.items(), uid) => body_in(items.items()),
+        Reply::Fetch(_, items) if is_reported(items.items(), uid) => body_in(items.items()),
         _ => Ok(None),
     }
 }
 
 /// Whether these items are about the message with this UID.
-fn is_told(items: &[FetchItem<'_>], uid: Uid) -> bool
-    ensures { result ≡ is_told uid (uid_of items.now) }
+fn is_reported(items: &[FetchItem<'_>], uid: Uid) -> bool
+    ensures { result ≡ is_reported uid (uid_of items.now) }
 {
     match uid_of(items) {
-        Some(told) => told == uid.get(),
+        Some(reported) => reported == uid.get(),
         None => false,
     }
 }
 
 /// The bytes that these items report, if they report them.
 fn body_in<'a>(items: &'a [FetchItem<'_>]) -> Result<Option<&'a [u8]>, FarFault>
-    ensures told { ReadsAs (option_map (λ b. b.now)) result (body_in (Some None) items.now) }
+    ensures reported { ReadsAs (option_map (λ b. b.now)) result (body_in (Some None) items.now) }
 {
     let mut body = None;
     for item in items {

@@ -1,7 +1,7 @@
 //! What the replies to APPEND report about the message that was added (RFC 9051, section 7.1: APPENDUID).
 
 ghost use Rattle.std.specs.Prelude.{◌≡◌};
-ghost use Rattle.imap_answers.specs.Given.{given_by_code, given_more, given_in, uid_told};
+ghost use Rattle.imap_answers.specs.Given.{given_by_code, given_more, given_in, uid_reported};
 
 use imap_link::fault::FarFault;
 use imap_replies::reply::Reply;
@@ -56,8 +56,8 @@ fn given_by_code(given: Option<Given>, code: &Code<'_>) -> Option<Given>
 /// The UID that was reported, if one was, in a mailbox of this validity whose next UID was at least this.
 ///
 /// `Protocol`: the mailbox cannot have given it.
-pub fn uid_told(given: Option<Given>, validity: u32, next: u32) -> Result<Option<Uid>, FarFault>
-    ensures { result ≡ uid_told given validity next }
+pub fn uid_reported(given: Option<Given>, validity: u32, next: u32) -> Result<Option<Uid>, FarFault>
+    ensures { result ≡ uid_reported given validity next }
 {
     let Some(given) = given else {
         return Ok(None);

@@ -1,10 +1,10 @@
 //! What FETCH replies list of a mailbox (RFC 9051, section 6.4.5).
 
 ghost use Rattle.std.specs.Prelude.{◌≡◌, ◌≤◌};
-ghost use Rattle.imap_answers.specs.Listings.{item_told, items_told, next_above};
+ghost use Rattle.imap_answers.specs.Listings.{item_reported, items_reported, next_above};
 ghost use Rattle.imap_answers.specs.Readings.{ReadsAs};
 
-use crate::told::{Row, Rows};
+use crate::reported::{Row, Rows};
 use imap_link::fault::FarFault;
 use mailcore::listing::{Item, Items};
 use mailcore::uid::Uid;
@@ -15,11 +15,11 @@ impl<'a> Rows<'a> {
     ///
     /// `Protocol`: a message was reported without its flags or its size, or under 4294967295. `NoMemory`.
     pub fn items(&self, alloc: Global) -> Result<Items, FarFault>
-        ensures told { ReadsAs (λ items. items) result (items_told self.now.rows) }
+        ensures reported { ReadsAs (λ items. items) result (items_reported self.now.rows) }
     {
         let mut items = Vec::with_capacity(alloc, self.by_uid.len())?;
         for (uid, row) in &self.by_uid {
-            match item_told(*uid, row) {
+            match item_reported(*uid, row) {
                 Some(item) => items.push(item)?,
                 None => return Err(FarFault::Protocol),
             }
@@ -29,8 +29,8 @@ impl<'a> Rows<'a> {
 }
 
 /// The message of this UID as it is listed, or none if its flags or its size were not reported.
-fn item_told(uid: u32, row: &Row) -> Option<Item>
-    ensures { result ≡ item_told uid row.now.flags row.now.fit }
+fn item_reported(uid: u32, row: &Row) -> Option<Item>
+    ensures { result ≡ item_reported uid row.now.flags row.now.fit }
 {
     let uid = Uid::new(uid)?;
     let flags = row.flags?;

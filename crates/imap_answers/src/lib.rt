@@ -9,5 +9,5 @@ pub mod marks;
 pub mod names;
 pub mod opening;
 pub mod reading;
+pub mod reported;
 mod shown;
-pub mod told;

@@ -11,8 +11,8 @@ ghost use Rattle.imap_answers.specs.Markings.{is_long, is_long_head, has_long_he
 ghost use Rattle.imap_answers.specs.Readings.{ReadsAs, IsReadFault};
 ghost use Rattle.imap_answers.specs.Showing.{reach};
 
+use crate::reported::uid_of;
 use crate::shown::{ShownMarks, mark_shown};
-use crate::told::uid_of;
 use imap_link::fault::FarFault;
 use imap_link::sink::ReplySink;
 use imap_replies::fetch::FetchItem;
@@ -58,7 +58,7 @@ impl MarkSearch {
     ///
     /// `Protocol`: a reply shows more octets than were asked for, or the UID is 4294967295.
     pub fn end(&self, passed: &mut PassedMarks, next: u32) -> Result<Option<Uid>, FarFault>
-        ensures told { (mark : List ℕ) (from : ℕ) (rs : List Reply) → Sought mark from rs self.now → ReadsAs (λ uid. uid) result (mark_found mark from rs) }
+        ensures reported { (mark : List ℕ) (from : ℕ) (rs : List Reply) → Sought mark from rs self.now → ReadsAs (λ uid. uid) result (mark_found mark from rs) }
         ensures err { IfErr result IsReadFault }
         ensures passed { (known : ℕ) (messages : List Message) → next ≤ known → ArePassed known messages passed.old
             → All (λ m. passed.old.below ≤ m.uid → m.uid < reach next self.now.shown.top → IsOneOf self.now.shown.marks (mark_of m.bytes)) messages
@@ -71,7 +71,7 @@ impl MarkSearch {
 
     // The UID that was found.
     fn found(&self) -> Result<Option<Uid>, FarFault>
-        ensures told { (mark : List ℕ) (from : ℕ) (rs : List Reply) → Sought mark from rs self.now → ReadsAs (λ uid. uid) result (mark_found mark from rs) }
+        ensures reported { (mark : List ℕ) (from : ℕ) (rs : List Reply) → Sought mark from rs self.now → ReadsAs (λ uid. uid) result (mark_found mark from rs) }
         ensures err { IfErr result IsReadFault }
     {
         if self.is_long {
@@ -138,13 +138,13 @@ fn value_len(raw: &[u8]) -> usize
     ensures { result ≡ length (unescaped raw.now) }
 {
     let mut count = 0;
-    let mut behind_slash = false;
+    let mut after_slash = false;
     for b in raw {
-        if !behind_slash && *b == b'\\' {
-            behind_slash = true;
+        if !after_slash && *b == b'\\' {
+            after_slash = true;
         } else {
             count += 1;
-            behind_slash = false;
+            after_slash = false;
         }
     }
     count

@@ -1,7 +1,7 @@
 //! The names of mailboxes that replies return (RFC 9051, section 7.3.1), within the limits of names.
 
 ghost use Rattle.std.specs.Prelude.{◌≡◌, IfOk};
-ghost use Rattle.imap_answers.specs.MailboxNames.{name_told, names_in};
+ghost use Rattle.imap_answers.specs.MailboxNames.{name_reported, names_in};
 
 use imap_replies::reply::Reply;
 use mailcore::mailbox_name::MailboxName;
@@ -14,7 +14,7 @@ pub fn names_in(alloc: Global, replies: &[Reply<'_>]) -> Result<Vec<MailboxName>
 {
     let mut names = Vec::new(alloc);
     for reply in replies {
-        if let Some(name) = name_told(alloc, reply)? {
+        if let Some(name) = name_reported(alloc, reply)? {
             names.push(name)?;
         }
     }
@@ -22,8 +22,8 @@ pub fn names_in(alloc: Global, replies: &[Reply<'_>]) -> Result<Vec<MailboxName>
 }
 
 /// The name that this reply returns, if it returns one within the limits. `AllocError`: memory ran out.
-fn name_told(alloc: Global, reply: &Reply<'_>) -> Result<Option<MailboxName>, AllocError>
-    ensures { IfOk result (λ name. name ≡ name_told reply.now) }
+fn name_reported(alloc: Global, reply: &Reply<'_>) -> Result<Option<MailboxName>, AllocError>
+    ensures { IfOk result (λ name. name ≡ name_reported reply.now) }
 {
     match reply {
         Reply::List(_, _, name) => {

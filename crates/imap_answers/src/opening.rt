@@ -4,7 +4,7 @@ ghost use Rattle.std.specs.Prelude.{◌≡◌, true};
 ghost use Rattle.std.specs.List.{list_all};
 ghost use Rattle.mailcore.specs.FlagNames.{place};
 ghost use Rattle.mailcore.specs.FlagSet.{has};
-ghost use Rattle.imap_answers.specs.Openings.{permits_all, system_flags, code_more, opening_more, nothing_told, opening_of, IsPositive};
+ghost use Rattle.imap_answers.specs.Openings.{permits_all, system_flags, code_more, opening_more, nothing_reported, opening_of, IsPositive};
 
 use imap_replies::reply::Reply;
 use imap_replies::response::{Code, ResponseText};
@@ -35,7 +35,7 @@ pub struct Opening {
 impl Opening {
     /// What these replies say, where flags have the names of this map.
     pub fn of(replies: &[Reply<'_>], keywords: &Keywords) -> Opening
-        ensures told { result ≡ opening_of keywords.now replies.now }
+        ensures reported { result ≡ opening_of keywords.now replies.now }
         ensures positive { IsPositive result }
     {
         let mut opening = Opening::none();
@@ -47,7 +47,7 @@ impl Opening {
 
     /// Nothing.
     fn none() -> Opening
-        ensures { result ≡ nothing_told }
+        ensures { result ≡ nothing_reported }
     {
         Opening {
             next: None,
@@ -58,7 +58,7 @@ impl Opening {
 
     /// The same with one reply more.
     fn with(self, reply: &Reply<'_>, keywords: &Keywords) -> Opening
-        ensures told { result ≡ opening_more keywords.now self reply.now }
+        ensures reported { result ≡ opening_more keywords.now self reply.now }
         ensures positive { IsPositive self → IsPositive result }
     {
         match reply {
@@ -72,7 +72,7 @@ impl Opening {
 
     /// The same with one code more.
     fn with_code(self, code: &Code<'_>, keywords: &Keywords) -> Opening
-        ensures told { result ≡ code_more keywords.now self code.now }
+        ensures reported { result ≡ code_more keywords.now self code.now }
         ensures positive { IsPositive self → IsPositive result }
     {
         match code {

@@ -5,9 +5,9 @@ ghost use Rattle.std.specs.List.{fold, list_any};
 ghost use Rattle.mailcore.specs.declared.mailbox.Message.{Message};
 ghost use Rattle.mailcore.specs.Content.{mark_of};
 ghost use Rattle.passed_marks.specs.Passed.{ArePassed, IsOneOf};
-ghost use Rattle.imap_answers.specs.Showing.{greater, is_head, mark_shown, mark_told, marks_more, nothing_shown, reach, shown_more, uid_shown};
+ghost use Rattle.imap_answers.specs.Showing.{greater, is_head, mark_shown, mark_reported, marks_more, nothing_shown, reach, shown_more, uid_shown};
 
-use crate::told::uid_of;
+use crate::reported::uid_of;
 use imap_replies::fetch::FetchItem;
 use imap_replies::reply::Reply;
 use mailcore::copies::mark_of;
@@ -133,14 +133,14 @@ pub(crate) fn mark_shown(item: &FetchItem<'_>) -> Option<Tuid>
     ensures { result ≡ mark_shown item.now }
 {
     match item {
-        FetchItem::Head(head) => mark_told(head),
+        FetchItem::Head(head) => mark_reported(head),
         _ => None,
     }
 }
 
 /// The mark that the beginning of a message bears.
-fn mark_told(head: &Option<WireString<'_>>) -> Option<Tuid>
-    ensures { result ≡ mark_told head.now }
+fn mark_reported(head: &Option<WireString<'_>>) -> Option<Tuid>
+    ensures { result ≡ mark_reported head.now }
 {
     match head {
         Some(WireString::Literal(octets)) => mark_of(octets.bytes()),

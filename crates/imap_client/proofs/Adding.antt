@@ -32,9 +32,9 @@ use Rattle.imap_client.specs.Tags.{tag_text}
 use Rattle.imap_client.specs.Exchanged.{command_at, Exchanged}
 use Rattle.imap_client.specs.Saying.{final_status, HeardOf}
 use Rattle.imap_client.specs.States.{State, EndsSo}
-use Rattle.imap_answers.specs.Given.{given_more, given_in, uid_told}
+use Rattle.imap_answers.specs.Given.{given_more, given_in, uid_reported}
 use Rattle.imap_client.specs.Boxes.{selected_name, is_next, IsSelected}
-use Rattle.imap_client.specs.Appending.{AddsUnder, AddsSome, Adds, IsTold, NoUidLeft, next_known}
+use Rattle.imap_client.specs.Appending.{AddsUnder, AddsSome, Adds, IsReported, NoUidLeft, next_known}
 use Rattle.imap_answers.proofs.Unread.{given_in_read}
 use Rattle.visitors.specs.Visitors.{Visitors}
 use Rattle.imap_session.specs.Visits.{Visits, Among}
@@ -189,32 +189,32 @@ module _ (keywords : List Keyword) (tag : List ℕ) (validity uid : ℕ) where
   passed n h (inr (inr (inr (inl w)))) = let said = w.said_is in cc
   passed n h (inr (inr (inr (inr w)))) = let said = w.said_is in cc
 
-  given_behind : (n : ℕ) (hs : List Reply) → AreHeardAs keywords hs (Exists n ∷ ends ∷ []) → IsOf validity uid (given_in hs)
-  given_behind n [] l = absurd l
-  given_behind n (h ∷ []) l = absurd l.1
-  given_behind n (h ∷ i ∷ []) l = subst (λ (g : Option Given). IsOf validity uid (given_more g i)) (sym (passed n h l.0)) (last_given i l.1.0)
-  given_behind n (h ∷ i ∷ j ∷ hs) l = absurd l.1.1
+  given_after : (n : ℕ) (hs : List Reply) → AreHeardAs keywords hs (Exists n ∷ ends ∷ []) → IsOf validity uid (given_in hs)
+  given_after n [] l = absurd l
+  given_after n (h ∷ []) l = absurd l.1
+  given_after n (h ∷ i ∷ []) l = subst (λ (g : Option Given). IsOf validity uid (given_more g i)) (sym (passed n h l.0)) (last_given i l.1.0)
+  given_after n (h ∷ i ∷ j ∷ hs) l = absurd l.1.1
 
   given_of : (c : Condition) (name : List ℕ) (n : ℕ) (hs : List Reply) → AreHeardAs keywords hs (grown c name n ++ ends ∷ []) → IsOf validity uid (given_in hs)
   given_of c name n hs l = elim (none_or_one c name n) [
     | inl e ↦ given_alone hs (subst (λ (xs : List Reply). AreHeardAs keywords hs (xs ++ ends ∷ [])) e l)
-    | inr e ↦ given_behind n hs (subst (λ (xs : List Reply). AreHeardAs keywords hs (xs ++ ends ∷ [])) e l)
+    | inr e ↦ given_after n hs (subst (λ (xs : List Reply). AreHeardAs keywords hs (xs ++ ends ∷ [])) e l)
   ]
 
 -- the UID is reported, or none
-pub record ToldSo (uid : ℕ) (r : Result (Option ℕ) FarFault) : Type 0 where
-  pub told : Option ℕ
-  pub is : r ≡ Ok told
-  pub is_told : IsTold told uid
+pub record ReportedSo (uid : ℕ) (r : Result (Option ℕ) FarFault) : Type 0 where
+  pub reported : Option ℕ
+  pub is : r ≡ Ok reported
+  pub is_reported : IsReported reported uid
 
-told_by : (validity next known uid : ℕ) (given : Option Given) → known ≡ validity → next ≤ uid → uid < 4294967295 → IsOf validity uid given → ToldSo uid (uid_told given known next)
-told_by validity next known uid given e least below (inl g) = record { told = None; is = ap (λ (x : Option Given). uid_told x known next) g; is_told = tt }
-told_by validity next known uid given e least below (inr g) =
+reported_by : (validity next known uid : ℕ) (given : Option Given) → known ≡ validity → next ≤ uid → uid < 4294967295 → IsOf validity uid given → ReportedSo uid (uid_reported given known next)
+reported_by validity next known uid given e least below (inl g) = record { reported = None; is = ap (λ (x : Option Given). uid_reported x known next) g; is_reported = tt }
+reported_by validity next known uid given e least below (inr g) =
     let fits : (validity == known && nat_le next uid && nat_lt uid 4294967295) ≡ true = grind (arith, e, least, below) in
     record {
-      told = Some uid;
-      is = ap (λ (x : Option Given). uid_told x known next) g ∙ ap (λ (b : Bool). if b then (let x : Result (Option ℕ) FarFault = Ok (Some uid) in x) else Err faults.Protocol) fits;
-      is_told = refl;
+      reported = Some uid;
+      is = ap (λ (x : Option Given). uid_reported x known next) g ∙ ap (λ (b : Bool). if b then (let x : Result (Option ℕ) FarFault = Ok (Some uid) in x) else Err faults.Protocol) fits;
+      is_reported = refl;
     }
 
 validity_is : (m : FarMailbox) (x : Option FarMailbox) (v : ℕ) → x ≡ Some m → option_map (λ y. y.store.validity) x ≡ Some v → v ≡ m.store.validity
@@ -223,41 +223,41 @@ validity_is m x v e h = let both : (let y : Option ℕ = Some m.store.validity i
 pub next_at_most : (m : FarMailbox) (x : Option FarMailbox) (n : ℕ) → x ≡ Some m → is_next n x ≡ true → n ≤ m.store.next
 next_at_most m x n e h = leb-true n m.store.next (sym (ap (is_next n) e) ∙ h)
 
-pub told_so : (n : ℕ) (name : List ℕ) (m : FarMailbox) (flags : ℕ) (message bytes : List ℕ) (old new : Server) (validity next : ℕ) → IsSelected name validity next old → selected old ≡ Some m
-    → (a : AddedSo n name m flags message bytes old new) → (given : Option Given) → ((rs : List Reply) → AreReplies rs bytes → given ≡ given_in rs) → ToldSo a.uid (uid_told given validity next)
-told_so n name m flags message bytes old new validity next sel is a given told =
+pub reported_so : (n : ℕ) (name : List ℕ) (m : FarMailbox) (flags : ℕ) (message bytes : List ℕ) (old new : Server) (validity next : ℕ) → IsSelected name validity next old → selected old ≡ Some m
+    → (a : AddedSo n name m flags message bytes old new) → (given : Option Given) → ((rs : List Reply) → AreReplies rs bytes → given ≡ given_in rs) → ReportedSo a.uid (uid_reported given validity next)
+reported_so n name m flags message bytes old new validity next sel is a given reported =
     let least = next_at_most m (selected old) next is sel.2 in
     let may = a.under.may in
     let at_least = may.at_least in
-    told_by m.store.validity next validity a.uid given (validity_is m (selected old) validity is sel.1) (omega (arith, least, at_least)) may.below
-    (subst (IsOf m.store.validity a.uid) (sym (told (filter (is_used answer_alone) a.heard.replies) a.heard.spelled ∙ given_in_read a.heard.replies)) (given_of old.keywords (tag_text n) m.store.validity a.uid old.condition name (length m.store.messages + 1) a.heard.replies a.heard.heard_as))
+    reported_by m.store.validity next validity a.uid given (validity_is m (selected old) validity is sel.1) (omega (arith, least, at_least)) may.below
+    (subst (IsOf m.store.validity a.uid) (sym (reported (filter (is_used answer_alone) a.heard.replies) a.heard.spelled ∙ given_in_read a.heard.replies)) (given_of old.keywords (tag_text n) m.store.validity a.uid old.condition name (length m.store.messages + 1) a.heard.replies a.heard.heard_as))
 
-same_told : (a b : Option ℕ) → (let x : Result (Option ℕ) FarFault = Ok a in x) ≡ Ok b → a ≡ b
-same_told a b e = cc
+same_reported : (a b : Option ℕ) → (let x : Result (Option ℕ) FarFault = Ok a in x) ≡ Ok b → a ≡ b
+same_reported a b e = cc
 
 never_err : (a : Option ℕ) (f : FarFault) → (let x : Result (Option ℕ) FarFault = Ok a in x) ≡ Err f → ⊥
 never_err a f e = cc
 
-pub adds_so : (n : ℕ) (name : List ℕ) (m : FarMailbox) (flags : ℕ) (message bytes : List ℕ) (old new : Server) (r : Result (Option ℕ) FarFault) (told : Option ℕ)
-    → (a : AddedSo n name m flags message bytes old new) → ToldSo a.uid r → r ≡ Ok told → Adds m flags message told old new
-adds_so n name m flags message bytes old new r told a t e =
-    record { uid = a.uid; under = a.under; is_told = subst (λ (x : Option ℕ). IsTold x a.uid) (same_told t.told told (sym t.is ∙ e)) t.is_told }
+pub adds_so : (n : ℕ) (name : List ℕ) (m : FarMailbox) (flags : ℕ) (message bytes : List ℕ) (old new : Server) (r : Result (Option ℕ) FarFault) (reported : Option ℕ)
+    → (a : AddedSo n name m flags message bytes old new) → ReportedSo a.uid r → r ≡ Ok reported → Adds m flags message reported old new
+adds_so n name m flags message bytes old new r reported a t e =
+    record { uid = a.uid; under = a.under; is_reported = subst (λ (x : Option ℕ). IsReported x a.uid) (same_reported t.reported reported (sym t.is ∙ e)) t.is_reported }
 
-pub never_protocol : (uid : ℕ) (r : Result (Option ℕ) FarFault) (f : FarFault) → ToldSo uid r → r ≡ Err f → ⊥
-never_protocol uid r f t e = never_err t.told f (sym t.is ∙ e)
+pub never_protocol : (uid : ℕ) (r : Result (Option ℕ) FarFault) (f : FarFault) → ReportedSo uid r → r ≡ Err f → ⊥
+never_protocol uid r f t e = never_err t.reported f (sym t.is ∙ e)
 
 -- and else it breaks the protocol
 fails_by : (b : Bool) (uid : ℕ) (f : FarFault) → (if b then (let x : Result (Option ℕ) FarFault = Ok (Some uid) in x) else Err faults.Protocol) ≡ Err f → f ≡ faults.Protocol
 fails_by true uid f e = cc
 fails_by false uid f e = cc
 
-pub told_fails : (given : Option Given) (validity next : ℕ) (f : FarFault) → uid_told given validity next ≡ Err f → f ≡ faults.Protocol
-told_fails None validity next f e = absurd (never_err None f e)
-told_fails (Some given) validity next f e = fails_by (given.validity == validity && nat_le next given.uid && nat_lt given.uid 4294967295) given.uid f e
+pub reported_fails : (given : Option Given) (validity next : ℕ) (f : FarFault) → uid_reported given validity next ≡ Err f → f ≡ faults.Protocol
+reported_fails None validity next f e = absurd (never_err None f e)
+reported_fails (Some given) validity next f e = fails_by (given.validity == validity && nat_le next given.uid && nat_lt given.uid 4294967295) given.uid f e
 
 -- ---- the mailbox stays selected
 
-known_least : (next uid : ℕ) (told : Option ℕ) → next ≤ uid → IsTold told uid → next_known next told ≤ uid + 1
+known_least : (next uid : ℕ) (reported : Option ℕ) → next ≤ uid → IsReported reported uid → next_known next reported ≤ uid + 1
 known_least next uid None least t = omega (arith, least)
 known_least next uid (Some u) least t = omega (arith, t)
 
@@ -269,14 +269,14 @@ under_selected name validity next now m flags message uid old new h is a most =
     subst (IsSelected name validity now) (sym a.after)
     (h.0, ap (option_map (λ y. y.store.validity)) there ∙ ap (λ (v : ℕ). Some v) (sym (validity_is m (selected old) validity is h.1)), ap (is_next now) there ∙ le-leb now (uid + 1) most)
 
-pub told_selected : (name : List ℕ) (validity next : ℕ) (m : FarMailbox) (flags : ℕ) (message : List ℕ) (told : Option ℕ) (old new : Server) → IsSelected name validity next old → selected old ≡ Some m
-    → Adds m flags message told old new → IsSelected name validity (next_known next told) new
-told_selected name validity next m flags message told old new h is a =
+pub reported_selected : (name : List ℕ) (validity next : ℕ) (m : FarMailbox) (flags : ℕ) (message : List ℕ) (reported : Option ℕ) (old new : Server) → IsSelected name validity next old → selected old ≡ Some m
+    → Adds m flags message reported old new → IsSelected name validity (next_known next reported) new
+reported_selected name validity next m flags message reported old new h is a =
     let least = next_at_most m (selected old) next is h.2 in
     let may = a.under.may in
     let at_least = may.at_least in
     let below : next ≤ a.uid = omega (arith, least, at_least) in
-    under_selected name validity next (next_known next told) m flags message a.uid old new h is a.under (known_least next a.uid told below a.is_told)
+    under_selected name validity next (next_known next reported) m flags message a.uid old new h is a.under (known_least next a.uid reported below a.is_reported)
 
 -- where a call ended so
 module _ (T : Type 0) (was now : State) (old new : Server) where
@@ -344,13 +344,13 @@ module _ (was now : State) (old new : Server) (name : List ℕ) (validity next f
   err_selected f e ready sel out = err_keeps (IsSelected name validity next) f e ready sel sel out
 
   -- and after an answer
-  pub ok_selected : (told : Option ℕ) → EndsSo 1 was now (Ok told) → (was.is_ready ≡ true → IsSelected name validity next old)
-      → (IsSelected name validity next old → (m : FarMailbox) → selected old ≡ Some m → Adds m flags message told old new) → IsSelected name validity (next_known next told) new
-  ok_selected told e sel out =
+  pub ok_selected : (reported : Option ℕ) → EndsSo 1 was now (Ok reported) → (was.is_ready ≡ true → IsSelected name validity next old)
+      → (IsSelected name validity next old → (m : FarMailbox) → selected old ≡ Some m → Adds m flags message reported old new) → IsSelected name validity (next_known next reported) new
+  ok_selected reported e sel out =
       let is = sel e.was_ready in
       let there = there_of name validity next old is in
-      told_selected name validity next there.mailbox flags message told old new is there.is (out is there.mailbox there.is)
+      reported_selected name validity next there.mailbox flags message reported old new is there.is (out is there.mailbox there.is)
 
-pub none_known : (next : ℕ) (told : Option ℕ) → ((x : ℕ) → told ≡ Some x → ⊥) → next_known next told ≡ next
+pub none_known : (next : ℕ) (reported : Option ℕ) → ((x : ℕ) → reported ≡ Some x → ⊥) → next_known next reported ≡ next
 none_known next None n = refl
 none_known next (Some x) n = absurd (n x refl)

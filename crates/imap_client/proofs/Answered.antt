@@ -17,7 +17,7 @@ use Rattle.law_session.proofs.Answering.{heard_answer, step_answer}
 use Rattle.law_session.proofs.HeardAs.{reads_same}
 use Rattle.imap_link.specs.declared.fault.FarFault.{FarFault}
 use Rattle.imap_link.specs.declared.fault.FarFault.TheVariants as faults
-use Rattle.imap_link.specs.declared.kind.Kind.TheVariants.{Mine, Stray}
+use Rattle.imap_link.specs.declared.kind.ReplyKind.TheVariants.{Mine, Stray}
 use Rattle.imap_link.specs.ReplyKinds.{kind_of, IsAwaited}
 use Rattle.imap_link.specs.UsedReplies.{uses_of, is_used}
 use Rattle.imap_link.specs.Outcomes.{Outcome, Never}
@@ -96,7 +96,7 @@ said_of T c status bytes old new r =
     record {
       said = said;
       step = r.did.step;
-      heard = record { replies = r.replies; spelled = r.spelled; told = r.told; heard_as = r.did.heard_as };
+      heard = record { replies = r.replies; spelled = r.spelled; reported = r.reported; heard_as = r.did.heard_as };
       status_is = sym (heard_final old.keywords r.replies said r.did.heard_as) ∙ ap final_status closed.all ∙ final_last closed.passed closed.last ∙ ap status_of (sym same.1) ∙ kind_status c.tag r.text.last status r.text.is;
     }
 

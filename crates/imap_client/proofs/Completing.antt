@@ -4,7 +4,7 @@ use Rattle.std.specs.Prelude.{if◌then◌else◌}
 use Rattle.std.specs.List.{list_all, flat_map}
 use Rattle.std.proofs.lemmas.Bool.{and_parts, and_from}
 use Rattle.std.proofs.lemmas.List.Folds.{list_all-append}
-use Rattle.wire_reader.specs.declared.side.Side.TheVariants.{Commands}
+use Rattle.wire_reader.specs.declared.side.Speaker.TheVariants.{Commands}
 use Rattle.wire_reader.specs.Spelling.{◌⨾◌, Is, is_digit}
 use Rattle.wire_reader.proofs.Part.{Part}
 use Rattle.wire_reader.proofs.Reader.{Open}
@@ -32,7 +32,7 @@ use Rattle.imap_commands.specs.declared.verb.Verb.{Verb}
 use Rattle.imap_commands.specs.declared.verb.Verb.TheVariants as verbs
 use Rattle.imap_commands.specs.Verbs.{word_of}
 use Rattle.imap_commands.specs.Requests.{space, verb_of, items_word, mode_word}
-use Rattle.imap_commands.specs.Room.{most_behind}
+use Rattle.imap_commands.specs.Room.{most_after}
 use Rattle.imap_commands.specs.Writing.{WrittenText, WrittenRequest, Written}
 use Rattle.imap_commands.proofs.WrittenCommands.{written_spelled}
 use Rattle.imap_commands.proofs.CommandsFit.{command_few}
@@ -176,19 +176,19 @@ mode_short : (m : StoreMode) → length (mode_word m) ≤ 30
 mode_short modes.Add = omega arith
 mode_short modes.Remove = omega arith
 
-behind_short : (r : Request) → IsPlain r → most_behind r ≤ 65200
-behind_short requests.Capability p = omega arith
-behind_short requests.Noop p = omega arith
-behind_short requests.Logout p = omega arith
-behind_short (requests.Login user password) p = let a = p.0.most in let b = p.1.most in omega (arith, a, b)
-behind_short (requests.Enable names) p = subst (λ (ns : List (List ℕ)). most_behind (requests.Enable ns) ≤ 65200) (sym p) (omega arith)
-behind_short (requests.List pattern) p = omega (arith, p)
-behind_short (requests.Create mailbox) p = let a = p.most in omega (arith, a)
-behind_short (requests.Select mailbox) p = let a = p.most in omega (arith, a)
-behind_short (requests.Append mailbox flags message) p = absurd p
-behind_short (requests.Fetch set what) p = let a = items_short what in omega (arith, p, a)
-behind_short (requests.Store set mode flags) p = let a = mode_short mode in omega (arith, p, a)
-behind_short (requests.Expunge set) p = omega (arith, p)
+after_short : (r : Request) → IsPlain r → most_after r ≤ 65200
+after_short requests.Capability p = omega arith
+after_short requests.Noop p = omega arith
+after_short requests.Logout p = omega arith
+after_short (requests.Login user password) p = let a = p.0.most in let b = p.1.most in omega (arith, a, b)
+after_short (requests.Enable names) p = subst (λ (ns : List (List ℕ)). most_after (requests.Enable ns) ≤ 65200) (sym p) (omega arith)
+after_short (requests.List pattern) p = omega (arith, p)
+after_short (requests.Create mailbox) p = let a = p.most in omega (arith, a)
+after_short (requests.Select mailbox) p = let a = p.most in omega (arith, a)
+after_short (requests.Append mailbox flags message) p = absurd p
+after_short (requests.Fetch set what) p = let a = items_short what in omega (arith, p, a)
+after_short (requests.Store set mode flags) p = let a = mode_short mode in omega (arith, p, a)
+after_short (requests.Expunge set) p = omega (arith, p)
 
 pub tag_short : (c : Command) (t : List ℕ) → Written c t → length c.tag ≤ 32
 tag_short c t h = let same = h.first.0 in let most = h.first.1.most in let long = ap length same in omega (arith, most, long)
@@ -197,7 +197,7 @@ pub plain_completes : (c : Command) (uses : Uses) (t : List ℕ) → uses ≡ us
 plain_completes c uses t u p h = record {
   text = record {
     spelled = written_spelled c t h;
-    fits = (let most = command_few c t h in let a = verb_short (verb_of c.request) in let b = behind_short c.request p in let d = tag_short c t h in omega (arith, most, a, b, d));
+    fits = (let most = command_few c t h in let a = verb_short (verb_of c.request) in let b = after_short c.request p in let d = tag_short c t h in omega (arith, most, a, b, d));
   };
   asks_no_more = line_asks_none t (head_then c (WrittenRequest c.request) (request_line c.request p) t h);
   tag_is = refl;

@@ -31,7 +31,7 @@ use Rattle.imap_client.specs.Exchanged.{command_at, Exchanged}
 use Rattle.imap_client.specs.Saying.{HeardOf}
 use Rattle.imap_client.specs.Seen.{HasMap}
 use Rattle.imap_client.specs.Logins.{Remains}
-use Rattle.imap_answers.specs.Readings.{ReadsAs, Tells}
+use Rattle.imap_answers.specs.Readings.{ReadsAs, Reports}
 use Rattle.imap_client.proofs.Answered.{Sure, answered}
 
 -- ---- as they were said
@@ -137,14 +137,14 @@ abbrev pub replies_for : List Keyword → FarMailbox → List SetItem → FetchI
 replies_for keywords m set what tag = fetched keywords (named_in m.store set) what 1 m.store.messages ++ done tag ∷ []
 
 -- T holds of them, and those of them that the call keeps were read
-abbrev pub FetchTells : (n : ℕ) → List Keyword → FarMailbox → List SetItem → FetchItems → (T : List Reply → Type 0) → (read : List ℕ) → Type 0
-FetchTells n keywords m set what T read =
+abbrev pub FetchReports : (n : ℕ) → List Keyword → FarMailbox → List SetItem → FetchItems → (T : List Reply → Type 0) → (read : List ℕ) → Type 0
+FetchReports n keywords m set what T read =
     T (replies_for keywords m set what (tag_text n)) × AreReplies (filter (is_used (fetch_uses what)) (replies_for keywords m set what (tag_text n))) read
 
 -- T holds of replies that were heard as those
-pub record ListingTells (n : ℕ) (keywords : List Keyword) (m : FarMailbox) (set : List SetItem) (T : List Reply → Type 0) : Type 0 where
+pub record ListingReports (n : ℕ) (keywords : List Keyword) (m : FarMailbox) (set : List SetItem) (T : List Reply → Type 0) : Type 0 where
   pub replies : List Reply
-  pub told : T replies
+  pub reported : T replies
   pub heard_as : AreHeardAs keywords replies (replies_for keywords m set wanted.Listing (tag_text n))
 
 module _ (n : ℕ) (old : Server) (m : FarMailbox) (is : selected old ≡ Some m) (set : List SetItem) (what : FetchItems) where
@@ -162,38 +162,38 @@ module _ (n : ℕ) (old : Server) (m : FarMailbox) (is : selected old ≡ Some m
     heard_by result read new h =
         answered T (command_at n (requests.Fetch set what)) old (fetched old.keywords (named_in m.store set) what 1 m.store.messages) (done (tag_text n)) old fetch_sure refl result read new h
 
-    tells_by : (Q : Type 0) (read : List ℕ) (new : Server) (result : Result (Unit {0}) FarFault) → (HeardSo read → Q)
+    reports_by : (Q : Type 0) (read : List ℕ) (new : Server) (result : Result (Unit {0}) FarFault) → (HeardSo read → Q)
         → Outcome {T = Unit {0}} (λ _ s t. HeardSo read × (t ≡ old)) Never (λ s t. t ≡ old) result old new
-        → Outcome {T = Unit {0}} (λ x. Tells (λ _. Q) x) Never Remains result old new
-    tells_by Q read new (Ok x) so h = (so h.0, h.1)
-    tells_by Q read new (Err faults.Stopped) so h = h
-    tells_by Q read new (Err faults.Refused) so h = h
-    tells_by Q read new (Err faults.Protocol) so h = h
-    tells_by Q read new (Err faults.TooLong) so h = h
-    tells_by Q read new (Err faults.NoRev2) so h = h
-    tells_by Q read new (Err faults.ReadOnly) so h = h
-    tells_by Q read new (Err faults.NoMemory) so h = h
+        → Outcome {T = Unit {0}} (λ x. Reports (λ _. Q) x) Never Remains result old new
+    reports_by Q read new (Ok x) so h = (so h.0, h.1)
+    reports_by Q read new (Err faults.Stopped) so h = h
+    reports_by Q read new (Err faults.Refused) so h = h
+    reports_by Q read new (Err faults.Protocol) so h = h
+    reports_by Q read new (Err faults.TooLong) so h = h
+    reports_by Q read new (Err faults.NoRev2) so h = h
+    reports_by Q read new (Err faults.ReadOnly) so h = h
+    reports_by Q read new (Err faults.NoMemory) so h = h
 
     module _ (flagless : IsFlagless what) where
-      tells_so : (read : List ℕ) → HeardSo read → FetchTells n old.keywords m set what T read
-      tells_so read h =
+      reports_so : (read : List ℕ) → HeardSo read → FetchReports n old.keywords m set what T read
+      reports_so read h =
           let said = replies_for old.keywords m set what (tag_text n) in
           let same : h.replies ≡ said =
           exact_same old.keywords h.replies said (exact_fetched old.keywords (named_in m.store set) what flagless 1 m.store.messages (done (tag_text n) ∷ []) (done_exact old.keywords (tag_text n), tt)) h.heard_as in (
-            subst T (ap (filter (is_used messages_read)) same ∙ all_read old.keywords (named_in m.store set) what 1 m.store.messages (tag_text n)) h.told,
+            subst T (ap (filter (is_used messages_read)) same ∙ all_read old.keywords (named_in m.store set) what 1 m.store.messages (tag_text n)) h.reported,
             subst (λ (rs : List Reply). AreReplies (filter (is_used (fetch_uses what)) rs) read) same h.spelled,
           )
 
       pub fetch_exchanged : (result : Result (Unit {0}) FarFault) (read : List ℕ) (new : Server) → Exchanged (command_at n (requests.Fetch set what)) T result read old new
-          → Outcome {T = Unit {0}} (λ x. Tells (λ _. FetchTells n old.keywords m set what T read) x) Never Remains result old new
-      fetch_exchanged result read new h = tells_by (FetchTells n old.keywords m set what T read) read new result (tells_so read) (heard_by result read new h)
+          → Outcome {T = Unit {0}} (λ x. Reports (λ _. FetchReports n old.keywords m set what T read) x) Never Remains result old new
+      fetch_exchanged result read new h = reports_by (FetchReports n old.keywords m set what T read) read new result (reports_so read) (heard_by result read new h)
 
 -- where flags are listed, and the server has this map
 module _ (n : ℕ) (old : Server) (m : FarMailbox) (is : selected old ≡ Some m) (set : List SetItem) (keywords : List Keyword) (has : HasMap keywords old) (T : List Reply → Type 0) where
-  lists_heard : (read : List ℕ) → HeardOf old.keywords (fetch_uses wanted.Listing) T (replies_for old.keywords m set wanted.Listing (tag_text n)) read → ListingTells n keywords m set T
+  lists_heard : (read : List ℕ) → HeardOf old.keywords (fetch_uses wanted.Listing) T (replies_for old.keywords m set wanted.Listing (tag_text n)) read → ListingReports n keywords m set T
   lists_heard read h = record {
     replies = filter (is_used messages_read) h.replies;
-    told = h.told;
+    reported = h.reported;
     heard_as =
         subst (λ (k : List Keyword). AreHeardAs k (filter (is_used messages_read) h.replies) (replies_for k m set wanted.Listing (tag_text n))) has
         (subst (AreHeardAs old.keywords (filter (is_used messages_read) h.replies)) (all_read old.keywords (named_in m.store set) wanted.Listing 1 m.store.messages (tag_text n))
@@ -201,9 +201,9 @@ module _ (n : ℕ) (old : Server) (m : FarMailbox) (is : selected old ≡ Some m
   }
 
   pub listing_exchanged : (result : Result (Unit {0}) FarFault) (read : List ℕ) (new : Server) → Exchanged (command_at n (requests.Fetch set wanted.Listing)) T result read old new
-      → Outcome {T = Unit {0}} (λ x. Tells (λ _. ListingTells n keywords m set T) x) Never Remains result old new
+      → Outcome {T = Unit {0}} (λ x. Reports (λ _. ListingReports n keywords m set T) x) Never Remains result old new
   listing_exchanged result read new h =
-      tells_by n old m is set wanted.Listing T (ListingTells n keywords m set T) read new result (lists_heard read) (heard_by n old m is set wanted.Listing T result read new h)
+      reports_by n old m is set wanted.Listing T (ListingReports n keywords m set T) read new result (lists_heard read) (heard_by n old m is set wanted.Listing T result read new h)
 
 -- ---- what is read of it
 
@@ -211,11 +211,11 @@ same_some : {X : Type 0} (a b : X) → (let x : Option X = Some a in x) ≡ Some
 same_some a b e = cc
 
 module _ (T X : Type 0) (view : T → X) (x : Option X) (v : X) (is : x ≡ Some v) (old new : Server) (same : new ≡ old) where
-  pub reads_so : (t : T) → ReadsAs view (Ok t) x → Tells (λ u. view u ≡ v) t old new
+  pub reads_so : (t : T) → ReadsAs view (Ok t) x → Reports (λ u. view u ≡ v) t old new
   reads_so t h = (same_some (view t) v (sym h ∙ is), same)
 
   -- where the replies cannot be read
-  pub reads_err : (f : FarFault) → ReadsAs {T = T} view (Err f) x → Outcome {T = T} (Tells (λ t. view t ≡ v)) Never Remains (Err f) old new
+  pub reads_err : (f : FarFault) → ReadsAs {T = T} view (Err f) x → Outcome {T = T} (Reports (λ t. view t ≡ v)) Never Remains (Err f) old new
   reads_err faults.Stopped h = absurd h
   reads_err faults.Refused h = absurd h
   reads_err faults.Protocol h = let both : (let o : Option X = None in o) ≡ Some v = sym h ∙ is in cc
@@ -225,7 +225,7 @@ module _ (T X : Type 0) (view : T → X) (x : Option X) (v : X) (is : x ≡ Some
   reads_err faults.NoMemory h = inr same
 
 -- whatever became of it, nothing changed
-pub unchanged : (T : Type 0) (P : T → Type 0) (old new : Server) (result : Result T FarFault) → Outcome (Tells P) Never Remains result old new → new ≡ old
+pub unchanged : (T : Type 0) (P : T → Type 0) (old new : Server) (result : Result T FarFault) → Outcome (Reports P) Never Remains result old new → new ≡ old
 unchanged T P old new (Ok t) h = h.1
 unchanged T P old new (Err faults.Stopped) (inl q) = q
 unchanged T P old new (Err faults.Stopped) (inr e) = e
@@ -240,9 +240,9 @@ unchanged T P old new (Err faults.NoMemory) (inr e) = e
 module _ (n : ℕ) (old : Server) (m : FarMailbox) (is : selected old ≡ Some m) (set : List SetItem) (what : FetchItems) where
   pub fetch_unchanged : (T : List Reply → Type 0) (result : Result (Unit {0}) FarFault) (read : List ℕ) (new : Server) → Exchanged (command_at n (requests.Fetch set what)) T result read old new → new ≡ old
   fetch_unchanged T result read new h =
-      unchanged (Unit {0}) (λ _. Unit {0}) old new result (tells_by n old m is set what T (Unit {0}) read new result (λ _. tt) (heard_by n old m is set what T result read new h))
+      unchanged (Unit {0}) (λ _. Unit {0}) old new result (reports_by n old m is set what T (Unit {0}) read new result (λ _. tt) (heard_by n old m is set what T result read new h))
 
 -- where whole messages are asked for, all replies were read
-pub bodies_read : (n : ℕ) (keywords : List Keyword) (m : FarMailbox) (set : List SetItem) (T : List Reply → Type 0) (read : List ℕ) → FetchTells n keywords m set wanted.Body T read
+pub bodies_read : (n : ℕ) (keywords : List Keyword) (m : FarMailbox) (set : List SetItem) (T : List Reply → Type 0) (read : List ℕ) → FetchReports n keywords m set wanted.Body T read
     → AreReplies (replies_for keywords m set wanted.Body (tag_text n)) read
 bodies_read n keywords m set T read h = subst (λ (rs : List Reply). AreReplies rs read) (all_read keywords (named_in m.store set) wanted.Body 1 m.store.messages (tag_text n)) h.1

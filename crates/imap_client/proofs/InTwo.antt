@@ -5,7 +5,7 @@ use Rattle.std.specs.List.{list_all}
 use Rattle.std.proofs.lemmas.Bool.{and_from, and_parts, cases_Bool, eqb-true}
 use Rattle.std.proofs.lemmas.List.{append_cancel_right}
 use Rattle.std.proofs.lemmas.List.Folds.{list_all-append}
-use Rattle.wire_reader.specs.declared.side.Side.TheVariants.{Commands}
+use Rattle.wire_reader.specs.declared.side.Speaker.TheVariants.{Commands}
 use Rattle.wire_reader.specs.declared.lexical.Phase.{Phase}
 use Rattle.wire_reader.specs.declared.lexical.Phase.TheVariants as phases
 use Rattle.wire_reader.specs.Lexical.{next, restart, phase, asked, asks, asks_from}

@@ -23,7 +23,7 @@ pub mod Numbered
 pub mod Rows
 pub mod Marks
 pub mod ShownAll
-pub mod BodyTold
+pub mod BodyReported
 pub mod Staying
 pub mod Passing
 pub mod Removing

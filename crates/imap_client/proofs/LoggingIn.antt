@@ -27,7 +27,7 @@ use Rattle.imap_replies.specs.declared.word.Status.TheVariants as statuses
 use Rattle.imap_client.specs.Exchanged.{command_at, AnsweredSo, Exchanged}
 use Rattle.imap_client.specs.Saying.{HeardOf}
 use Rattle.imap_client.specs.States.{State, StopCause, Failed, Broken, Bye, UsedUp, Goes, EndsSo, AskedSo}
-use Rattle.imap_client.specs.Logins.{tells_rev2, is_known, Authenticates, Rejects, Remains}
+use Rattle.imap_client.specs.Logins.{reports_rev2, is_known, Authenticates, Rejects, Remains}
 use Rattle.imap_client.proofs.Answered.{Sure, status_so, after_so, heard_so, answered, refused}
 
 -- ---- CAPABILITY
@@ -57,47 +57,47 @@ module _ (n : ℕ) (old : Server) where
       ability_by heard new result (answered any_replies (command_at n requests.Capability) old abilities (done (tag_text n)) old ability_sure refl result heard new h)
 
 module _ (keywords : List Keyword) where
-  same_tells : (h s : Reply) → IsHeardAs keywords h s → tells_rev2 h ≡ tells_rev2 s
-  same_tells = reads_same keywords tells_rev2 (record {
+  same_reports : (h s : Reply) → IsHeardAs keywords h s → reports_rev2 h ≡ reports_rev2 s
+  same_reports = reads_same keywords reports_rev2 (record {
     without_uid = λ tag text validity uid. refl;
     flags = λ heard said same. refl;
     permanent = λ kind text heard said same star. refl;
     message = λ place heard said same. refl;
   })
 
-  heard_tells : (hs ss : List Reply) → AreHeardAs keywords hs ss → list_any tells_rev2 hs ≡ list_any tells_rev2 ss
-  heard_tells [] [] l = refl
-  heard_tells [] (s ∷ ss) l = absurd l
-  heard_tells (h ∷ hs) [] l = absurd l
-  heard_tells (h ∷ hs) (s ∷ ss) l = ap (λ (b : Bool). b || list_any tells_rev2 hs) (same_tells h s l.0) ∙ ap (λ (b : Bool). tells_rev2 s || b) (heard_tells hs ss l.1)
+  heard_reports : (hs ss : List Reply) → AreHeardAs keywords hs ss → list_any reports_rev2 hs ≡ list_any reports_rev2 ss
+  heard_reports [] [] l = refl
+  heard_reports [] (s ∷ ss) l = absurd l
+  heard_reports (h ∷ hs) [] l = absurd l
+  heard_reports (h ∷ hs) (s ∷ ss) l = ap (λ (b : Bool). b || list_any reports_rev2 hs) (same_reports h s l.0) ∙ ap (λ (b : Bool). reports_rev2 s || b) (heard_reports hs ss l.1)
 
 -- what is not read names nothing
-tells_none : (r : Reply) → is_used abilities_read r ≡ false → tells_rev2 r ≡ false
-tells_none (Capability names) e = cc
-tells_none (Continue text) e = refl
-tells_none (Tagged tag status text) e = refl
-tells_none (Notice kind text) e = refl
-tells_none (Enabled names) e = refl
-tells_none (Listed attributes delimiter name) e = refl
-tells_none (Flags flags) e = refl
-tells_none (Exists n) e = refl
-tells_none (Expunge n) e = refl
-tells_none (Fetch n items) e = refl
-tells_none (Other word text) e = refl
-tells_none (OtherNumbered n event text) e = refl
+reports_none : (r : Reply) → is_used abilities_read r ≡ false → reports_rev2 r ≡ false
+reports_none (Capability names) e = cc
+reports_none (Continue text) e = refl
+reports_none (Tagged tag status text) e = refl
+reports_none (Notice kind text) e = refl
+reports_none (Enabled names) e = refl
+reports_none (Listed attributes delimiter name) e = refl
+reports_none (Flags flags) e = refl
+reports_none (Exists n) e = refl
+reports_none (Expunge n) e = refl
+reports_none (Fetch n items) e = refl
+reports_none (Other word text) e = refl
+reports_none (OtherNumbered n event text) e = refl
 
-tells_by : (b : Bool) (r : Reply) (rs : List Reply) → is_used abilities_read r ≡ b → list_any tells_rev2 (filter (is_used abilities_read) rs) ≡ list_any tells_rev2 rs
-    → list_any tells_rev2 (if b then r ∷ filter (is_used abilities_read) rs else filter (is_used abilities_read) rs) ≡ list_any tells_rev2 (r ∷ rs)
-tells_by true r rs e h = ap (λ (t : Bool). tells_rev2 r || t) h
-tells_by false r rs e h = h ∙ sym (ap (λ (t : Bool). t || list_any tells_rev2 rs) (tells_none r e))
+reports_by : (b : Bool) (r : Reply) (rs : List Reply) → is_used abilities_read r ≡ b → list_any reports_rev2 (filter (is_used abilities_read) rs) ≡ list_any reports_rev2 rs
+    → list_any reports_rev2 (if b then r ∷ filter (is_used abilities_read) rs else filter (is_used abilities_read) rs) ≡ list_any reports_rev2 (r ∷ rs)
+reports_by true r rs e h = ap (λ (t : Bool). reports_rev2 r || t) h
+reports_by false r rs e h = h ∙ sym (ap (λ (t : Bool). t || list_any reports_rev2 rs) (reports_none r e))
 
-tells_read : (rs : List Reply) → list_any tells_rev2 (filter (is_used abilities_read) rs) ≡ list_any tells_rev2 rs
-tells_read [] = refl
-tells_read (r ∷ rs) = tells_by (is_used abilities_read r) r rs refl (tells_read rs)
+reports_read : (rs : List Reply) → list_any reports_rev2 (filter (is_used abilities_read) rs) ≡ list_any reports_rev2 rs
+reports_read [] = refl
+reports_read (r ∷ rs) = reports_by (is_used abilities_read r) r rs refl (reports_read rs)
 
 -- an honest server names the revision
-pub named_so : (keywords : List Keyword) (tag bytes : List ℕ) (told : Bool) → HeardOf keywords abilities_read any_replies (abilities ++ done tag ∷ []) bytes → ((rs : List Reply) → AreReplies rs bytes → told ≡ list_any tells_rev2 rs) → told ≡ true
-named_so keywords tag bytes told h t = t (filter (is_used abilities_read) h.replies) h.spelled ∙ tells_read h.replies ∙ heard_tells keywords h.replies (abilities ++ done tag ∷ []) h.heard_as
+pub named_so : (keywords : List Keyword) (tag bytes : List ℕ) (reported : Bool) → HeardOf keywords abilities_read any_replies (abilities ++ done tag ∷ []) bytes → ((rs : List Reply) → AreReplies rs bytes → reported ≡ list_any reports_rev2 rs) → reported ≡ true
+named_so keywords tag bytes reported h t = t (filter (is_used abilities_read) h.replies) h.spelled ∙ reports_read h.replies ∙ heard_reports keywords h.replies (abilities ++ done tag ∷ []) h.heard_as
 
 -- ---- LOGIN
 

@@ -39,8 +39,8 @@ pub mark_of_head : (bytes : List ℕ) → mark_of (take 22 bytes) ≡ mark_of by
 unfolding mark_of
 mark_of_head bytes =
     let front : take 8 (take 22 bytes) ≡ take 8 bytes = take-take 8 22 bytes (omega arith) in
-    let behind : drop 8 (take 22 bytes) ≡ take 14 (drop 8 bytes) = drop-take 8 14 bytes in
-    let text : take 12 (drop 8 (take 22 bytes)) ≡ take 12 (drop 8 bytes) = ap (take 12) behind ∙ take-take 12 14 (drop 8 bytes) (omega arith) in
+    let following : drop 8 (take 22 bytes) ≡ take 14 (drop 8 bytes) = drop-take 8 14 bytes in
+    let text : take 12 (drop 8 (take 22 bytes)) ≡ take 12 (drop 8 bytes) = ap (take 12) following ∙ take-take 12 14 (drop 8 bytes) (omega arith) in
     let tail : drop 20 (take 22 bytes) ≡ take 2 (drop 20 bytes) = drop-take 20 2 bytes in
     let one : take 1 (drop 20 (take 22 bytes)) ≡ take 1 (drop 20 bytes) = ap (take 1) tail ∙ take-take 1 2 (drop 20 bytes) (omega arith) in
     let two : take 2 (drop 20 (take 22 bytes)) ≡ take 2 (drop 20 bytes) = ap (take 2) tail ∙ take-take 2 2 (drop 20 bytes) (omega arith) in

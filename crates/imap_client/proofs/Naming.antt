@@ -25,7 +25,7 @@ use Rattle.imap_client.specs.Exchanged.{command_at, Exchanged}
 use Rattle.imap_client.specs.Saying.{HeardOf}
 use Rattle.imap_client.specs.Logins.{Remains}
 use Rattle.imap_client.specs.States.{State, Asked, EndsSo}
-use Rattle.imap_answers.specs.MailboxNames.{with_name, names_more, names_in, names_of, TellsNames}
+use Rattle.imap_answers.specs.MailboxNames.{with_name, names_more, names_in, names_of, ReportsNames}
 use Rattle.imap_answers.proofs.HeardSame.{names_same}
 use Rattle.imap_answers.proofs.Unread.{names_in_read}
 use Rattle.imap_client.proofs.Answered.{Sure, answered}
@@ -33,18 +33,18 @@ use Rattle.imap_client.proofs.Answered.{Sure, answered}
 -- ---- what was said
 
 -- all but the tagged reply
-abbrev pub told_first : Server → List Reply
-told_first s = map listed (names_matched (42 ∷ []) s.mailboxes)
+abbrev pub reported_first : Server → List Reply
+reported_first s = map listed (names_matched (42 ∷ []) s.mailboxes)
 
 module _ (n : ℕ) (old : Server) (logged : is_logged_in old.condition ≡ true) where
-  names_sure : Sure (command_at n (requests.List (42 ∷ []))) old (told_first old) (done (tag_text n)) old
+  names_sure : Sure (command_at n (requests.List (42 ∷ []))) old (reported_first old) (done (tag_text n)) old
   names_sure = record {
-    each = λ said new step. subst (λ (b : Bool). Gives (if b then record { replies = told_first old ++ done (tag_text n) ∷ []; after = old } else out_of_place old (tag_text n)) said new) logged step;
+    each = λ said new step. subst (λ (b : Bool). Gives (if b then record { replies = reported_first old ++ done (tag_text n) ∷ []; after = old } else out_of_place old (tag_text n)) said new) logged step;
   }
 
   pub names_exchanged : (result : Result (Unit {0}) FarFault) (heard : List ℕ) (new : Server) → Exchanged (command_at n (requests.List (42 ∷ []))) any_replies result heard old new
-      → Outcome {T = Unit {0}} (λ _ s t. HeardOf old.keywords names_read any_replies (told_first old ++ done (tag_text n) ∷ []) heard × (t ≡ old)) Never (λ s t. t ≡ old) result old new
-  names_exchanged result heard new h = answered any_replies (command_at n (requests.List (42 ∷ []))) old (told_first old) (done (tag_text n)) old names_sure refl result heard new h
+      → Outcome {T = Unit {0}} (λ _ s t. HeardOf old.keywords names_read any_replies (reported_first old ++ done (tag_text n) ∷ []) heard × (t ≡ old)) Never (λ s t. t ≡ old) result old new
+  names_exchanged result heard new h = answered any_replies (command_at n (requests.List (42 ∷ []))) old (reported_first old) (done (tag_text n)) old names_sure refl result heard new h
 
 -- ---- what it returns
 
@@ -58,9 +58,9 @@ listed_names tag names (n ∷ ns) =
     let x = unescaped n in
     listed_names tag (with_name names (within_limits x)) ns ∙ by_limits (is_mailbox_name x) names (filter is_mailbox_name (map unescaped ns)) x
 
-pub names_told : (tag bytes : List ℕ) (old : Server) (names : List (List ℕ)) → HeardOf old.keywords names_read any_replies (told_first old ++ done tag ∷ []) bytes → ((rs : List Reply) → AreReplies rs bytes → names ≡ names_in rs) → names ≡ names_of old
-names_told tag bytes old names h told =
-    told (filter (is_used names_read) h.replies) h.spelled ∙ names_in_read h.replies ∙ gathers_same old.keywords names_more (names_same old.keywords) [] h.replies (told_first old ++ done tag ∷ []) h.heard_as ∙ listed_names tag [] (names_matched (42 ∷ []) old.mailboxes)
+pub names_reported : (tag bytes : List ℕ) (old : Server) (names : List (List ℕ)) → HeardOf old.keywords names_read any_replies (reported_first old ++ done tag ∷ []) bytes → ((rs : List Reply) → AreReplies rs bytes → names ≡ names_in rs) → names ≡ names_of old
+names_reported tag bytes old names h reported =
+    reported (filter (is_used names_read) h.replies) h.spelled ∙ names_in_read h.replies ∙ gathers_same old.keywords names_more (names_same old.keywords) [] h.replies (reported_first old ++ done tag ∷ []) h.heard_as ∙ listed_names tag [] (names_matched (42 ∷ []) old.mailboxes)
 
 -- ---- the limits
 
@@ -93,7 +93,7 @@ names_within names rs e = ap (list_all is_mailbox_name) e ∙ within_from [] rs 
 
 module _ (T : Type 0) (r : Result T FarFault) (items : T → List (List ℕ)) (old new : Server) where
   by_fault : (f : FarFault) (said : List Reply) (heard : List ℕ) → Outcome {T = Unit {0}} (λ _ s t. HeardOf old.keywords names_read any_replies said heard × (t ≡ old)) Never (λ s t. t ≡ old) (Err f) old new
-      → Outcome {T = T} (λ x. TellsNames (items x)) Never Remains (Err f) old new
+      → Outcome {T = T} (λ x. ReportsNames (items x)) Never Remains (Err f) old new
   by_fault faults.Stopped said heard h = h
   by_fault faults.Refused said heard h = h
   by_fault faults.Protocol said heard h = h
@@ -103,11 +103,11 @@ module _ (T : Type 0) (r : Result T FarFault) (items : T → List (List ℕ)) (o
   by_fault faults.NoMemory said heard h = h
 
   pub not_answered : (f : FarFault) (said : List Reply) (heard : List ℕ) → r ≡ Err f → Outcome {T = Unit {0}} (λ _ s t. HeardOf old.keywords names_read any_replies said heard × (t ≡ old)) Never (λ s t. t ≡ old) (Err f) old new
-      → Outcome {T = T} (λ x. TellsNames (items x)) Never Remains r old new
-  not_answered f said heard e h = subst (λ (q : Result T FarFault). Outcome {T = T} (λ x. TellsNames (items x)) Never Remains q old new) (sym e) (by_fault f said heard h)
+      → Outcome {T = T} (λ x. ReportsNames (items x)) Never Remains r old new
+  not_answered f said heard e h = subst (λ (q : Result T FarFault). Outcome {T = T} (λ x. ReportsNames (items x)) Never Remains q old new) (sym e) (by_fault f said heard h)
 
-  pub not_read : r ≡ Err faults.NoMemory → new ≡ old → Outcome {T = T} (λ x. TellsNames (items x)) Never Remains r old new
-  not_read e same = subst (λ (q : Result T FarFault). Outcome {T = T} (λ x. TellsNames (items x)) Never Remains q old new) (sym e) (inr same)
+  pub not_read : r ≡ Err faults.NoMemory → new ≡ old → Outcome {T = T} (λ x. ReportsNames (items x)) Never Remains r old new
+  not_read e same = subst (λ (q : Result T FarFault). Outcome {T = T} (λ x. ReportsNames (items x)) Never Remains q old new) (sym e) (inr same)
 
 pub not_read_ends : (T : Type 0) (r : Result T FarFault) (old new : State) → r ≡ Err faults.NoMemory → Asked old new → EndsSo 1 old new r
 not_read_ends T r old new e a = subst (λ (q : Result T FarFault). EndsSo 1 old new q) (sym e) (record { was_ready = a.was_ready; is_ready = a.begun })

@@ -6,8 +6,8 @@ use Rattle.imap_session.specs.Lines.{Line}
 use Rattle.imap_session.specs.Ends.{ends_of}
 use Rattle.imap_link.specs.declared.fault.FarFault.{FarFault}
 use Rattle.imap_link.specs.declared.fault.FarFault.TheVariants as faults
-use Rattle.imap_link.specs.declared.wire.Told.{Told}
-use Rattle.imap_link.specs.declared.wire.Told.TheVariants as tells
+use Rattle.imap_link.specs.declared.wire.LastReply.{LastReply}
+use Rattle.imap_link.specs.declared.wire.LastReply.TheVariants as states
 use Rattle.imap_link.specs.declared.uses.Uses.{Uses}
 use Rattle.imap_link.specs.UsedReplies.{answer_alone}
 use Rattle.imap_link.specs.Exchanges.{Completes, Waits, AsksOr, AsksFor}
@@ -16,7 +16,7 @@ use Rattle.imap_client.specs.Stillness.{IsStill}
 use Rattle.imap_client.proofs.Still.{idle_of}
 
 module _ (c : Command) (tag front rest : List ℕ) (is : InTwo tag front rest c) where
-  pub asks_so : (result : Result Told FarFault) (old : Line) (heard : List ℕ) (new : Line) (now : List ℕ) → IsStill (ends_of old heard) → AsksFor front result old heard new now → AsksOr c front result old new now
+  pub asks_so : (result : Result LastReply FarFault) (old : Line) (heard : List ℕ) (new : Line) (now : List ℕ) → IsStill (ends_of old heard) → AsksFor front result old heard new now → AsksOr c front result old new now
   asks_so result old heard new now still h = h c rest is.count is.text is.some is.asks (idle_of (ends_of old heard) still)
 
   pub completes : (uses : Uses) → uses ≡ answer_alone → Completes c uses tag front rest
@@ -32,8 +32,8 @@ module _ (c : Command) (front : List ℕ) (old new : Line) (heard : List ℕ) wh
   waits_err T faults.ReadOnly h = h
   waits_err T faults.NoMemory h = h
 
-  pub go_waits : (told : Told) → told ≡ tells.Go → AsksOr c front (Ok told) old new heard → Waits front old new heard
-  go_waits told e h = subst (λ (t : Told). AsksOr c front (Ok t) old new heard) e h
+  pub go_waits : (reported : LastReply) → reported ≡ states.Go → AsksOr c front (Ok reported) old new heard → Waits front old new heard
+  go_waits reported e h = subst (λ (t : LastReply). AsksOr c front (Ok t) old new heard) e h
 
-  pub no_answer : (told : Told) (status : Status) → told ≡ tells.Answer status → AsksOr c front (Ok told) old new heard → ⊥
-  no_answer told status e h = subst (λ (t : Told). AsksOr c front (Ok t) old new heard) e h
+  pub no_answer : (reported : LastReply) (status : Status) → reported ≡ states.Answer status → AsksOr c front (Ok reported) old new heard → ⊥
+  no_answer reported status e h = subst (λ (t : LastReply). AsksOr c front (Ok t) old new heard) e h

@@ -22,7 +22,7 @@ use Rattle.imap_session.specs.Visits.{Visits}
 use Rattle.imap_link.specs.declared.fault.FarFault.{FarFault}
 use Rattle.imap_link.specs.declared.fault.FarFault.TheVariants as faults
 use Rattle.imap_link.specs.Outcomes.{Outcome, Never}
-use Rattle.imap_answers.specs.Readings.{Tells}
+use Rattle.imap_answers.specs.Readings.{Reports}
 use Rattle.imap_client.specs.Appending.{Adds, AddsUnder}
 use Rattle.imap_client.specs.Boxes.{IsSelected, Passes, selected_name}
 use Rattle.imap_client.specs.Logins.{Remains}
@@ -96,9 +96,9 @@ module _ (p : PassedMarks) where
       let least = may.at_least in
       passed_added uid flags message n.store p (omega (arith, same, least)) known) is name named)
 
-  pub adds_passes : (name : List ℕ) (validity next flags : ℕ) (message : List ℕ) (told : Option ℕ) (was now : State) (old new : Server) → EndsSo 1 was now (Ok told) → (was.is_ready ≡ true → IsSelected name validity next old)
-      → (was.is_ready ≡ true → Passes p old) → (IsSelected name validity next old → (m : FarMailbox) → selected old ≡ Some m → Adds m flags message told old new) → Passes p new
-  adds_passes name validity next flags message told was now old new e sel is out =
+  pub adds_passes : (name : List ℕ) (validity next flags : ℕ) (message : List ℕ) (reported : Option ℕ) (was now : State) (old new : Server) → EndsSo 1 was now (Ok reported) → (was.is_ready ≡ true → IsSelected name validity next old)
+      → (was.is_ready ≡ true → Passes p old) → (IsSelected name validity next old → (m : FarMailbox) → selected old ≡ Some m → Adds m flags message reported old new) → Passes p new
+  adds_passes name validity next flags message reported was now old new e sel is out =
       let known = sel e.was_ready in
       let there = there_of name validity next old known in
       let a = out known there.mailbox there.is in
@@ -125,7 +125,7 @@ pub search_passes : (begun after : PassedMarks) (name : List ℕ) (validity next
     → ((m : FarMailbox) → selected s ≡ Some m → next ≤ m.store.next → ArePassed m.store.next m.store.messages begun → ArePassed m.store.next m.store.messages after) → Passes after s
 search_passes begun after name validity next s is passes out m at = out m at (next_at_most m (selected s) next at is.2) (passes m at)
 
-module _ (mark : List ℕ) (from below : ℕ) (behind : max from 1 ≤ below) where
+module _ (mark : List ℕ) (from below : ℕ) (following : max from 1 ≤ below) where
   abbrev seeks : ℕ → Message → Bool
   seeks low m = nat_le low m.uid && is_mark (mark_of m.bytes) mark
 
@@ -135,7 +135,7 @@ module _ (mark : List ℕ) (from below : ℕ) (behind : max from 1 ≤ below) wh
       | inl low ↦ ap (λ (b : Bool). b && is_mark (mark_of m.bytes) mark) (lt-leb below m.uid less ∙ sym (lt-leb from m.uid (omega (arith, low, some))))
       | inr high ↦ ap (λ (b : Bool). b && is_mark (mark_of m.bytes) mark) (lt-leb below m.uid less) ∙ sym (and_false (nat_le from m.uid) (other high less))
     ]
-    | inr least ↦ ap (λ (b : Bool). b && is_mark (mark_of m.bytes) mark) (le-leb below m.uid least ∙ sym (le-leb from m.uid (omega (arith, least, behind))))
+    | inr least ↦ ap (λ (b : Bool). b && is_mark (mark_of m.bytes) mark) (le-leb below m.uid least ∙ sym (le-leb from m.uid (omega (arith, least, following))))
   ]
     where
       and_false : (b : Bool) → is_mark (mark_of m.bytes) mark ≡ false → (b && is_mark (mark_of m.bytes) mark) ≡ false
@@ -143,13 +143,13 @@ module _ (mark : List ℕ) (from below : ℕ) (behind : max from 1 ≤ below) wh
       and_false false e = refl
 
   -- the mark is found where it is found after the messages that were passed
-  pub marked_behind : (ms : List Message) → All (λ m. 0 < m.uid) ms → All (λ m. max from 1 ≤ m.uid → m.uid < below → is_mark (mark_of m.bytes) mark ≡ false) ms
+  pub marked_after : (ms : List Message) → All (λ m. 0 < m.uid) ms → All (λ m. max from 1 ≤ m.uid → m.uid < below → is_mark (mark_of m.bytes) mark ≡ false) ms
       → marked_among mark below ms ≡ marked_among mark from ms
-  marked_behind [] some other = refl
-  marked_behind (m ∷ ms) some other =
+  marked_after [] some other = refl
+  marked_after (m ∷ ms) some other =
       let at : seeks below m ≡ seeks from m = same_test m (All-head (λ x. 0 < x.uid) m ms some) (All-head (λ x. max from 1 ≤ x.uid → x.uid < below → is_mark (mark_of x.bytes) mark ≡ false) m ms other) in
       let rest : marked_among mark below ms ≡ marked_among mark from ms =
-      marked_behind ms (All-tail (λ x. 0 < x.uid) m ms some) (All-tail (λ x. max from 1 ≤ x.uid → x.uid < below → is_mark (mark_of x.bytes) mark ≡ false) m ms other) in
+      marked_after ms (All-tail (λ x. 0 < x.uid) m ms some) (All-tail (λ x. max from 1 ≤ x.uid → x.uid < below → is_mark (mark_of x.bytes) mark ≡ false) m ms other) in
       ap (λ (b : Bool). option_map (λ (x : Message). x.uid) (if b then Some m else find (seeks below) ms)) at ∙ by_test (seeks from m) rest
     where
       by_test : (b : Bool) → marked_among mark below ms ≡ marked_among mark from ms
@@ -159,7 +159,7 @@ module _ (mark : List ℕ) (from below : ℕ) (behind : max from 1 ≤ below) wh
 
 -- so it does not matter from where the mark was sought
 module _ (was now : State) (s t : Server) (a b : Option ℕ) (same : was.is_ready ≡ true → a ≡ b) where
-  pub found_from : (result : Result (Option ℕ) FarFault) → EndsSo 1 was now result → Outcome (Tells (λ found. found ≡ a)) Never Remains result s t → Outcome (Tells (λ found. found ≡ b)) Never Remains result s t
+  pub found_from : (result : Result (Option ℕ) FarFault) → EndsSo 1 was now result → Outcome (Reports (λ found. found ≡ a)) Never Remains result s t → Outcome (Reports (λ found. found ≡ b)) Never Remains result s t
   found_from (Ok found) e h = (h.0 ∙ same e.was_ready, h.1)
   found_from (Err faults.Stopped) e h = h
   found_from (Err faults.Refused) e h = h

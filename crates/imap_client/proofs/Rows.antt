@@ -25,10 +25,10 @@ use Rattle.imap_session.specs.Answering.{done}
 use Rattle.imap_session.specs.MessageCommands.{shown, fetched}
 use Rattle.imap_session.specs.Heard.{AreHeardAs}
 use Rattle.law_session.proofs.HeardAs.{gathers_same}
-use Rattle.imap_answers.specs.declared.told.Row.{Row}
+use Rattle.imap_answers.specs.declared.reported.Row.{Row}
 use Rattle.imap_client.specs.Calls.{from_on}
 use Rattle.imap_answers.specs.Fetching.{MappedRows, TookRows, no_rows, rows_more, rows_of}
-use Rattle.imap_answers.specs.Listings.{is_uid, joined, items_told}
+use Rattle.imap_answers.specs.Listings.{is_uid, joined, items_reported}
 use Rattle.imap_answers.proofs.HeardSame.{rows_same}
 use Rattle.imap_client.specs.Seen.{seen_message, seen_through}
 use Rattle.imap_client.proofs.Fetched.{replies_for}
@@ -71,16 +71,16 @@ module _ (keywords : List Keyword) where
     row_is : (m : Message) → row_said m ≡ (row_of m).1
     row_is m = ap (λ (flags : ℕ). (let r : Row = record { flags = Some flags; fit = Some (nat_le (length m.bytes) size_limit) } in r)) (read_kept keywords m.flags map_is)
 
-    rows_told : (named : ℕ → Bool) (tag : List ℕ) (place low : ℕ) (ms : List Message) (es : List (ℕ × Row)) → Rise low ms → Names named 0 ms → Under low es
+    rows_reported : (named : ℕ → Bool) (tag : List ℕ) (place low : ℕ) (ms : List Message) (es : List (ℕ × Row)) → Rise low ms → Names named 0 ms → Under low es
         → fold (rows_more keywords) es (fetched keywords named wanted.Listing place ms ++ done tag ∷ []) ≡ es ++ map row_of ms
-    rows_told named tag place low [] es r n u = sym (append-nil es)
-    rows_told named tag place low (m ∷ ms) es r n u =
+    rows_reported named tag place low [] es r n u = sym (append-nil es)
+    rows_reported named tag place low (m ∷ ms) es r n u =
         ap
         (λ (b : Bool). fold (rows_more keywords) es ((if b then Fetch place (shown keywords wanted.Listing m) ∷ fetched keywords named wanted.Listing (place + 1) ms else fetched keywords named wanted.Listing (place + 1) ms) ++ done tag ∷ []))
         (n.0 (le-leb 0 m.uid (omega arith)))
         ∙ ap (λ (l : List (ℕ × Row)). fold (rows_more keywords) l (fetched keywords named wanted.Listing (place + 1) ms ++ done tag ∷ []))
         (insert_last es m.uid (row_said m) (under_more low m.uid es r.0 u) ∙ ap (λ (t : Row). es ++ (m.uid, t) ∷ []) (row_is m))
-        ∙ rows_told named tag (place + 1) (m.uid + 1) ms (es ++ row_of m ∷ []) r.2 n.1
+        ∙ rows_reported named tag (place + 1) (m.uid + 1) ms (es ++ row_of m ∷ []) r.2 n.1
         (under_push (m.uid + 1) m.uid (row_of m).1 es (omega arith) (under_more low (m.uid + 1) es (let low_is = r.0 in omega arith) u))
         ∙ append_assoc es (row_of m ∷ []) (map row_of ms)
 
@@ -88,10 +88,10 @@ pub uid_is : (low : ℕ) (m : Message) (ms : List Message) → 1 ≤ low → Ris
 uid_is low m ms some r = let low_is = r.0 in let high = r.1 in and_from _ _ (lt-ltb 0 m.uid (omega arith)) (lt-ltb m.uid 4294967295 (omega arith))
 
 module _ (keywords : List Keyword) where
-  items_all : (low : ℕ) (ms : List Message) → 1 ≤ low → Rise low ms → items_told (map (row_of keywords) ms) ≡ Some (map (item_of Far) (map (seen_message keywords) ms))
+  items_all : (low : ℕ) (ms : List Message) → 1 ≤ low → Rise low ms → items_reported (map (row_of keywords) ms) ≡ Some (map (item_of Far) (map (seen_message keywords) ms))
   items_all low [] some r = refl
   items_all low (m ∷ ms) some r =
-      ap (λ (b : Bool). joined (if b then Some (record { uid = m.uid; flags = kept keywords m.flags; fit = nat_le (length m.bytes) size_limit }) else None) (items_told (map (row_of keywords) ms))) (uid_is low m ms some r)
+      ap (λ (b : Bool). joined (if b then Some (record { uid = m.uid; flags = kept keywords m.flags; fit = nat_le (length m.bytes) size_limit }) else None) (items_reported (map (row_of keywords) ms))) (uid_is low m ms some r)
       ∙ ap (joined (Some (item_of Far (seen_message keywords m)))) (items_all (m.uid + 1) ms (omega arith) r.2)
 
 all_named : (named : ℕ → Bool) (low : ℕ) (ms : List Message) → 1 ≤ low → Rise low ms → Names named 1 ms → Names named 0 ms
@@ -99,16 +99,16 @@ all_named named low [] some r n = tt
 all_named named low (m ∷ ms) some r n = (λ h. n.0 (le-leb 1 m.uid (let low_is = r.0 in omega arith)), all_named named (m.uid + 1) ms (omega arith) r.2 n.1)
 
 module _ (keywords : List Keyword) (map_is : IsMap keywords) (m : FarMailbox) (tag : List ℕ) (is : IsStore m.store) (range : AreInRange m.store.messages) where
-  lists_all : items_told (rows_of keywords (replies_for keywords m (from_on 1) wanted.Listing tag)) ≡ Some (map (item_of Far) (seen_through keywords m.store).messages)
+  lists_all : items_reported (rows_of keywords (replies_for keywords m (from_on 1) wanted.Listing tag)) ≡ Some (map (item_of Far) (seen_through keywords m.store).messages)
   lists_all =
       let rises = store_rises m.store is range in
-      ap items_told
-      (rows_told keywords map_is (named_in m.store (from_on 1)) tag 1 1 m.store.messages [] rises (all_named (named_in m.store (from_on 1)) 1 m.store.messages (omega arith) rises (names_from m.store 1 rises)) tt)
+      ap items_reported
+      (rows_reported keywords map_is (named_in m.store (from_on 1)) tag 1 1 m.store.messages [] rises (all_named (named_in m.store (from_on 1)) 1 m.store.messages (omega arith) rises (names_from m.store 1 rises)) tt)
       ∙ items_all keywords 1 m.store.messages (omega arith) rises
 
   -- as they were taken from the replies that were heard
-  pub lists_told : (first rows : MappedRows) (heard : List Reply) → first ≡ no_rows keywords → TookRows first heard rows → AreHeardAs keywords heard (replies_for keywords m (from_on 1) wanted.Listing tag)
-      → items_told rows.rows ≡ Some (map (item_of Far) (seen_through keywords m.store).messages)
-  lists_told first rows heard none took same =
-      ap (λ (r : MappedRows). items_told r.rows) (took ∙ ap (λ (f : MappedRows). (let r : MappedRows = record f { rows = fold (rows_more f.keywords) f.rows heard } in r)) none)
-      ∙ ap items_told (gathers_same keywords (rows_more keywords) (rows_same keywords) [] heard (replies_for keywords m (from_on 1) wanted.Listing tag) same) ∙ lists_all
+  pub lists_reported : (first rows : MappedRows) (heard : List Reply) → first ≡ no_rows keywords → TookRows first heard rows → AreHeardAs keywords heard (replies_for keywords m (from_on 1) wanted.Listing tag)
+      → items_reported rows.rows ≡ Some (map (item_of Far) (seen_through keywords m.store).messages)
+  lists_reported first rows heard none took same =
+      ap (λ (r : MappedRows). items_reported r.rows) (took ∙ ap (λ (f : MappedRows). (let r : MappedRows = record f { rows = fold (rows_more f.keywords) f.rows heard } in r)) none)
+      ∙ ap items_reported (gathers_same keywords (rows_more keywords) (rows_same keywords) [] heard (replies_for keywords m (from_on 1) wanted.Listing tag) same) ∙ lists_all

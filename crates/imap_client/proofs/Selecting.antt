@@ -25,7 +25,7 @@ use Rattle.imap_answers.specs.declared.opening.Opening.{Opening}
 use Rattle.imap_client.specs.Tags.{tag_text}
 use Rattle.imap_client.specs.Exchanged.{command_at, Exchanged}
 use Rattle.imap_client.specs.Saying.{HeardOf}
-use Rattle.imap_answers.specs.Openings.{nothing_told, opening_more, opening_of, permits_all}
+use Rattle.imap_answers.specs.Openings.{nothing_reported, opening_more, opening_of, permits_all}
 use Rattle.imap_client.specs.Boxes.{selected_name, is_next, IsSelected, Selects, NoMailbox, Chooses}
 use Rattle.imap_answers.specs.Spoken.{Speaks}
 use Rattle.imap_link.specs.Buffers.{IsAnswerText}
@@ -134,46 +134,46 @@ module _ (n : ℕ) (name : List ℕ) (old : Server) where
 
 -- ---- what is reported
 
-abbrev pub told_of : FarMailbox → Opening
-told_of m = record { next = Some m.store.next; validity = Some m.store.validity; is_read_only = false }
+abbrev pub reported_of : FarMailbox → Opening
+reported_of m = record { next = Some m.store.next; validity = Some m.store.validity; is_read_only = false }
 
 -- its numbers are reported, by whichever map flags are read
 abbrev pub HasNumbers : FarMailbox → Opening → Type 0
-HasNumbers m o = AreSame o (told_of m)
+HasNumbers m o = AreSame o (reported_of m)
 
 module _ (keywords : List Keyword) (m : FarMailbox) (tag : List ℕ) where
-  abbrev told_if : Bool → Opening
-  told_if b = record { next = Some m.store.next; validity = Some m.store.validity; is_read_only = (let o : Opening = if b then nothing_told else record nothing_told { is_read_only = true } in o).is_read_only }
+  abbrev reported_if : Bool → Opening
+  reported_if b = record { next = Some m.store.next; validity = Some m.store.validity; is_read_only = (let o : Opening = if b then nothing_reported else record nothing_reported { is_read_only = true } in o).is_read_only }
 
   abbrev permits : Bool
   permits = permits_all keywords (named_set keywords (all_names keywords)) (has_name star (all_names keywords))
 
-  closes_tell : (c : Condition) → opening_of keywords ((closes c ++ front keywords m) ++ done_with tag codes_of.ReadWrite ∷ []) ≡ told_if permits
-  closes_tell NotAuthenticated = refl
-  closes_tell Authenticated = refl
-  closes_tell (Selected name) = refl
-  closes_tell LoggedOut = refl
+  closes_report : (c : Condition) → opening_of keywords ((closes c ++ front keywords m) ++ done_with tag codes_of.ReadWrite ∷ []) ≡ reported_if permits
+  closes_report NotAuthenticated = refl
+  closes_report Authenticated = refl
+  closes_report (Selected name) = refl
+  closes_report LoggedOut = refl
 
 module _ (name tag bytes : List ℕ) (old new : Server) (c : ChosenBy name tag bytes old new) (keywords : List Keyword) (o : Opening) (is : (rs : List Reply) → AreReplies rs bytes → o ≡ opening_of keywords rs) where
   read_so : o ≡ opening_of keywords c.heard.replies
   read_so = is (filter (is_used opening_read) c.heard.replies) c.heard.spelled ∙ opening_of_read keywords c.heard.replies
 
   -- as the server said it
-  said_so : opening_of old.keywords c.heard.replies ≡ told_if old.keywords c.mailbox tag (permits old.keywords c.mailbox tag)
-  said_so = gathers_same old.keywords (opening_more old.keywords) (opening_same old.keywords) nothing_told c.heard.replies _ c.heard.heard_as ∙ closes_tell old.keywords c.mailbox tag old.condition
+  said_so : opening_of old.keywords c.heard.replies ≡ reported_if old.keywords c.mailbox tag (permits old.keywords c.mailbox tag)
+  said_so = gathers_same old.keywords (opening_more old.keywords) (opening_same old.keywords) nothing_reported c.heard.replies _ c.heard.heard_as ∙ closes_report old.keywords c.mailbox tag old.condition
 
   pub numbers_so : HasNumbers c.mailbox o
   numbers_so =
-      let same = numbers_same keywords old.keywords c.heard.replies nothing_told nothing_told (refl, refl) in (
+      let same = numbers_same keywords old.keywords c.heard.replies nothing_reported nothing_reported (refl, refl) in (
         ap (λ (x : Opening). x.next) read_so ∙ same.0 ∙ ap (λ (x : Opening). x.next) said_so,
         ap (λ (x : Opening). x.validity) read_so ∙ same.1 ∙ ap (λ (x : Opening). x.validity) said_so,
       )
 
   -- where the server has this map
-  pub told_so : IsMap keywords → HasMap keywords old → o ≡ told_of c.mailbox
-  told_so map has =
+  pub reported_so : IsMap keywords → HasMap keywords old → o ≡ reported_of c.mailbox
+  reported_so map has =
       read_so ∙ ap (λ (k : List Keyword). opening_of k c.heard.replies) (sym has) ∙ said_so
-      ∙ ap (told_if old.keywords c.mailbox tag) (permits_known old.keywords (has_name star (all_names old.keywords)) (subst IsMap (sym has) map))
+      ∙ ap (reported_if old.keywords c.mailbox tag) (permits_known old.keywords (has_name star (all_names old.keywords)) (subst IsMap (sym has) map))
 
 -- ---- after it
 

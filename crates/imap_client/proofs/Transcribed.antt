@@ -14,7 +14,7 @@ use Rattle.imap_link.specs.declared.fault.FarFault.{FarFault}
 use Rattle.imap_link.specs.declared.fault.FarFault.TheVariants as faults
 use Rattle.imap_client.specs.States.{Judged}
 use Rattle.imap_client.specs.Tags.{tag_text}
-use Rattle.imap_client.specs.Transcripts.{Hears, Answers, Says, Meaning, EndsBy, of_any, of_command, of_abilities, of_login, of_enable, of_select, opened, TellsNumbers, LacksNumber, Declines, HearsTwo, Unanswered, Nothing, Named, LetIn, LoginHears, NamesRev2}
+use Rattle.imap_client.specs.Transcripts.{Hears, Answers, Says, Meaning, EndsBy, of_any, of_command, of_abilities, of_login, of_enable, of_select, opened, ReportsNumbers, LacksNumber, Declines, HearsTwo, Unanswered, Nothing, Named, LetIn, LoginHears, NamesRev2}
 
 -- where hearing failed, nothing was heard
 pub hearing_ends : (T : Type 0) (m : Meaning T) (old new : List (List ℕ)) (f : FarFault) → IsHearing f → new ≡ old → EndsBy m (Err f) old new
@@ -72,9 +72,9 @@ module _ (n : ℕ) (heard : List ℕ) (T : Type 0) (m : Meaning T) (no : (bytes 
 -- of an answer that was read: what its replies say
 module _ (n : ℕ) (heard : List ℕ) (old new : List (List ℕ)) (h : Hears (λ bytes. Answers n statuses.Ok bytes × (bytes ≡ heard)) old new) where
   pub says_so : (P : List Reply → Type 0) → ((rs : List Reply) → AreReplies rs heard → P rs) → Hears (Says n statuses.Ok P) old new
-  says_so P told = record {
+  says_so P reported = record {
     bytes = h.bytes;
-    is = record { answer = h.is.0; said = λ rs are. told rs (subst (AreReplies rs) h.is.1 are) };
+    is = record { answer = h.is.0; said = λ rs are. reported rs (subst (AreReplies rs) h.is.1 are) };
     grows = h.grows;
   }
 
@@ -168,24 +168,24 @@ opened_so o validity next read_only n v r =
     ∙ ap (λ (x : Bool). (let y : Opening = record { next = Some next; validity = Some validity; is_read_only = x } in y)) r
 
 -- what is reported about the mailbox is that of an answer that was read
-module _ (keywords : List Keyword) (T : Type 0) (told : T → Opening) (n : ℕ) (heard : List ℕ) (old new : List (List ℕ)) (h : Hears (λ bytes. Answers n statuses.Ok bytes × (bytes ≡ heard)) old new)
+module _ (keywords : List Keyword) (T : Type 0) (reported : T → Opening) (n : ℕ) (heard : List ℕ) (old new : List (List ℕ)) (h : Hears (λ bytes. Answers n statuses.Ok bytes × (bytes ≡ heard)) old new)
     (o : Opening) (is : (rs : List Reply) → AreReplies rs heard → o ≡ opening_of keywords rs) where
-  lacks : LacksNumber o → EndsBy (of_select keywords n told) (Err faults.Protocol) old new
+  lacks : LacksNumber o → EndsBy (of_select keywords n reported) (Err faults.Protocol) old new
   lacks e =
       let s = says_so n heard old new h (λ rs. LacksNumber (opening_of keywords rs)) (λ rs are. subst LacksNumber (is rs are) e) in
       inr (record { bytes = s.bytes; is = inr s.is; grows = s.grows })
 
-  pub lacks_next : ((y : ℕ) → o.next ≡ Some y → ⊥) → EndsBy (of_select keywords n told) (Err faults.Protocol) old new
+  pub lacks_next : ((y : ℕ) → o.next ≡ Some y → ⊥) → EndsBy (of_select keywords n reported) (Err faults.Protocol) old new
   lacks_next other = lacks (first_lacks o (none_of o.next other))
 
-  pub lacks_validity : ((y : ℕ) → o.validity ≡ Some y → ⊥) → EndsBy (of_select keywords n told) (Err faults.Protocol) old new
+  pub lacks_validity : ((y : ℕ) → o.validity ≡ Some y → ⊥) → EndsBy (of_select keywords n reported) (Err faults.Protocol) old new
   lacks_validity other = lacks (second_by (is_some o.next) (is_some o.validity) (none_of o.validity other))
 
   module _ (validity next : ℕ) (at_next : o.next ≡ Some next) (at_validity : o.validity ≡ Some validity) where
-    pub is_read_only : o.is_read_only ≡ true → EndsBy (of_select keywords n told) (Err faults.ReadOnly) old new
+    pub is_read_only : o.is_read_only ≡ true → EndsBy (of_select keywords n reported) (Err faults.ReadOnly) old new
     is_read_only r =
-        says_so n heard old new h (λ rs. TellsNumbers (opening_of keywords rs) × ((opening_of keywords rs).is_read_only ≡ true))
-        (λ rs are. subst (λ (x : Opening). TellsNumbers x × (x.is_read_only ≡ true)) (sym (opened_so o validity next true at_next at_validity r) ∙ is rs are) (refl, refl))
+        says_so n heard old new h (λ rs. ReportsNumbers (opening_of keywords rs) × ((opening_of keywords rs).is_read_only ≡ true))
+        (λ rs are. subst (λ (x : Opening). ReportsNumbers x × (x.is_read_only ≡ true)) (sym (opened_so o validity next true at_next at_validity r) ∙ is rs are) (refl, refl))
 
     pub is_opened : o.is_read_only ≡ false → Hears (Says n statuses.Ok (λ rs. opening_of keywords rs ≡ opened validity next)) old new
     is_opened r = says_so n heard old new h (λ rs. opening_of keywords rs ≡ opened validity next) (λ rs are. sym (is rs are) ∙ opened_so o validity next false at_next at_validity r)

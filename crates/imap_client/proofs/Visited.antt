@@ -6,15 +6,15 @@ use Rattle.std.proofs.lemmas.Bool.{le-leb, leb-true}
 use Rattle.mailcore.specs.Rise.{Rise}
 use Rattle.visitors.specs.Visitors.{Visitors}
 use Rattle.imap_session.specs.Mailboxes.{FarMailbox, same_name, mailbox_at}
-use Rattle.imap_session.specs.Servers.{Condition, NotAuthenticated, Authenticated, Selected, LoggedOut, Server, is_over, Quiet, told, selected, selected_in}
-use Rattle.imap_session.specs.Lines.{Line, told_server}
+use Rattle.imap_session.specs.Servers.{Condition, NotAuthenticated, Authenticated, Selected, LoggedOut, Server, is_over, Quiet, reported, selected, selected_in}
+use Rattle.imap_session.specs.Lines.{Line, reported_server}
 use Rattle.imap_session.specs.Visits.{Gains, AllGain, Visits, Among}
 use Rattle.law_session.proofs.Visiting.{nobody_visits, visits_follow}
 use Rattle.imap_session.specs.Ends.{ends_of}
 use Rattle.imap_link.specs.declared.fault.FarFault.{FarFault}
 use Rattle.imap_link.specs.declared.fault.FarFault.TheVariants as faults
 use Rattle.imap_link.specs.Sending.{visited}
-use Rattle.imap_link.proofs.Visited.{both_told}
+use Rattle.imap_link.proofs.Visited.{both_reported}
 use Rattle.imap_client.specs.Boxes.{selected_name, is_next, IsSelected}
 use Rattle.imap_client.specs.Stillness.{IsStill}
 
@@ -42,9 +42,9 @@ module _ (v : Visitors) where
   still_then old heard mid h is = (ap (λ (c : Condition). is_over c) h.condition ∙ is.0, is.1, is.2)
 
   -- others acted before each part of a command
-  pub two_visits : (old offered : Line) (mid late : Server) → Visits v old.end.server mid → Quiet (told mid) (told_server offered) → Visits v offered.end.server late → Visits v (told_server old) (told late)
+  pub two_visits : (old offered : Line) (mid late : Server) → Visits v old.end.server mid → Quiet (reported mid) (reported_server offered) → Visits v offered.end.server late → Visits v (reported_server old) (reported late)
   two_visits old offered mid late h q k =
-      visits_follow v (told_server old) (told mid) (told late) (both_told v old.end.server mid h) (subst (λ (s : Server). Visits v s (told late)) q (both_told v offered.end.server late k))
+      visits_follow v (reported_server old) (reported mid) (reported late) (both_reported v old.end.server mid h) (subst (λ (s : Server). Visits v s (reported late)) q (both_reported v offered.end.server late k))
 
   -- ---- the mailbox of a name
 

@@ -19,7 +19,7 @@ use Rattle.imap_session.specs.Mailboxes.{FarMailbox}
 use Rattle.imap_session.specs.AppendCommand.{MayGive}
 use Rattle.imap_session.specs.Portions.{goes_in}
 use Rattle.imap_session.specs.Servers.{Server, Quiet}
-use Rattle.imap_session.specs.Lines.{Line, told_server}
+use Rattle.imap_session.specs.Lines.{Line, reported_server}
 use Rattle.imap_session.specs.Ends.{ends_of, IsAt, IsText, AsksAtEnd, is_logout}
 use Rattle.imap_link.specs.declared.fault.FarFault.{FarFault}
 use Rattle.imap_link.specs.UsedReplies.{answer_alone, uses_of}
@@ -42,14 +42,14 @@ pub record AddsSome (m : FarMailbox) (flags : ℕ) (bytes : List ℕ) (old new :
   pub under : AddsUnder m flags bytes uid old new
 
 -- the UID that was reported, if one was, is that of the message
-abbrev pub IsTold : Option ℕ → (uid : ℕ) → Type 0
-IsTold None uid = Unit {0}
-IsTold (Some told) uid = told ≡ uid
+abbrev pub IsReported : Option ℕ → (uid : ℕ) → Type 0
+IsReported None uid = Unit {0}
+IsReported (Some reported) uid = reported ≡ uid
 
-pub record Adds (m : FarMailbox) (flags : ℕ) (bytes : List ℕ) (told : Option ℕ) (old new : Server) : Type 0 where
+pub record Adds (m : FarMailbox) (flags : ℕ) (bytes : List ℕ) (reported : Option ℕ) (old new : Server) : Type 0 where
   pub uid : ℕ
   pub under : AddsUnder m flags bytes uid old new
-  pub is_told : IsTold told uid
+  pub is_reported : IsReported reported uid
 
 -- the next UID that is known then
 abbrev pub next_known : (next : ℕ) → Option ℕ → ℕ
@@ -106,5 +106,5 @@ pub record IsFront (tag front : List ℕ) : Type 0 where
 
 -- the server waits for the rest, and nothing is on the way; or the command was done or not
 abbrev pub WaitsOr : {T : Type 0} → Command → (front : List ℕ) → Result T FarFault → (old new : Line) (coming : List ℕ) → Type 0
-WaitsOr c front (Ok _) old new coming = Quiet (told_server old) (told_server new) × IsAt front (ends_of new coming)
-WaitsOr c front (Err fault) old new coming = Outcome {T = Unit {0}} (λ _. Never) Never (Performs c) (Err fault) (told_server old) (told_server new)
+WaitsOr c front (Ok _) old new coming = Quiet (reported_server old) (reported_server new) × IsAt front (ends_of new coming)
+WaitsOr c front (Err fault) old new coming = Outcome {T = Unit {0}} (λ _. Never) Never (Performs c) (Err fault) (reported_server old) (reported_server new)

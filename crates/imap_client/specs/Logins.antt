@@ -7,9 +7,9 @@ use Rattle.imap_replies.specs.declared.reply.Reply.TheVariants.{Capability}
 use Rattle.imap_session.specs.Servers.{Authenticated, Server, is_logged_in}
 use Rattle.imap_session.specs.SessionCommands.{REV2}
 
-abbrev pub tells_rev2 : Reply → Bool
-tells_rev2 (Capability (Some names)) = has_name REV2 names
-tells_rev2 _ = false
+abbrev pub reports_rev2 : Reply → Bool
+reports_rev2 (Capability (Some names)) = has_name REV2 names
+reports_rev2 _ = false
 
 -- the user has this password
 abbrev pub is_known : (user password : List ℕ) → Server → Bool

@@ -6,7 +6,7 @@ use Rattle.imap_replies.specs.declared.reply.Reply.{Reply}
 use Rattle.imap_replies.specs.declared.reply.Reply.TheVariants.{Continue, Tagged, Notice, Capability, Enabled, List as Listed, Flags, Exists, Expunge, Fetch, Other, OtherNumbered}
 use Rattle.imap_session.specs.Heard.{AreReplies, AreHeardAs}
 use Rattle.imap_link.specs.declared.uses.Uses.{Uses}
-use Rattle.imap_link.specs.Sinks.{telling}
+use Rattle.imap_link.specs.Sinks.{reporting}
 use Rattle.imap_link.specs.UsedReplies.{is_used}
 
 abbrev pub status_of : Reply → Option Status
@@ -33,5 +33,5 @@ final_status (r ∷ q ∷ rs) = final_status (q ∷ rs)
 pub record HeardOf (keywords : List Keyword) (uses : Uses) (T : List Reply → Type 0) (said : List Reply) (bytes : List ℕ) : Type 0 where
   pub replies : List Reply
   pub spelled : AreReplies (filter (is_used uses) replies) bytes
-  pub told : T (telling replies)
+  pub reported : T (reporting replies)
   pub heard_as : AreHeardAs keywords replies said

@@ -1,6 +1,6 @@
 -- A session as the clauses of its calls name it.
 use Rattle.imap_session.specs.Servers.{Server}
-use Rattle.imap_session.specs.Lines.{Line, told_server}
+use Rattle.imap_session.specs.Lines.{Line, reported_server}
 use Rattle.imap_link.specs.declared.link.Link as link
 use Rattle.imap_client.specs.declared.session.Session.{Session}
 use Rattle.imap_client.specs.States.{State}
@@ -15,4 +15,4 @@ module _ {L : Type 0} {links : link.Ghosts L} where
 
   -- the server at the other end of its link, but for news that it has not reported yet
   abbrev pub server_of : Session L links → Server
-  server_of s = told_server (line_of s)
+  server_of s = reported_server (line_of s)

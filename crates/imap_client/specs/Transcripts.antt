@@ -12,7 +12,7 @@ use Rattle.imap_link.specs.declared.fault.FarFault.{FarFault}
 use Rattle.imap_link.specs.declared.fault.FarFault.TheVariants.{Stopped, Refused, Protocol, TooLong, NoRev2, ReadOnly, NoMemory}
 use Rattle.imap_answers.specs.declared.opening.Opening.{Opening}
 use Rattle.imap_answers.specs.Openings.{opening_of}
-use Rattle.imap_client.specs.Logins.{tells_rev2}
+use Rattle.imap_client.specs.Logins.{reports_rev2}
 use Rattle.imap_client.specs.Tags.{tag_text}
 
 -- one answer more was heard, of which P holds
@@ -81,10 +81,10 @@ of_command n read = record {
 
 -- whether they name IMAP4rev2 among what the server can do
 abbrev pub NamesRev2 : List Reply → Type 0
-NamesRev2 rs = list_any tells_rev2 rs ≡ true
+NamesRev2 rs = list_any reports_rev2 rs ≡ true
 
 abbrev pub LacksRev2 : List Reply → Type 0
-LacksRev2 rs = list_any tells_rev2 rs ≡ false
+LacksRev2 rs = list_any reports_rev2 rs ≡ false
 
 -- CAPABILITY
 abbrev pub of_abilities : (n : ℕ) → Meaning (Unit {0})
@@ -155,8 +155,8 @@ LoginHears n (Err NoMemory) old new = Unanswered n old new ⊎ Hears (Answers (n
 -- ---- SELECT
 
 -- UIDNEXT and UIDVALIDITY are reported
-abbrev pub TellsNumbers : Opening → Type 0
-TellsNumbers o = (is_some o.next && is_some o.validity) ≡ true
+abbrev pub ReportsNumbers : Opening → Type 0
+ReportsNumbers o = (is_some o.next && is_some o.validity) ≡ true
 
 abbrev pub LacksNumber : Opening → Type 0
 LacksNumber o = (is_some o.next && is_some o.validity) ≡ false
@@ -166,11 +166,11 @@ abbrev pub opened : (validity next : ℕ) → Opening
 opened validity next = record { next = Some next; validity = Some validity; is_read_only = false }
 
 abbrev pub of_select : {T : Type 0} → List Keyword → (n : ℕ) → (T → Opening) → Meaning T
-of_select keywords n told = record {
-  ok = λ x. Says n statuses.Ok (λ rs. opening_of keywords rs ≡ told x);
+of_select keywords n reported = record {
+  ok = λ x. Says n statuses.Ok (λ rs. opening_of keywords rs ≡ reported x);
   refused = Answers n statuses.No;
   protocol = λ bytes. Answers n statuses.Bad bytes ⊎ Says n statuses.Ok (λ rs. LacksNumber (opening_of keywords rs)) bytes;
   no_rev2 = NoAnswer;
-  read_only = Says n statuses.Ok (λ rs. TellsNumbers (opening_of keywords rs) × ((opening_of keywords rs).is_read_only ≡ true));
+  read_only = Says n statuses.Ok (λ rs. ReportsNumbers (opening_of keywords rs) × ((opening_of keywords rs).is_read_only ≡ true));
   no_memory = Answers n statuses.Ok;
 }

@@ -30,12 +30,12 @@ ghost use Rattle.imap_client.specs.Tags.{tag_text};
 use crate::addition::Addition;
 use crate::far_box::FarBox;
 use crate::session::Session;
-use imap_answers::given::{Given, given_in, uid_told};
+use imap_answers::given::{Given, given_in, uid_reported};
 use imap_answers::reading::read_replies;
 use imap_link::fault::FarFault;
 use imap_link::link::Link;
 use imap_link::uses::Uses;
-use imap_link::wire::Told;
+use imap_link::wire::LastReply;
 use mailcore::copy_pieces::CopyPieces;
 use mailcore::flags::Flags;
 use mailcore::uid::Uid;
@@ -58,8 +58,8 @@ impl<L: Link> Session<L> {
             → InTwo tag.now front.now rest c → WaitsOr c front.now result line (line_of self.new) self.new.wire.heard.unread) (line_of self.old) }
     {
         match self.wire.ask(tag, front)? {
-            Told::Go => Ok(()),
-            Told::Answer(status) => {
+            LastReply::Go => Ok(()),
+            LastReply::Answer(status) => {
                 self.judge(status)?;
                 Err(FarFault::Protocol)
             }
@@ -109,7 +109,7 @@ impl<L: Link> Session<L> {
     // What the replies that were read report about a message that was added.
     fn given(&self) -> Result<Option<Given>, FarFault>
         requires { Speaks self.now.wire.heard.read }
-        ensures told { IfOk result (λ given. (rs : List Reply) → AreReplies rs self.now.wire.heard.read → given ≡ given_in rs) }
+        ensures reported { IfOk result (λ given. (rs : List Reply) → AreReplies rs self.now.wire.heard.read → given ≡ given_in rs) }
         ensures err { IfErr result (λ fault. fault ≡ FarFault.NoMemory) }
     {
         let replies = read_replies(self.wire.alloc, self.wire.heard.read_part())?;
@@ -137,9 +137,9 @@ impl<L: Link> Session<L> {
     {
         self.ask_to_add(addition)?;
         let given = self.given()?;
-        let told = uid_told(given, validity, next)?;
+        let reported = uid_reported(given, validity, next)?;
         self.done();
-        Ok(told)
+        Ok(reported)
     }
 }
 
@@ -161,7 +161,7 @@ impl<L: Link> FarBox<L> {
         ensures same { (self.new.name ≡ self.old.name) × (self.new.validity ≡ self.old.validity)
             × (self.new.is_selected ≡ self.old.is_selected) }
         ensures keywords { self.new.keywords ≡ self.old.keywords }
-        ensures next { IfOk result (λ told. self.new.next ≡ next_known self.old.next told) }
+        ensures next { IfOk result (λ reported. self.new.next ≡ next_known self.old.next reported) }
         ensures unknown { OnErr result (self.new.next ≡ self.old.next) }
         ensures outcome { L.honest self.new.session.wire.link → HasMap self.old.keywords (server_of self.old.session) → self.old.is_selected ≡ true
             → Among L.visitors (λ s t. (m : FarMailbox) → selected s ≡ Some m → Outcome (Adds m (kept self.old.keywords flags) bytes.now) (NoUidLeft m)
@@ -186,7 +186,7 @@ impl<L: Link> FarBox<L> {
         ensures same { (self.new.name ≡ self.old.name) × (self.new.validity ≡ self.old.validity)
             × (self.new.is_selected ≡ self.old.is_selected) }
         ensures keywords { self.new.keywords ≡ self.old.keywords }
-        ensures next { IfOk result (λ told. self.new.next ≡ next_known self.old.next told) }
+        ensures next { IfOk result (λ reported. self.new.next ≡ next_known self.old.next reported) }
         ensures unknown { OnErr result (self.new.next ≡ self.old.next) }
         ensures outcome { L.honest self.new.session.wire.link → HasMap self.old.keywords (server_of self.old.session) → self.old.is_selected ≡ true
             → Among L.visitors (λ s t. (m : FarMailbox) → selected s ≡ Some m
@@ -200,10 +200,10 @@ impl<L: Link> FarBox<L> {
             keywords: &self.keywords,
             octets: copy,
         };
-        let told = self.session.add(&addition, self.validity, self.next)?;
-        if let Some(uid) = told {
+        let reported = self.session.add(&addition, self.validity, self.next)?;
+        if let Some(uid) = reported {
             self.next = uid.get() + 1;
         }
-        Ok(told)
+        Ok(reported)
     }
 }

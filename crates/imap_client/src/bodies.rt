@@ -11,14 +11,14 @@ ghost use Rattle.mailcore.specs.Ranges.{AreInRange};
 ghost use Rattle.mailcore.specs.Stores.{IsStore};
 ghost use Rattle.imap_answers.specs.Bodies.{found_at};
 ghost use Rattle.imap_client.specs.Logins.{Remains};
-ghost use Rattle.imap_answers.specs.Readings.{Tells};
+ghost use Rattle.imap_answers.specs.Readings.{Reports};
 ghost use Rattle.imap_client.specs.Seen.{KeepsMap};
 ghost use Rattle.imap_client.specs.States.{EndsSo};
 
 use crate::call::Call;
 use crate::far_box::FarBox;
 use crate::session::Session;
-use imap_answers::bodies::{FoundBody, body_told};
+use imap_answers::bodies::{FoundBody, body_reported};
 use imap_link::fault::FarFault;
 use imap_link::link::Link;
 use mailcore::uid::Uid;
@@ -36,11 +36,11 @@ impl<L: Link> Session<L> {
         ensures remains { L.honest self.new.wire.link → Among L.visitors (λ s t. (m : FarMailbox) → selected s ≡ Some m → Remains s t)
             (server_of self.old) (server_of self.new) }
         ensures outcome { L.honest self.new.wire.link → Among L.visitors (λ s t. (m : FarMailbox) → selected s ≡ Some m → IsStore m.store
-            → AreInRange m.store.messages → Outcome (Tells (λ found. found_at self.new.wire.heard.read found ≡ bytes_of uid m.store)) Never Remains result s t)
+            → AreInRange m.store.messages → Outcome (Reports (λ found. found_at self.new.wire.heard.read found ≡ bytes_of uid m.store)) Never Remains result s t)
             (server_of self.old) (server_of self.new) }
     {
         self.ask(&Call::Body(uid))?;
-        let body = body_told(self.wire.alloc, self.wire.heard.read_part(), uid)?;
+        let body = body_reported(self.wire.alloc, self.wire.heard.read_part(), uid)?;
         self.done();
         Ok(body)
     }
@@ -58,7 +58,7 @@ impl<L: Link> FarBox<L> {
     ///
     /// `Protocol`: the server reports them as NIL, or quoted with a backslash, too.
     pub fn fetch(&mut self, uid: Uid) -> Result<Option<&[u8]>, FarFault>
-        ensures* behind { sem 𝓛 (follows_so (the_row L.row L.Link) (the_row L.row L.Link) self.entry.ghost_name none (λ _ _. ⊤)
+        ensures* following { sem 𝓛 (follows_so (the_row L.row L.Link) (the_row L.row L.Link) self.entry.ghost_name none (λ _ _. ⊤)
             (λ after. (L.honest after.session.wire.link → L.honest self.old.session.wire.link)
             × (L.honest after.session.wire.link → KeepsMap (server_of self.old.session) (server_of after.session))
             × (self.old.session.is_ready ≡ false → after.session ≡ self.old.session)
@@ -70,7 +70,7 @@ impl<L: Link> FarBox<L> {
             (server_of self.old.session) (server_of after.session))
             × (L.honest after.session.wire.link → Among L.visitors (λ s t. (m : FarMailbox) → selected s ≡ Some m → IsStore m.store
             → AreInRange m.store.messages
-            → Outcome (Tells (λ found. option_map (λ b. b.now) found ≡ bytes_of uid m.store)) Never Remains result s t)
+            → Outcome (Reports (λ found. option_map (λ b. b.now) found ≡ bytes_of uid m.store)) Never Remains result s t)
             (server_of self.old.session) (server_of after.session)))) }
     {
         if self.load(uid)? {
@@ -94,7 +94,7 @@ impl<L: Link> FarBox<L> {
             (server_of self.old.session) (server_of self.new.session) }
         ensures outcome { L.honest self.new.session.wire.link → Among L.visitors (λ s t. (m : FarMailbox) → selected s ≡ Some m
             → IsStore m.store → AreInRange m.store.messages
-            → Outcome (Tells (λ is_there. (if is_there then Some (body_of self.new) else None) ≡ bytes_of uid m.store)) Never Remains result s t)
+            → Outcome (Reports (λ is_there. (if is_there then Some (body_of self.new) else None) ≡ bytes_of uid m.store)) Never Remains result s t)
             (server_of self.old.session) (server_of self.new.session) }
     {
         let found = self.session.body(uid)?;

@@ -7,7 +7,7 @@ ghost use Rattle.imap_session.specs.SessionCommands.{REV2};
 ghost use Rattle.imap_client.specs.Calls.{request_of, CanAsk, from_on, each_one};
 
 use imap_commands::command::{FetchItems, Request, StoreMode};
-use imap_commands::pattern::Pattern;
+use imap_commands::pattern::ListPattern;
 use mailcore::flags::Flags;
 use mailcore::keywords::Keywords;
 use mailcore::uid::Uid;
@@ -98,10 +98,10 @@ fn rev2(alloc: Global) -> Result<NameList, AllocError>
 }
 
 /// The pattern that every name matches.
-fn all_names(alloc: Global) -> Result<Pattern, AllocError>
+fn all_names(alloc: Global) -> Result<ListPattern, AllocError>
     ensures { IfOk result (λ pattern. pattern ≡ 42 ∷ []) }
 {
-    match Pattern::new(Vec::from_slice(alloc, b"*")?) {
+    match ListPattern::new(Vec::from_slice(alloc, b"*")?) {
         Some(pattern) => Ok(pattern),
         None => unreachable!(),
     }

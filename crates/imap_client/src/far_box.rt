@@ -67,7 +67,7 @@ pub struct FarBox<L: Link> {
 
 /// What is known of a mailbox that was selected.
 #[derive(Drop)]
-pub(crate) struct Chosen {
+pub(crate) struct SelectedBox {
     name: Vec<u8>,
     validity: u32,
     next: u32,
@@ -107,7 +107,7 @@ impl<L: Link> Session<L> {
         let mut session = self;
         match session.choose(name, &keywords) {
             Ok(chosen) => {
-                let Chosen {
+                let SelectedBox {
                     name,
                     validity,
                     next,
@@ -129,7 +129,7 @@ impl<L: Link> Session<L> {
     }
 
     // Selects the mailbox of this name.
-    fn choose(&mut self, name: &[u8], keywords: &Keywords) -> Result<Chosen, FarFault>
+    fn choose(&mut self, name: &[u8], keywords: &Keywords) -> Result<SelectedBox, FarFault>
         requires { IsWord name.now }
         ensures was_honest { L.honest self.new.wire.link → L.honest self.old.wire.link }
         ensures letters { L.honest self.new.wire.link → KeepsMap (server_of self.old) (server_of self.new) }
@@ -160,7 +160,7 @@ impl<L: Link> Session<L> {
         if opening.is_read_only {
             return Err(FarFault::ReadOnly);
         }
-        Ok(Chosen {
+        Ok(SelectedBox {
             name,
             validity,
             next,
@@ -170,7 +170,7 @@ impl<L: Link> Session<L> {
     // What the replies that were read say of a mailbox.
     fn opening(&self, keywords: &Keywords) -> Result<Opening, FarFault>
         requires { Speaks self.now.wire.heard.read }
-        ensures told { IfOk result (λ o. (rs : List Reply) → AreReplies rs self.now.wire.heard.read → o ≡ opening_of keywords.now rs) }
+        ensures reported { IfOk result (λ o. (rs : List Reply) → AreReplies rs self.now.wire.heard.read → o ≡ opening_of keywords.now rs) }
         ensures positive { IfOk result IsPositive }
         ensures err { IfErr result (λ fault. fault ≡ FarFault.NoMemory) }
     {
@@ -294,7 +294,7 @@ impl<L: Link> FarBox<L> {
             self.old.session.transcript self.new.session.transcript }
     {
         self.is_selected = false;
-        let Chosen {
+        let SelectedBox {
             name,
             validity,
             next,

@@ -18,7 +18,7 @@ use imap_link::uses::Uses;
 use imap_replies::word::Status;
 
 impl<L: Link> Session<L> {
-    ghost use Rattle.imap_session.specs.Lines.{told_server};
+    ghost use Rattle.imap_session.specs.Lines.{reported_server};
     ghost use Rattle.imap_client.specs.Sessions.{state_of, server_of};
 
     /// Ends the session: the server reads nothing more on this connection. The link comes back, beside a fault too.
@@ -28,9 +28,9 @@ impl<L: Link> Session<L> {
         ensures was_honest { IfOk result (λ l. L.honest l → L.honest self.wire.link) }
         ensures still_honest { IfErr result (λ e. L.honest e.1 → L.honest self.wire.link) }
         ensures steady { IfOk result (λ l. (self.is_ready ≡ true) × (L.stops l ≡ L.stops self.wire.link)) }
-        ensures leaves { IfOk result (λ l. L.honest l → Among L.visitors Leaves (server_of self) (told_server (L.line l))) }
+        ensures leaves { IfOk result (λ l. L.honest l → Among L.visitors Leaves (server_of self) (reported_server (L.line l))) }
         ensures fails { IfErr result (λ e. L.honest e.1 → Among L.visitors (Outcome {T = Unit {0}} (λ _. Leaves) Never Leaves (Err e.0)) (server_of self)
-            (told_server (L.line e.1))) }
+            (reported_server (L.line e.1))) }
     {
         let mut session = self;
         match session.log_out() {

@@ -14,14 +14,14 @@ ghost use Rattle.imap_answers.specs.Listings.{ListsFrom};
 ghost use Rattle.imap_client.specs.Logins.{Remains};
 ghost use Rattle.imap_client.specs.Seen.{HasMap, KeepsMap, seen_through};
 ghost use Rattle.mailcore.specs.KeywordNames.{IsMap};
-ghost use Rattle.imap_answers.specs.Readings.{Tells};
+ghost use Rattle.imap_answers.specs.Readings.{Reports};
 ghost use Rattle.imap_client.specs.States.{EndsSo};
 
 use crate::call::Call;
 use crate::far_box::FarBox;
 use crate::session::Session;
 use imap_answers::items::next_above;
-use imap_answers::told::Rows;
+use imap_answers::reported::Rows;
 use imap_link::fault::FarFault;
 use imap_link::link::Link;
 use mailcore::keywords::Keywords;
@@ -43,12 +43,12 @@ impl<L: Link> Session<L> {
             (server_of self.old) (server_of self.new) }
         ensures outcome { L.honest self.new.wire.link → HasMap keywords.now (server_of self.old)
             → Among L.visitors (λ s t. (m : FarMailbox) → selected s ≡ Some m → IsStore m.store → AreInRange m.store.messages
-            → Outcome (Tells (λ items. items ≡ map (item_of Far) (seen_through keywords.now m.store).messages)) Never Remains result s t)
+            → Outcome (Reports (λ items. items ≡ map (item_of Far) (seen_through keywords.now m.store).messages)) Never Remains result s t)
             (server_of self.old) (server_of self.new) }
     {
         let alloc = self.wire.alloc;
         let mut rows = Rows::new(alloc, keywords);
-        self.ask_telling(&Call::Listing, &mut rows)?;
+        self.ask_into(&Call::Listing, &mut rows)?;
         let items = rows.items(alloc)?;
         self.done();
         Ok(items)
@@ -76,7 +76,7 @@ impl<L: Link> FarBox<L> {
         ensures numbers { IfOk result (λ listing. (0 < listing.validity) × (0 < listing.next)) }
         ensures outcome { L.honest self.new.session.wire.link → HasMap self.old.keywords (server_of self.old.session) → self.old.is_selected ≡ true
             → Among L.visitors (λ s t. (m : FarMailbox) → selected s ≡ Some m → IsStore m.store → AreInRange m.store.messages
-            → Outcome (Tells (ListsFrom self.old.next (seen_through self.old.keywords m.store))) Never Remains result s t)
+            → Outcome (Reports (ListsFrom self.old.next (seen_through self.old.keywords m.store))) Never Remains result s t)
             (server_of self.old.session) (server_of self.new.session) }
         ensures shows { L.honest self.new.session.wire.link → HasMap self.old.keywords (server_of self.old.session) → self.old.is_selected ≡ true
             → Among L.visitors (λ s t. (m : FarMailbox) → selected s ≡ Some m → IsStore m.store → AreInRange m.store.messages

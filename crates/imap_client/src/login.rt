@@ -7,7 +7,7 @@ ghost use Rattle.imap_session.specs.Heard.{AreReplies};
 ghost use Rattle.imap_session.specs.Servers.{is_before_login, is_logged_in};
 ghost use Rattle.imap_session.specs.Visits.{Among};
 ghost use Rattle.imap_link.specs.Outcomes.{Outcome, Never};
-ghost use Rattle.imap_client.specs.Logins.{tells_rev2, Authenticates, Rejects, Remains};
+ghost use Rattle.imap_client.specs.Logins.{reports_rev2, Authenticates, Rejects, Remains};
 ghost use Rattle.imap_client.specs.Requests.{IsWord};
 ghost use Rattle.imap_client.specs.Transcripts.{EndsBy, of_abilities, of_login, of_enable, LoginHears};
 ghost use Rattle.imap_answers.specs.Spoken.{Speaks};
@@ -71,11 +71,11 @@ impl<L: Link> Session<L> {
     // Whether the replies that were read name IMAP4rev2.
     fn speaks_rev2(&self) -> Result<bool, FarFault>
         requires { Speaks self.now.wire.heard.read }
-        ensures told { IfOk result (λ told. (rs : List Reply) → AreReplies rs self.now.wire.heard.read → told ≡ list_any tells_rev2 rs) }
+        ensures reported { IfOk result (λ reported. (rs : List Reply) → AreReplies rs self.now.wire.heard.read → reported ≡ list_any reports_rev2 rs) }
         ensures err { IfErr result (λ fault. fault ≡ FarFault.NoMemory) }
     {
         let replies = read_replies(self.wire.alloc, self.wire.heard.read_part())?;
-        Ok(any_tells_rev2(&replies))
+        Ok(any_reports_rev2(&replies))
     }
 
     // Logs in.
@@ -120,15 +120,15 @@ impl<L: Link> Session<L> {
 }
 
 /// Whether one of the replies names IMAP4rev2 among what the server can do.
-fn any_tells_rev2(replies: &[Reply<'_>]) -> bool
-    ensures { result ≡ list_any tells_rev2 replies.now }
+fn any_reports_rev2(replies: &[Reply<'_>]) -> bool
+    ensures { result ≡ list_any reports_rev2 replies.now }
 {
-    replies.iter().any(|reply| tells_rev2(reply))
+    replies.iter().any(|reply| reports_rev2(reply))
 }
 
 /// Whether the reply names IMAP4rev2 among what the server can do.
-fn tells_rev2(reply: &Reply<'_>) -> bool
-    ensures { result ≡ tells_rev2 reply.now }
+fn reports_rev2(reply: &Reply<'_>) -> bool
+    ensures { result ≡ reports_rev2 reply.now }
 {
     match reply {
         Reply::Capability(Some(names)) => names.contains(b"IMAP4rev2"),

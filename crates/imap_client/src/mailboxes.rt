@@ -10,7 +10,7 @@ ghost use Rattle.imap_session.specs.Visits.{Among};
 ghost use Rattle.imap_link.specs.Outcomes.{Outcome, Never};
 ghost use Rattle.imap_client.specs.Creations.{Makes, CannotMake};
 ghost use Rattle.imap_client.specs.Logins.{Remains};
-ghost use Rattle.imap_answers.specs.MailboxNames.{TellsNames, names_in};
+ghost use Rattle.imap_answers.specs.MailboxNames.{ReportsNames, names_in};
 ghost use Rattle.imap_client.specs.Requests.{IsWord};
 ghost use Rattle.imap_answers.specs.Spoken.{Speaks};
 ghost use Rattle.imap_client.specs.States.{EndsSo};
@@ -54,7 +54,7 @@ impl<L: Link> Session<L> {
         ensures ends { EndsSo 1 (state_of self.old) (state_of self.new) result }
         ensures limits { IfOk result (λ names. list_all is_mailbox_name names.items ≡ true) }
         ensures outcome { L.honest self.new.wire.link → is_logged_in (server_of self.old).condition ≡ true
-            → Among L.visitors (Outcome (λ names. TellsNames names.items) Never Remains result) (server_of self.old) (server_of self.new) }
+            → Among L.visitors (Outcome (λ names. ReportsNames names.items) Never Remains result) (server_of self.old) (server_of self.new) }
     {
         self.ask(&Call::Names)?;
         let names = self.names()?;
@@ -65,7 +65,7 @@ impl<L: Link> Session<L> {
     // The names that the replies that were read return.
     fn names(&self) -> Result<Vec<MailboxName>, FarFault>
         requires { Speaks self.now.wire.heard.read }
-        ensures told { IfOk result (λ names. (rs : List Reply) → AreReplies rs self.now.wire.heard.read → names.items ≡ names_in rs) }
+        ensures reported { IfOk result (λ names. (rs : List Reply) → AreReplies rs self.now.wire.heard.read → names.items ≡ names_in rs) }
         ensures limits { IfOk result (λ names. list_all is_mailbox_name names.items ≡ true) }
         ensures err { IfErr result (λ fault. fault ≡ FarFault.NoMemory) }
     {

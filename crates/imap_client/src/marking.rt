@@ -9,7 +9,7 @@ ghost use Rattle.mailcore.specs.Operations.{marked_from};
 ghost use Rattle.mailcore.specs.Ranges.{AreInRange};
 ghost use Rattle.mailcore.specs.Stores.{IsStore};
 ghost use Rattle.imap_client.specs.Logins.{Remains};
-ghost use Rattle.imap_answers.specs.Readings.{Tells};
+ghost use Rattle.imap_answers.specs.Readings.{Reports};
 ghost use Rattle.imap_client.specs.Seen.{KeepsMap};
 ghost use Rattle.imap_client.specs.States.{EndsSo};
 ghost use Rattle.passed_marks.specs.Passed.{ArePassed};
@@ -44,7 +44,7 @@ impl<L: Link> Session<L> {
         ensures remains { L.honest self.new.wire.link → Among L.visitors (λ s t. (m : FarMailbox) → selected s ≡ Some m → Remains s t)
             (server_of self.old) (server_of self.new) }
         ensures outcome { L.honest self.new.wire.link → Among L.visitors (λ s t. (m : FarMailbox) → selected s ≡ Some m → IsStore m.store
-            → AreInRange m.store.messages → Outcome (Tells (λ found. found ≡ marked_from mark passed.old.below m.store)) Never Remains result s t)
+            → AreInRange m.store.messages → Outcome (Reports (λ found. found ≡ marked_from mark passed.old.below m.store)) Never Remains result s t)
             (server_of self.old) (server_of self.new) }
         ensures passed { L.honest self.new.wire.link → Among L.visitors (λ s t. (m : FarMailbox) → selected s ≡ Some m → Remains s t
             × (next ≤ m.store.next → ArePassed m.store.next m.store.messages passed.old → self.new.is_ready ≡ true
@@ -52,7 +52,7 @@ impl<L: Link> Session<L> {
     {
         let from = passed.below;
         let mut search = MarkSearch::new(self.wire.alloc, mark, from);
-        self.ask_telling(&Call::Heads(from), &mut search)?;
+        self.ask_into(&Call::Heads(from), &mut search)?;
         let found = search.end(passed, next)?;
         self.done();
         Ok(found)
@@ -80,7 +80,7 @@ impl<L: Link> FarBox<L> {
             (server_of self.old.session) (server_of self.new.session) }
         ensures outcome { L.honest self.new.session.wire.link → Among L.visitors (λ s t. (m : FarMailbox) → selected s ≡ Some m
             → IsStore m.store → AreInRange m.store.messages
-            → Outcome (Tells (λ found. found ≡ marked_from mark from m.store)) Never Remains result s t)
+            → Outcome (Reports (λ found. found ≡ marked_from mark from m.store)) Never Remains result s t)
             (server_of self.old.session) (server_of self.new.session) }
     {
         self.passed.keep_if(self.is_selected);

@@ -51,7 +51,7 @@ pub struct Session<L: Link> {
 }
 
 impl<L: Link> Session<L> {
-    ghost use Rattle.imap_session.specs.Lines.{told_server};
+    ghost use Rattle.imap_session.specs.Lines.{reported_server};
     ghost use Rattle.imap_client.specs.Sessions.{state_of, server_of};
 
     /// A session over the link, of which no connection was made. Each call answers `Stopped`, until `reconnect`.
@@ -81,10 +81,10 @@ impl<L: Link> Session<L> {
     /// else than `* OK`. `TooLong`, `NoMemory`.
     pub fn open(alloc: Global, link: L) -> Result<Session<L>, (FarFault, L)>
         ensures ok { IfOk result (λ s. (L.honest s.wire.link → L.honest link) × Opened (L.stops link) (state_of s)) }
-        ensures server { IfOk result (λ s. L.honest s.wire.link → Restarts (told_server (L.line link)) (server_of s)) }
+        ensures server { IfOk result (λ s. L.honest s.wire.link → Restarts (reported_server (L.line link)) (server_of s)) }
         ensures err { IfErr result (λ e. (L.honest e.1 → L.honest link) × IsHearing e.0 × (L.stops link ≤ L.stops e.1)) }
         ensures left { IfErr result (λ e. L.honest e.1 → Outcome (λ (_ : Unit {0}). Restarts) Never Restarts (Err e.0)
-            (told_server (L.line link)) (told_server (L.line e.1))) }
+            (reported_server (L.line link)) (reported_server (L.line e.1))) }
     {
         let mut session = Session::closed(alloc, link);
         match session.reconnect() {
@@ -185,7 +185,7 @@ impl<L: Link> Session<L> {
         ensures counts { L.stops self.old.wire.link ≤ L.stops self.new.wire.link }
         ensures tags { self.new.tags ≡ self.old.tags }
         ensures sent { SentSo command.now.tag (state_of self.old) (state_of self.new) result }
-        ensures outcome { L.honest self.new.wire.link → Among L.visitors (AnsweredSo command.now (λ told. S.took sink.old told sink.new) result
+        ensures outcome { L.honest self.new.wire.link → Among L.visitors (AnsweredSo command.now (λ reported. S.took sink.old reported sink.new) result
             self.new.wire.heard.read) (server_of self.old) (server_of self.new) }
         ensures idle { OnOk result (L.honest self.new.wire.link → IsStill (ends_of (L.line self.new.wire.link) self.new.wire.heard.unread)) }
         ensures answer { IfOk result (λ status. IsAnswerText command.now.tag status self.new.wire.heard.read) }
@@ -229,7 +229,7 @@ impl<L: Link> Session<L> {
         ensures counts { L.stops self.old.wire.link ≤ L.stops self.new.wire.link }
         ensures asked { ExchangedSo (state_of self.old) (state_of self.new) result }
         ensures outcome { L.honest self.new.wire.link → Among L.visitors (AnsweredSo (command_at (self.old.tags + 1) request)
-            (λ told. S.took sink.old told sink.new) result self.new.wire.heard.read) (server_of self.old) (server_of self.new) }
+            (λ reported. S.took sink.old reported sink.new) result self.new.wire.heard.read) (server_of self.old) (server_of self.new) }
         ensures idle { OnOk result (L.honest self.new.wire.link → IsStill (ends_of (L.line self.new.wire.link) self.new.wire.heard.unread)) }
         ensures answer { IfOk result (λ status. IsAnswerText (tag_text self.new.tags) status self.new.wire.heard.read) }
         ensures heard { EndsBy (of_any self.new.wire.heard.read) result self.old.transcript self.new.transcript }
@@ -254,7 +254,7 @@ impl<L: Link> Session<L> {
         ensures stuck { self.old.is_ready ≡ false → self.new ≡ self.old }
         ensures asked { AskedSo (state_of self.old) (state_of self.new) result }
         ensures outcome { L.honest self.new.wire.link → Among L.visitors (AnsweredSo (command_at (self.old.tags + 1) (request_of call.now))
-            (λ told. S.took sink.old told sink.new) result self.new.wire.heard.read) (server_of self.old) (server_of self.new) }
+            (λ reported. S.took sink.old reported sink.new) result self.new.wire.heard.read) (server_of self.old) (server_of self.new) }
         ensures idle { OnOk result (L.honest self.new.wire.link → IsStill (ends_of (L.line self.new.wire.link) self.new.wire.heard.unread)) }
         ensures answer { IfOk result (λ status. IsAnswerText (tag_text self.new.tags) status self.new.wire.heard.read) }
         ensures heard { EndsBy (of_any self.new.wire.heard.read) result self.old.transcript self.new.transcript }
@@ -265,7 +265,7 @@ impl<L: Link> Session<L> {
     }
 
     /// The same, where an answer that is not OK is a fault.
-    pub(crate) fn ask_telling<S: ReplySink>(
+    pub(crate) fn ask_into<S: ReplySink>(
         &mut self,
         call: &Call<'_>,
         sink: &mut S,
@@ -278,7 +278,7 @@ impl<L: Link> Session<L> {
         ensures stuck { self.old.is_ready ≡ false → self.new ≡ self.old }
         ensures asked { AskedSo (state_of self.old) (state_of self.new) result }
         ensures outcome { L.honest self.new.wire.link → Among L.visitors (Exchanged (command_at (self.old.tags + 1) (request_of call.now))
-            (λ told. S.took sink.old told sink.new) result self.new.wire.heard.read) (server_of self.old) (server_of self.new) }
+            (λ reported. S.took sink.old reported sink.new) result self.new.wire.heard.read) (server_of self.old) (server_of self.new) }
         ensures idle { OnOk result (L.honest self.new.wire.link → IsStill (ends_of (L.line self.new.wire.link) self.new.wire.heard.unread)) }
         ensures answer { OnOk result (IsAnswerText (tag_text self.new.tags) statuses.Ok self.new.wire.heard.read) }
         ensures heard { EndsBy (of_command (self.old.tags + 1) self.new.wire.heard.read) result self.old.transcript self.new.transcript }
@@ -302,7 +302,7 @@ impl<L: Link> Session<L> {
         ensures answer { OnOk result (IsAnswerText (tag_text self.new.tags) statuses.Ok self.new.wire.heard.read) }
         ensures heard { EndsBy (of_command (self.old.tags + 1) self.new.wire.heard.read) result self.old.transcript self.new.transcript }
     {
-        self.ask_telling(call, &mut NoSink {})
+        self.ask_into(call, &mut NoSink {})
     }
 
     /// Ends a call. What was read of its answer stays until the next command is sent.

@@ -1,6 +1,6 @@
 -- Commands as a grammar of lines.
 use Rattle.std.proofs.Common.{true, refl, sym, subst}
-use Rattle.wire_reader.specs.declared.side.Side.TheVariants.{Commands}
+use Rattle.wire_reader.specs.declared.side.Speaker.TheVariants.{Commands}
 use Rattle.wire_reader.specs.Spelling.{◌⨾◌, Word}
 use Rattle.wire_reader.specs.Reading.{seq}
 use Rattle.wire_reader.proofs.Reader.{Closed}

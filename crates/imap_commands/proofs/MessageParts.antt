@@ -1,7 +1,7 @@
 -- What the octets of an APPEND keep to.
 use Rattle.std.proofs.Common.{◌≡◌, ℕ, ◌≤◌, List, length, Ok, sym, ap, subst, ◌∙◌}
 use Rattle.std.specs.List.{list_all}
-use Rattle.wire_reader.specs.declared.side.Side.TheVariants.{Commands}
+use Rattle.wire_reader.specs.declared.side.Speaker.TheVariants.{Commands}
 use Rattle.wire_reader.specs.Lexical.{literal_limit}
 use Rattle.wire_reader.specs.Literal.{is_octet, Literal}
 use Rattle.wire_reader.specs.Filled.{filled_literal_at}

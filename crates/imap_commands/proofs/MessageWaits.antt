@@ -1,6 +1,6 @@
 -- An APPEND as it is written waits before its message.
 use Rattle.std.proofs.Common.{◌≡◌, ℕ, Bool, true, false, List, [], ◌∷◌, ◌++◌, length, Some, refl, sym, ap, subst, ◌∙◌, append_assoc}
-use Rattle.wire_reader.specs.declared.side.Side.TheVariants.{Commands, Replies}
+use Rattle.wire_reader.specs.declared.side.Speaker.TheVariants.{Commands, Replies}
 use Rattle.wire_reader.specs.declared.lexical.Phase.{Phase}
 use Rattle.wire_reader.specs.declared.lexical.Phase.TheVariants.{Plain, Brace, Close}
 use Rattle.wire_reader.specs.Lexical.{phase, asks_from, asks}
@@ -43,15 +43,15 @@ literal_waits : (before octets text : List ℕ) → phase Plain before ≡ Plain
 literal_waits before octets text plain h =
     let literal = h.first in
     let measured = literal.second in
-    let behind = measured.second in
-    let last = behind.second.second in
+    let following = measured.second in
+    let last = following.second.second in
     let digits = measured.front in
     let plus = no_plus measured.value.1 measured.first.plus in
     let long : length octets ≡ measured.value.0 = sym (ap length last.0) ∙ last.1.long in
     let closed : phase Brace digits ≡ Close (length octets) false =
     (length_leads Replies).after measured.value digits measured.first ∙ ap (λ (b : Bool). Close measured.value.0 b) plus ∙ ap (λ (n : ℕ). Close n false) (sym long) in
     let inner : measured.back ≡ crlf ++ octets =
-    behind.parts ∙ ap (λ (x : List ℕ). x ++ behind.back) behind.first ∙ ap (λ (x : List ℕ). 13 ∷ x) (behind.second.parts ∙ ap (λ (x : List ℕ). x ++ behind.second.back) behind.second.first ∙ ap (λ (x : List ℕ). 10 ∷ x) last.0) in
+    following.parts ∙ ap (λ (x : List ℕ). x ++ following.back) following.first ∙ ap (λ (x : List ℕ). 13 ∷ x) (following.second.parts ∙ ap (λ (x : List ℕ). x ++ following.second.back) following.second.first ∙ ap (λ (x : List ℕ). 10 ∷ x) last.0) in
     let whole : h.front ≡ 123 ∷ (digits ++ (crlf ++ octets)) =
     literal.parts ∙ ap (λ (x : List ℕ). x ++ literal.back) literal.first ∙ ap (λ (x : List ℕ). 123 ∷ x) (measured.parts ∙ ap (λ (x : List ℕ). digits ++ x) inner) in
     let both : text ≡ 123 ∷ (digits ++ (crlf ++ (octets ++ crlf))) =
@@ -64,8 +64,8 @@ literal_waits before octets text plain h =
 
 -- one part more before it, which leads back to a plain place
 module _ {P Q : List ℕ → Type 0} (octets : List ℕ) (plain : (t : List ℕ) → P t → phase Plain t ≡ Plain) (next : (before t : List ℕ) → phase Plain before ≡ Plain → Q t → WaitsBefore octets (before ++ t)) where
-  behind : (before t : List ℕ) → phase Plain before ≡ Plain → (P ⨾ Q) t → WaitsBefore octets (before ++ t)
-  behind before t h both =
+  following : (before t : List ℕ) → phase Plain before ≡ Plain → (P ⨾ Q) t → WaitsBefore octets (before ++ t)
+  following before t h both =
       let led : phase Plain (before ++ both.front) ≡ Plain = two-phases Plain Plain before both.front h ∙ plain both.front both.first in
       let same : before ++ t ≡ (before ++ both.front) ++ both.back = ap (λ (x : List ℕ). before ++ x) both.parts ∙ sym (append_assoc before both.front both.back) in
       subst (WaitsBefore octets) (sym same) (next (before ++ both.front) both.back led both.second)
@@ -89,7 +89,7 @@ message_waits message before t plain h =
 pub appends_wait : AppendsWait
 appends_wait tag mailbox message text flags h =
     let space = is_plain (32 ∷ []) refl in
-    behind message (tag_plain tag)
-    (behind message space
-    (behind message (is_plain (word_of verbs.Append) refl)
-    (behind message (text_plain mailbox) (behind message space (behind message (flags_plain flags) (behind message space (message_waits message))))))) [] text refl h
+    following message (tag_plain tag)
+    (following message space
+    (following message (is_plain (word_of verbs.Append) refl)
+    (following message (text_plain mailbox) (following message space (following message (flags_plain flags) (following message space (message_waits message))))))) [] text refl h

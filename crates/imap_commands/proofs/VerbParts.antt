@@ -1,6 +1,6 @@
 -- The words of commands, as a part of their grammar.
 use Rattle.std.proofs.Common.{true, refl, inl, inr}
-use Rattle.wire_reader.specs.declared.side.Side.{Side}
+use Rattle.wire_reader.specs.declared.side.Speaker.{Speaker}
 use Rattle.wire_reader.specs.Spelling.{Word}
 use Rattle.wire_reader.proofs.Reader.{Closed}
 use Rattle.wire_reader.proofs.Words.{Among}
@@ -38,5 +38,5 @@ each verbs.Fetch = inr (inr (inr (inr (inr (inr (inr (inr (inr (inl refl))))))))
 each verbs.Store = inr (inr (inr (inr (inr (inr (inr (inr (inr (inr (inl refl))))))))))
 each verbs.Expunge = inr (inr (inr (inr (inr (inr (inr (inr (inr (inr (inr refl))))))))))
 
-pub verb_part : {side : Side} → Part side true Closed (λ k t. Word (word_of k) t) verb_at
+pub verb_part : {side : Speaker} → Part side true Closed (λ k t. Word (word_of k) t) verb_at
 verb_part = same_part (λ k t h. h.1) (λ k t h. (each k, h)) (keys_part word_of keywords verbs.Capability session_verbs refl)

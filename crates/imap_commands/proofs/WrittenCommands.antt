@@ -1,6 +1,6 @@
 -- What is written is a spelling.
 use Rattle.std.proofs.Common.{◌≡◌, ℕ, List, map, refl}
-use Rattle.wire_reader.specs.declared.side.Side.TheVariants.{Commands}
+use Rattle.wire_reader.specs.declared.side.Speaker.TheVariants.{Commands}
 use Rattle.wire_reader.specs.Spelling.{upper}
 use Rattle.imap_commands.specs.declared.verb.Verb.{Verb}
 use Rattle.imap_commands.specs.declared.verb.Verb.TheVariants as verbs

@@ -1,6 +1,6 @@
 -- How requests are read: in the shape of what they are.
 use Rattle.std.specs.Prelude.{ℕ, List, [], ◌∷◌, Result}
-use Rattle.wire_reader.specs.declared.side.Side.TheVariants.{Commands}
+use Rattle.wire_reader.specs.declared.side.Speaker.TheVariants.{Commands}
 use Rattle.wire_reader.specs.declared.stop.Stop.{Stop}
 use Rattle.wire_reader.specs.Filled.{filled_literal_at}
 use Rattle.wire_reader.specs.Reading.{mapped, both, skip, keep, byte_at, crlf_at}

@@ -1,6 +1,6 @@
 -- Requests and their spellings (RFC 9051, section 9: command-any, command-nonauth, command-auth, command-select).
 use Rattle.std.specs.Prelude.{ℕ, List, [], ◌∷◌, codes}
-use Rattle.wire_reader.specs.declared.side.Side.TheVariants.{Commands}
+use Rattle.wire_reader.specs.declared.side.Speaker.TheVariants.{Commands}
 use Rattle.wire_reader.specs.Spelling.{◌⨾◌, Is, Word, crlf}
 use Rattle.wire_reader.specs.Filled.{FilledLiteral}
 use Rattle.wire_strings.specs.Quotes.{QuotedText}

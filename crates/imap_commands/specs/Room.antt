@@ -11,22 +11,22 @@ use Rattle.imap_commands.specs.Requests.{verb_of, items_word, mode_word}
 use Rattle.imap_commands.specs.Writing.{Written}
 
 -- after the word, with the line end
-abbrev pub most_behind : Request → ℕ
-most_behind requests.Capability = 2
-most_behind requests.Noop = 2
-most_behind requests.Logout = 2
-most_behind (requests.Login user password) = most_string user + (1 + (most_string password + 2))
-most_behind (requests.Enable names) = most_names names + 2
-most_behind (requests.List pattern) = 2 * length pattern + 2 + 2
-most_behind (requests.Create mailbox) = most_string mailbox + 2
-most_behind (requests.Select mailbox) = most_string mailbox + 2
-most_behind (requests.Append mailbox flags message) = most_string mailbox + (1 + (most_flags flags + (1 + (most_literal + 2))))
-most_behind (requests.Fetch set what) = most_set set + (1 + (length (items_word what) + 2))
-most_behind (requests.Store set mode flags) = most_set set + (1 + (length (mode_word mode) + (most_flags flags + 2)))
-most_behind (requests.Expunge set) = most_set set + 2
+abbrev pub most_after : Request → ℕ
+most_after requests.Capability = 2
+most_after requests.Noop = 2
+most_after requests.Logout = 2
+most_after (requests.Login user password) = most_string user + (1 + (most_string password + 2))
+most_after (requests.Enable names) = most_names names + 2
+most_after (requests.List pattern) = 2 * length pattern + 2 + 2
+most_after (requests.Create mailbox) = most_string mailbox + 2
+most_after (requests.Select mailbox) = most_string mailbox + 2
+most_after (requests.Append mailbox flags message) = most_string mailbox + (1 + (most_flags flags + (1 + (most_literal + 2))))
+most_after (requests.Fetch set what) = most_set set + (1 + (length (items_word what) + 2))
+most_after (requests.Store set mode flags) = most_set set + (1 + (length (mode_word mode) + (most_flags flags + 2)))
+most_after (requests.Expunge set) = most_set set + 2
 
 abbrev pub most_outside : Command → ℕ
-most_outside command = length command.tag + (1 + (length (word_of (verb_of command.request)) + most_behind command.request))
+most_outside command = length command.tag + (1 + (length (word_of (verb_of command.request)) + most_after command.request))
 
 -- a command as it is written
 pub record Fitting (command : Command) (text : List ℕ) : Type 0 where

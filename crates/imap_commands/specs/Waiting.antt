@@ -1,6 +1,6 @@
 -- Where the sender of a command waits, as far as messages go.
 use Rattle.std.specs.Prelude.{◌≡◌, ℕ, List, ◌++◌, length, Some}
-use Rattle.wire_reader.specs.declared.side.Side.TheVariants.{Commands}
+use Rattle.wire_reader.specs.declared.side.Speaker.TheVariants.{Commands}
 use Rattle.wire_reader.specs.Lexical.{asks}
 use Rattle.wire_reader.specs.Spelling.{crlf}
 use Rattle.imap_commands.specs.declared.command.Request.TheVariants as requests

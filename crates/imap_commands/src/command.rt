@@ -3,8 +3,8 @@
 ghost use Rattle.std.specs.Prelude.{◌≡◌};
 ghost use Rattle.imap_commands.specs.Requests.{verb_of, items_word, mode_word};
 
-use crate::message::Message;
-use crate::pattern::Pattern;
+use crate::message::SentMessage;
+use crate::pattern::ListPattern;
 use crate::verb::Verb;
 use wire_strings::text::Text;
 use wire_tokens::flag_list::FlagList;
@@ -35,13 +35,13 @@ pub enum Request {
     /// That these extensions be used.
     Enable(NameList),
     /// The mailboxes whose names match the pattern.
-    List(Pattern),
+    List(ListPattern),
     /// A new mailbox of this name.
     Create(Text),
     /// The mailbox of this name, for the requests that follow.
     Select(Text),
     /// That this message with these flags be put into the mailbox of this name.
-    Append(Text, FlagList, Message),
+    Append(Text, FlagList, SentMessage),
     /// Items of the messages of the set.
     Fetch(UidSet, FetchItems),
     /// That the messages of the set get these flags or lose them, without a reply about each.

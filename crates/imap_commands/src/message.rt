@@ -1,7 +1,7 @@
 //! The messages of APPEND commands (RFC 9051, section 9: append-message, literal; here a literal of at least one octet).
 
 ghost use Rattle.std.specs.Prelude.{◌≡◌, SomeIff, OnOk, OnErr};
-ghost use Rattle.wire_reader.specs.declared.side.Side.TheVariants.{Commands};
+ghost use Rattle.wire_reader.specs.declared.side.Speaker.TheVariants.{Commands};
 ghost use Rattle.wire_reader.specs.Given.{GivesOr};
 ghost use Rattle.wire_reader.specs.Filled.{filled_literal_at};
 ghost use Rattle.wire_tokens.specs.Writing.{Appended};
@@ -11,18 +11,18 @@ ghost use Rattle.imap_commands.specs.Writing.{WrittenMessage};
 use std::alloc::{AllocError, Global};
 use std::marker::Model;
 use wire_reader::literal::filled_literal;
-use wire_reader::side::Side;
+use wire_reader::side::Speaker;
 use wire_reader::stop::ReadError;
-use wire_strings::octets::Octets;
+use wire_strings::octets::LentOctets;
 use wire_strings::string_writing::write_literal;
 
 /// The octets of a message: 1 to 16777238, none of them 0.
 #[derive(Drop)]
-pub struct Message {
+pub struct SentMessage {
     octets: Vec<u8>,
 }
 
-impl Model for Message {
+impl Model for SentMessage {
     ghost use Rattle.std.specs.Prelude.{ℕ, List};
     ghost use Rattle.imap_commands.specs.Messages.{IsMessage};
 
@@ -33,13 +33,13 @@ impl Model for Message {
     ghost invariant = { λ m. IsMessage m.octets.items };
 }
 
-impl Message {
+impl SentMessage {
     /// The message of these octets, or none where they are none, too many, or one of them is 0.
-    pub fn new(octets: Vec<u8>) -> Option<Message>
+    pub fn new(octets: Vec<u8>) -> Option<SentMessage>
         ensures { SomeIff result (IsMessage octets.items) octets.items }
     {
-        if !octets.is_empty() && Octets::read(&octets).is_some() {
-            Some(Message { octets })
+        if !octets.is_empty() && LentOctets::read(&octets).is_some() {
+            Some(SentMessage { octets })
         } else {
             None
         }
@@ -58,7 +58,7 @@ impl Message {
         ensures same { result.items ≡ self }
         ensures message { IsMessage result.items }
     {
-        let Message { octets } = self;
+        let SentMessage { octets } = self;
         octets
     }
 
@@ -69,7 +69,7 @@ impl Message {
         ensures ok { OnOk result (Appended (WrittenMessage self.now) out.old.items out.new.items) }
         ensures err { OnErr result (out.new.items ≡ out.old.items) }
     {
-        match Octets::read(self.octets()) {
+        match LentOctets::read(self.octets()) {
             Some(octets) => write_literal(&octets, out),
             None => unreachable!(),
         }
@@ -77,10 +77,10 @@ impl Message {
 }
 
 /// Reads a message, a literal of at least one octet; gives it and the bytes after it, of which at least one is required.
-pub(crate) fn read_message(alloc: Global, bytes: &[u8]) -> Result<(Message, &[u8]), ReadError>
+pub(crate) fn read_message(alloc: Global, bytes: &[u8]) -> Result<(SentMessage, &[u8]), ReadError>
     ensures { GivesOr (λ r. (r.0, r.1.now)) result (filled_literal_at Commands bytes.now) }
 {
-    let (octets, rest) = filled_literal(Side::Commands, bytes)?;
+    let (octets, rest) = filled_literal(Speaker::Commands, bytes)?;
     let octets = Vec::from_slice(alloc, octets)?;
-    Ok((Message { octets }, rest))
+    Ok((SentMessage { octets }, rest))
 }

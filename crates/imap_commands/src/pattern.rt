@@ -15,11 +15,11 @@ use wire_strings::string_writing::write_quoted;
 
 /// A pattern for names of mailboxes: bytes from 32 to 255 except 127.
 #[derive(Drop)]
-pub struct Pattern {
+pub struct ListPattern {
     bytes: Vec<u8>,
 }
 
-impl Model for Pattern {
+impl Model for ListPattern {
     ghost use Rattle.std.specs.Prelude.{ℕ, List};
     ghost use Rattle.imap_commands.specs.Patterns.{IsPattern};
 
@@ -30,13 +30,13 @@ impl Model for Pattern {
     ghost invariant = { λ p. IsPattern p.bytes.items };
 }
 
-impl Pattern {
+impl ListPattern {
     /// The pattern of these bytes, or none where one of them cannot stand in it.
-    pub fn new(bytes: Vec<u8>) -> Option<Pattern>
+    pub fn new(bytes: Vec<u8>) -> Option<ListPattern>
         ensures { SomeIff result (IsPattern bytes.items) bytes.items }
     {
         if all_text(&bytes) {
-            Some(Pattern { bytes })
+            Some(ListPattern { bytes })
         } else {
             None
         }
@@ -62,10 +62,10 @@ impl Pattern {
 }
 
 /// Reads a pattern, a quoted string; gives it and the bytes after it.
-pub(crate) fn read_pattern(alloc: Global, bytes: &[u8]) -> Result<(Pattern, &[u8]), ReadError>
+pub(crate) fn read_pattern(alloc: Global, bytes: &[u8]) -> Result<(ListPattern, &[u8]), ReadError>
     ensures { GivesOr (λ r. (r.0, r.1.now)) result (quoted_at bytes.now) }
 {
     let (quoted, rest) = read_quoted(bytes)?;
     let bytes = quoted.value(alloc)?;
-    Ok((Pattern { bytes }, rest))
+    Ok((ListPattern { bytes }, rest))
 }

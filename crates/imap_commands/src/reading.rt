@@ -1,7 +1,7 @@
 //! Reading of commands.
 
 ghost use Rattle.std.specs.Prelude.{◌≡◌};
-ghost use Rattle.wire_reader.specs.declared.side.Side.TheVariants.{Commands};
+ghost use Rattle.wire_reader.specs.declared.side.Speaker.TheVariants.{Commands};
 ghost use Rattle.wire_reader.specs.Given.{GivesOr};
 ghost use Rattle.wire_reader.specs.Answers.{Answers, TakesEach, WaitsForMore, NoneBeginsAnother};
 ghost use Rattle.imap_commands.specs.Commands.{Spelled, command_at};

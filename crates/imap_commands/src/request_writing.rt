@@ -8,8 +8,8 @@ ghost use Rattle.imap_commands.specs.Writing.{WrittenText, WrittenRequest};
 
 use crate::append::{append_items, append_mode};
 use crate::command::{FetchItems, Request, StoreMode};
-use crate::message::Message;
-use crate::pattern::Pattern;
+use crate::message::SentMessage;
+use crate::pattern::ListPattern;
 use std::alloc::AllocError;
 use wire_strings::text::Text;
 use wire_tokens::appending::append;
@@ -58,7 +58,7 @@ fn enable(names: &NameList, out: &mut Vec<u8>) -> Result<(), AllocError>
     Ok(())
 }
 
-fn list(pattern: &Pattern, out: &mut Vec<u8>) -> Result<(), AllocError>
+fn list(pattern: &ListPattern, out: &mut Vec<u8>) -> Result<(), AllocError>
     ensures ok { OnOk result (Appended (WrittenRequest (requests.List pattern.now)) out.old.items out.new.items) }
     ensures kept { OnErr result (take (length out.old.items) out.new.items ≡ out.old.items) }
 {
@@ -81,7 +81,7 @@ fn mailbox_line(mailbox: &Text, out: &mut Vec<u8>) -> Result<(), AllocError>
 fn append_message(
     mailbox: &Text,
     flags: &FlagList,
-    message: &Message,
+    message: &SentMessage,
     out: &mut Vec<u8>,
 ) -> Result<(), AllocError>
     ensures ok { OnOk result (Appended (WrittenRequest (requests.Append mailbox.now flags.now message.now)) out.old.items out.new.items) }

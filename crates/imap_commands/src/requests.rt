@@ -15,7 +15,7 @@ use crate::verb::Verb;
 use std::alloc::Global;
 use wire_reader::keyword::{either, keyed};
 use wire_reader::punctuation::{byte, crlf};
-use wire_reader::side::Side;
+use wire_reader::side::Speaker;
 use wire_reader::stop::{ReadError, Stop};
 use wire_strings::text::read_text;
 use wire_tokens::flag_list::{FlagList, read_flags};
@@ -50,9 +50,9 @@ pub(crate) fn read_request(
 fn login(alloc: Global, bytes: &[u8]) -> Result<(Request, &[u8]), ReadError>
     ensures { GivesOr (λ r. (r.0, r.1.now)) result (login_at bytes.now) }
 {
-    let (user, rest) = read_text(alloc, Side::Commands, bytes)?;
+    let (user, rest) = read_text(alloc, Speaker::Commands, bytes)?;
     let rest = byte(b' ', rest)?;
-    let (password, rest) = read_text(alloc, Side::Commands, rest)?;
+    let (password, rest) = read_text(alloc, Speaker::Commands, rest)?;
     let rest = crlf(rest)?;
     Ok((Request::Login(user, password), rest))
 }
@@ -80,7 +80,7 @@ fn list(alloc: Global, bytes: &[u8]) -> Result<(Request, &[u8]), ReadError>
 fn create(alloc: Global, bytes: &[u8]) -> Result<(Request, &[u8]), ReadError>
     ensures { GivesOr (λ r. (r.0, r.1.now)) result (create_at bytes.now) }
 {
-    let (mailbox, rest) = read_text(alloc, Side::Commands, bytes)?;
+    let (mailbox, rest) = read_text(alloc, Speaker::Commands, bytes)?;
     let rest = crlf(rest)?;
     Ok((Request::Create(mailbox), rest))
 }
@@ -89,7 +89,7 @@ fn create(alloc: Global, bytes: &[u8]) -> Result<(Request, &[u8]), ReadError>
 fn select(alloc: Global, bytes: &[u8]) -> Result<(Request, &[u8]), ReadError>
     ensures { GivesOr (λ r. (r.0, r.1.now)) result (select_at bytes.now) }
 {
-    let (mailbox, rest) = read_text(alloc, Side::Commands, bytes)?;
+    let (mailbox, rest) = read_text(alloc, Speaker::Commands, bytes)?;
     let rest = crlf(rest)?;
     Ok((Request::Select(mailbox), rest))
 }
@@ -98,7 +98,7 @@ fn select(alloc: Global, bytes: &[u8]) -> Result<(Request, &[u8]), ReadError>
 fn append(alloc: Global, bytes: &[u8]) -> Result<(Request, &[u8]), ReadError>
     ensures { GivesOr (λ r. (r.0, r.1.now)) result (append_at bytes.now) }
 {
-    let (mailbox, rest) = read_text(alloc, Side::Commands, bytes)?;
+    let (mailbox, rest) = read_text(alloc, Speaker::Commands, bytes)?;
     let rest = byte(b' ', rest)?;
     let (flags, rest) = read_flags(rest)?;
     let rest = byte(b' ', rest)?;

@@ -10,8 +10,8 @@ use Rattle.law_session.proofs.AnswersApart.{plain_go, reply_some}
 use Rattle.imap_session.specs.Ends.{Ends}
 use Rattle.reply_buf.specs.Fronts.{Spells, IsFaulty}
 use Rattle.imap_link.specs.declared.uses.Uses.{Uses}
-use Rattle.imap_link.specs.declared.kind.Kind.{Kind}
-use Rattle.imap_link.specs.declared.kind.Kind.TheVariants.{Stray}
+use Rattle.imap_link.specs.declared.kind.ReplyKind.{ReplyKind}
+use Rattle.imap_link.specs.declared.kind.ReplyKind.TheVariants.{Stray}
 use Rattle.imap_link.specs.ReplyKinds.{kind_of, passes, IsAwaited}
 use Rattle.imap_link.specs.Buffers.{Reads, Expects, IsAnswerText, Passed, GoesOn}
 use Rattle.imap_link.proofs.KindLemmas.{passes_is, awaited_stays, tagged_awaited, mine_tagged}
@@ -84,7 +84,7 @@ Astray tag bytes = Strays tag bytes ⊎ IsFaulty bytes
 abbrev Last : List ℕ → Reply → Type 0
 Last tag r = IsAwaited (kind_of tag r)
 
-stray_stays : (k : Kind) → k ≡ Stray → (passes k ≡ true → ⊥) × (IsAwaited k → ⊥)
+stray_stays : (k : ReplyKind) → k ≡ Stray → (passes k ≡ true → ⊥) × (IsAwaited k → ⊥)
 stray_stays k e = (λ p. let q : passes Stray ≡ true = ap passes (sym e) ∙ p in cc, λ a. subst IsAwaited e a)
 
 first_astray : (tag : List ℕ) (ps : List Reply) (last : Reply) (d : List ℕ) → AreUntagged ps → Last tag last → AreReplies (ps ++ last ∷ []) d → Astray tag d → ⊥
@@ -131,7 +131,7 @@ pub never_astray : (tag : List ℕ) (uses : Uses) (T : List Reply → Type 0) (k
 never_astray tag uses T kept first now honest p h expects s = none_astray tag p.text now.coming first.coming p.replies p.untagged p.spelled (p.goes h).coming expects s
 
 -- a stray reply was heard there
-pub strays : (tag : List ℕ) (uses : Uses) (kind : Kind) (used : Bool) (len : ℕ) (R : Reply → Type 0) (honest : Type 0) (old new : Ends) (before now : List ℕ)
+pub strays : (tag : List ℕ) (uses : Uses) (kind : ReplyKind) (used : Bool) (len : ℕ) (R : Reply → Type 0) (honest : Type 0) (old new : Ends) (before now : List ℕ)
     → Reads uses tag kind used len R (λ text. honest → GoesOn old new text) before now → kind ≡ Stray → honest → Astray tag old.coming
 strays tag uses kind used len R honest old new before now b e h =
     inl (record { reply = b.whole.reply; front = b.whole.text; back = new.coming; parts = (b.whole.goes h).coming; spells = b.whole.spells; is = b.is ∙ e })

@@ -4,10 +4,10 @@ use Rattle.std.proofs.Common.{◌≡◌, inl, inr, ℕ, false, List, [], ◌∷�
 use Rattle.imap_commands.specs.declared.command.Command.{Command}
 use Rattle.imap_replies.specs.declared.word.Status.{Status}
 use Rattle.imap_replies.specs.declared.reply.Reply.{Reply}
-use Rattle.imap_session.specs.Servers.{Server, Quiet, told}
+use Rattle.imap_session.specs.Servers.{Server, Quiet, reported}
 use Rattle.imap_session.specs.Serving.{FeedsSome}
 use Rattle.imap_session.specs.Heard.{tag_of, AreReplies}
-use Rattle.imap_session.specs.Lines.{Line, told_server, Sends}
+use Rattle.imap_session.specs.Lines.{Line, reported_server, Sends}
 use Rattle.imap_session.specs.Ends.{Ends, ends_of, IsAt, IsIdle, SentOr, Done, MayHave, is_logout}
 use Rattle.law_session.proofs.Sent.{sent, half_sent}
 use Rattle.law_session.proofs.Ended.{done_of, half_of}
@@ -15,7 +15,7 @@ use Rattle.law_session.proofs.Answering.{did_answer, heard_answer}
 use Rattle.law_session.proofs.AnswersApart.{reply_some}
 use Rattle.imap_link.specs.declared.fault.FarFault.{FarFault}
 use Rattle.imap_link.specs.declared.fault.FarFault.TheVariants.{Stopped, Refused, Protocol, TooLong, NoRev2, ReadOnly, NoMemory}
-use Rattle.imap_link.specs.declared.kind.Kind.TheVariants.{Go, Mine}
+use Rattle.imap_link.specs.declared.kind.ReplyKind.TheVariants.{Go, Mine}
 use Rattle.imap_link.specs.declared.uses.Uses.{Uses}
 use Rattle.imap_link.specs.UsedReplies.{is_used, uses_of, messages_read}
 use Rattle.imap_link.specs.Faults.{IsStop}
@@ -76,7 +76,7 @@ module _ (c : Command) (uses : Uses) (tag from rest : List ℕ) (w : Completes c
   pub may_expect : Expects tag (ends_of mid heard).coming
   may_expect = subst (λ (t : List ℕ). Expects t (ends_of mid heard).coming) w.tag_is (expects_of c (ends_of old heard) (ends_of mid heard) or)
 
-  pub may_have : (after : Server) → Quiet mid.end.server after → MayHave (Performs c) (told_server old) (told after)
+  pub may_have : (after : Server) → Quiet mid.end.server after → MayHave (Performs c) (reported_server old) (reported after)
   may_have after q = may_perform c old.end.server after (half_of c (ends_of old heard) (ends_of mid heard) after or q)
 
   -- the replies up to the tagged one came, and `kept` are those that the call keeps
@@ -87,7 +87,7 @@ module _ (c : Command) (uses : Uses) (tag from rest : List ℕ) (w : Completes c
         (came_hears uses T (λ r. kind_of tag r ≡ Mine status) kept (ends_of mid heard) (ends_of new coming) a)
         (answer_of tag a.text status (text_of uses T (λ r. kind_of tag r ≡ Mine status) kept (GoesOn (ends_of mid heard) (ends_of new coming)) a))
 
-    pub replied : Replied c status T kept (told_server old) (told_server new)
+    pub replied : Replied c status T kept (reported_server old) (reported_server new)
     replied =
         let own = has_performed c old.end.server new.end.server (a.passed ++ a.last ∷ []) done.did in
         record {
@@ -97,7 +97,7 @@ module _ (c : Command) (uses : Uses) (tag from rest : List ℕ) (w : Completes c
               subst (λ (rs : List Reply). AreReplies rs kept) (own.used (uses_of c.request))
               (subst (λ (u : Uses). AreReplies (filter (is_used u) (a.passed ++ a.last ∷ [])) kept) (sym w.uses_is)
               (came_used uses T tag status kept (GoesOn (ends_of mid heard) (ends_of new coming)) a));
-          told = subst T (own.used messages_read) a.told;
+          reported = subst T (own.used messages_read) a.reported;
           did = own.did;
         }
 
@@ -112,11 +112,11 @@ module _ (c : Command) (uses : Uses) (tag from rest : List ℕ) (w : Completes c
 -- where the bytes were not sent
 pub unsent : (uses : Uses) (tag rest : List ℕ) (T : List Reply → Type 0) (y : FarFault) (old new : Line) (heard read : List ℕ) → IsStop y → FeedsSome old.end rest new.end.server → Exchanges uses tag rest T (Err y) old heard new read
 unsent uses tag rest T y old new heard read stop s c from w at =
-    stop_outcome {T = Status} (λ status. Replied c status T read) Never (Performs c) y (told_server old) (told_server new) stop (may_perform c old.end.server new.end.server (half_sent c from rest old new.end.server heard w.text at s))
+    stop_outcome {T = Status} (λ status. Replied c status T read) Never (Performs c) y (reported_server old) (reported_server new) stop (may_perform c old.end.server new.end.server (half_sent c from rest old new.end.server heard w.text at s))
 
 -- where they were sent, and waiting failed
 pub unheard : (uses : Uses) (tag rest : List ℕ) (T : List Reply → Type 0) (y : FarFault) (old mid new : Line) (heard read : List ℕ) → Sends rest old mid → Quiet mid.end.server new.end.server
     → (Expects tag (ends_of mid heard).coming → IsStop y) → Exchanges uses tag rest T (Err y) old heard new read
 unheard uses tag rest T y old mid new heard read s q stop c from w at =
-    stop_outcome {T = Status} (λ status. Replied c status T read) Never (Performs c) y (told_server old) (told_server new)
+    stop_outcome {T = Status} (λ status. Replied c status T read) Never (Performs c) y (reported_server old) (reported_server new)
     (stop (may_expect c uses tag from rest w old mid new heard at s)) (may_have c uses tag from rest w old mid new heard at s new.end.server q)

@@ -4,13 +4,13 @@ use Rattle.imap_replies.specs.declared.word.NoticeKind.TheVariants as notices
 use Rattle.imap_replies.specs.declared.response.ResponseText.TheVariants.{Plain}
 use Rattle.imap_replies.specs.declared.reply.Reply.{Reply}
 use Rattle.imap_replies.specs.declared.reply.Reply.TheVariants.{Notice}
-use Rattle.imap_session.specs.Servers.{Server, Quiet, told}
+use Rattle.imap_session.specs.Servers.{Server, Quiet, reported}
 use Rattle.imap_session.specs.Heard.{AreReplies}
-use Rattle.imap_session.specs.Lines.{Line, told_server, Starts}
+use Rattle.imap_session.specs.Lines.{Line, reported_server, Starts}
 use Rattle.imap_session.specs.Ends.{Ends, ends_of, IsIdle, Hears}
 use Rattle.law_session.proofs.Greeted.{greeted}
-use Rattle.imap_link.specs.declared.kind.Kind.{Kind}
-use Rattle.imap_link.specs.declared.kind.Kind.TheVariants.{Hello, Bye}
+use Rattle.imap_link.specs.declared.kind.ReplyKind.{ReplyKind}
+use Rattle.imap_link.specs.declared.kind.ReplyKind.TheVariants.{Hello, Bye}
 use Rattle.imap_link.specs.ReplyKinds.{kind_of}
 use Rattle.reply_buf.specs.Fronts.{IsFaulty}
 use Rattle.imap_link.specs.Buffers.{WholeRead, GoesOn, SaysBye}
@@ -42,7 +42,7 @@ module _ (old mid : Line) (s : Starts old mid) (unread : List ℕ) (none : unrea
       heard = ap (λ (l : List ℕ). l ++ mid.unseen) (sym none) ∙ (w.goes h).coming;
     }
 
-    pub greets_so : (tag : List ℕ) (kind : Kind) → kind_of tag w.reply ≡ kind → kind ≡ Hello
+    pub greets_so : (tag : List ℕ) (kind : ReplyKind) → kind_of tag w.reply ≡ kind → kind ≡ Hello
     greets_so tag kind e =
         let g = greeted old mid now w.reply s hears in
         let same : w.reply ≡ ready = cc in
@@ -51,5 +51,5 @@ module _ (old mid : Line) (s : Starts old mid) (unread : List ℕ) (none : unrea
     pub greeted_idle : IsIdle now
     greeted_idle = (greeted old mid now w.reply s hears).idle
 
-pub restarts : (old mid : Line) → Starts old mid → (new : Server) → Quiet mid.end.server new → Restarts (told_server old) (told new)
-restarts old mid s new q = ap told (q ∙ s.end.quiet)
+pub restarts : (old mid : Line) → Starts old mid → (new : Server) → Quiet mid.end.server new → Restarts (reported_server old) (reported new)
+restarts old mid s new q = ap reported (q ∙ s.end.quiet)

@@ -7,8 +7,8 @@ use Rattle.imap_replies.specs.declared.word.NoticeKind.TheVariants as notices
 use Rattle.imap_replies.specs.declared.reply.Reply.{Reply}
 use Rattle.imap_replies.specs.declared.reply.Reply.TheVariants.{Continue, Tagged, Notice, Capability, Enabled, List as Listed, Flags, Exists, Expunge, Fetch, Other, OtherNumbered}
 use Rattle.imap_session.specs.Heard.{tag_of, is_passed}
-use Rattle.imap_link.specs.declared.kind.Kind.{Kind}
-use Rattle.imap_link.specs.declared.kind.Kind.TheVariants.{Hello, Bye, Passed, Go, Mine, Stray}
+use Rattle.imap_link.specs.declared.kind.ReplyKind.{ReplyKind}
+use Rattle.imap_link.specs.declared.kind.ReplyKind.TheVariants.{Hello, Bye, Passed, Go, Mine, Stray}
 use Rattle.imap_link.specs.ReplyKinds.{kind_of, passes, IsAwaited}
 
 pub passes_is : (tag : List ℕ) (r : Reply) → is_passed r ≡ passes (kind_of tag r)
@@ -30,7 +30,7 @@ passes_is tag (Fetch n items) = refl
 passes_is tag (Other word text) = refl
 passes_is tag (OtherNumbered n event text) = refl
 
-awaited_not : (k : Kind) → IsAwaited k → passes k ≡ true → ⊥
+awaited_not : (k : ReplyKind) → IsAwaited k → passes k ≡ true → ⊥
 awaited_not Hello a p = a
 awaited_not Bye a p = a
 awaited_not Passed a p = a

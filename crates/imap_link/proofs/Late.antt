@@ -12,7 +12,7 @@ use Rattle.reply_buf.specs.Fronts.{Spells, NoneWhole, IsWhole}
 use Rattle.reply_buf.proofs.Searched.{none_empty}
 use Rattle.imap_link.specs.declared.uses.Uses.{Uses}
 use Rattle.imap_link.specs.UsedReplies.{is_used}
-use Rattle.imap_link.specs.Buffers.{WholeRead, OneMore, Behind, AreRead, IsBounded}
+use Rattle.imap_link.specs.Buffers.{WholeRead, OneMore, Following, AreRead, IsBounded}
 
 pub more_may : (a b : ℕ) (bytes : List ℕ) → a ≤ b → OneMore a bytes → OneMore b bytes
 more_may a b bytes le o = record { begun = o.begun; piece = o.piece; parts = o.parts; none = o.none; short = (let s = o.short in omega (arith, s, le)) }
@@ -28,12 +28,12 @@ late_more most bytes now piece e short none = record { begun = bytes; piece = pi
 pub held_reads : (len : ℕ) (b new : Buffer) → new ≡ reads len b → held_in new ≡ held_in b
 held_reads len b new e = ap held_in e ∙ append_assoc b.read (take len b.unread) (drop len b.unread) ∙ ap (λ (l : List ℕ). b.read ++ l) (take-append-drop len b.unread)
 
-pub behind_now : (front : List ℕ) (most : ℕ) (b new : Buffer) → held_in new ≡ held_in b → b.read ≡ front → OneMore most b.unread → Behind front most (held_in new)
-behind_now front most b new same e o = record { more = b.unread; parts = same ∙ ap (λ (l : List ℕ). l ++ b.unread) e; late = o }
+pub after_now : (front : List ℕ) (most : ℕ) (b new : Buffer) → held_in new ≡ held_in b → b.read ≡ front → OneMore most b.unread → Following front most (held_in new)
+after_now front most b new same e o = record { more = b.unread; parts = same ∙ ap (λ (l : List ℕ). l ++ b.unread) e; late = o }
 
 -- where a whole reply was read, only what came with its end is left
-pub behind_short : (most : ℕ) (bytes : List ℕ) (len : ℕ) → OneMore most bytes → IsWhole bytes len → length (drop len bytes) ≤ most
-behind_short most bytes len o b =
+pub after_short : (most : ℕ) (bytes : List ℕ) (len : ℕ) → OneMore most bytes → IsWhole bytes len → length (drop len bytes) ≤ most
+after_short most bytes len o b =
     elim (cases_lt (length o.begun) len) [
       | inl lt ↦ (let e = ap length o.parts in let s = o.short in let w = b.within in omega (arith, e, s, w, lt, length-append o.begun o.piece, length-drop len bytes))
       | inr le ↦
@@ -51,7 +51,7 @@ filter_read : (uses : Uses) (rs : List Reply) → AreRead uses (filter (is_used 
 filter_read uses [] = tt
 filter_read uses (r ∷ rs) = read_if uses (is_used uses r) r (filter (is_used uses) rs) refl (filter_read uses rs)
 
-pub bounded_by : (uses : Uses) (most : ℕ) (heard : Buffer) (rs : List Reply) (kept : List ℕ) → AreReplies (filter (is_used uses) rs) kept → Behind kept most (held_in heard) → IsBounded uses most heard
+pub bounded_by : (uses : Uses) (most : ℕ) (heard : Buffer) (rs : List Reply) (kept : List ℕ) → AreReplies (filter (is_used uses) rs) kept → Following kept most (held_in heard) → IsBounded uses most heard
 bounded_by uses most heard rs kept a b = record { replies = filter (is_used uses) rs; read = filter_read uses rs; kept = kept; spelled = a; late = b }
 
 -- nothing was heard since all that was read was forgotten
@@ -63,16 +63,16 @@ bounded_forgotten uses before heard e =
 
 -- ---- while replies are heard
 
-behind_may : (front : List ℕ) (a b : ℕ) (bytes : List ℕ) → a ≤ b → Behind front a bytes → Behind front b bytes
-behind_may front a b bytes le d = record { more = d.more; parts = d.parts; late = more_may a b d.more le d.late }
+after_may : (front : List ℕ) (a b : ℕ) (bytes : List ℕ) → a ≤ b → Following front a bytes → Following front b bytes
+after_may front a b bytes le d = record { more = d.more; parts = d.parts; late = more_may a b d.more le d.late }
 
 pub bounded_on : (uses : Uses) (most : ℕ) (before heard : Buffer) (rs : List Reply) → length before.unread ≤ max 4096 most → AreReplies (filter (is_used uses) rs) before.read
-    → Behind before.read (max 4096 (length before.unread)) (held_in heard) → IsBounded uses (max 4096 most) heard
+    → Following before.read (max 4096 (length before.unread)) (held_in heard) → IsBounded uses (max 4096 most) heard
 bounded_on uses most before heard rs short a b =
-    bounded_by uses (max 4096 most) heard rs before.read a (behind_may before.read (max 4096 (length before.unread)) (max 4096 most) (held_in heard) (omega (arith, short)) b)
+    bounded_by uses (max 4096 most) heard rs before.read a (after_may before.read (max 4096 (length before.unread)) (max 4096 most) (held_in heard) (omega (arith, short)) b)
 
 -- what is left after a whole reply
-unread_short : (most : ℕ) (old : List ℕ) (b : Buffer) (len : ℕ) (G : List ℕ → Type 0) → WholeRead len G old b.read → Behind old most (held_in b) → length b.unread ≤ most
+unread_short : (most : ℕ) (old : List ℕ) (b : Buffer) (len : ℕ) (G : List ℕ → Type 0) → WholeRead len G old b.read → Following old most (held_in b) → length b.unread ≤ most
 unread_short most old b len G w d =
     let same : w.text ++ b.unread ≡ d.more =
     sym (drop-appended old (held_in b) (w.text ++ b.unread) (ap (λ (l : List ℕ). l ++ b.unread) w.read ∙ append_assoc old w.text b.unread)) ∙ drop-appended old (held_in b) d.more d.parts in
@@ -82,10 +82,10 @@ unread_short most old b len G w d =
       within = omega (arith, length-append w.text b.unread);
       spells = subst (Spells w.reply) (sym (take-append_seam w.text b.unread)) w.spells;
     }) in
-    subst (λ (l : List ℕ). length l ≤ most) (drop-appended w.text d.more b.unread (sym same)) (behind_short most d.more (length w.text) d.late whole)
+    subst (λ (l : List ℕ). length l ≤ most) (drop-appended w.text d.more b.unread (sym same)) (after_short most d.more (length w.text) d.late whole)
 
 pub left_short : (most : ℕ) (before heard now : Buffer) (len : ℕ) (G : List ℕ → Type 0) → length before.unread ≤ max 4096 most → WholeRead len G before.read heard.read
-    → Behind before.read (max 4096 (length before.unread)) (held_in heard) → now.unread ≡ heard.unread → length now.unread ≤ max 4096 most
+    → Following before.read (max 4096 (length before.unread)) (held_in heard) → now.unread ≡ heard.unread → length now.unread ≤ max 4096 most
 left_short most before heard now len G short w b same =
     let some = unread_short (max 4096 (length before.unread)) before.read heard len G w b in
     let e = ap length same in
@@ -94,4 +94,4 @@ left_short most before heard now len G short w b same =
 -- nothing whole was read
 pub bounded_still : (uses : Uses) (most : ℕ) (heard : Buffer) (rs : List Reply) → length heard.unread ≤ max 4096 most → AreReplies (filter (is_used uses) rs) heard.read → IsBounded uses (max 4096 most) heard
 bounded_still uses most heard rs short a =
-    bounded_by uses (max 4096 most) heard rs heard.read a (behind_now heard.read (max 4096 most) heard heard refl refl (first_more (max 4096 most) heard.unread short))
+    bounded_by uses (max 4096 most) heard rs heard.read a (after_now heard.read (max 4096 most) heard heard refl refl (first_more (max 4096 most) heard.unread short))

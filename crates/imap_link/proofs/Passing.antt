@@ -11,14 +11,14 @@ use Rattle.imap_session.specs.Lines.{Line}
 use Rattle.imap_session.specs.Ends.{Ends, ends_of, Hears}
 use Rattle.law_session.proofs.Others.{quiet-trans}
 use Rattle.reply_buf.specs.Buffers.{Buffer, drops_last}
-use Rattle.imap_link.specs.declared.kind.Kind.{Kind}
-use Rattle.imap_link.specs.declared.kind.Kind.TheVariants.{Mine}
+use Rattle.imap_link.specs.declared.kind.ReplyKind.{ReplyKind}
+use Rattle.imap_link.specs.declared.kind.ReplyKind.TheVariants.{Mine}
 use Rattle.imap_link.specs.declared.uses.Uses.{Uses}
-use Rattle.imap_link.specs.declared.wire.Told.{Told}
+use Rattle.imap_link.specs.declared.wire.LastReply.{LastReply}
 use Rattle.imap_link.specs.ReplyKinds.{kind_of, passes}
 use Rattle.imap_link.specs.UsedReplies.{is_used, messages_read}
-use Rattle.imap_link.specs.Sinks.{telling}
-use Rattle.imap_link.specs.Buffers.{WholeRead, Reads, EndsIn, Passed, Came, GoesOn, IsTold}
+use Rattle.imap_link.specs.Sinks.{reporting}
+use Rattle.imap_link.specs.Buffers.{WholeRead, Reads, EndsIn, Passed, Came, GoesOn, IsReported}
 use Rattle.imap_link.proofs.KindLemmas.{passes_is, mine_tagged}
 use Rattle.imap_link.proofs.Text.{replies-join, untagged-more}
 
@@ -65,16 +65,16 @@ goes_then a b c x y g h = record {
 
 -- nothing was read so far
 pub passed_none : (uses : Uses) (T : List Reply → Type 0) (honest : Type 0) (ends : Ends) (read : List ℕ) → read ≡ [] → T [] → Passed uses T read (λ text. honest → GoesOn ends ends text)
-passed_none uses T honest ends read e t = record { replies = []; untagged = tt; text = []; spelled = refl; used = e; told = t; goes = λ h. goes_first ends }
+passed_none uses T honest ends read e t = record { replies = []; untagged = tt; text = []; spelled = refl; used = e; reported = t; goes = λ h. goes_first ends }
 
 pub one : (len : ℕ) (G : List ℕ → Type 0) (old new : List ℕ) (w : WholeRead len G old new) → AreReplies (w.reply ∷ []) w.text
 one len G old new w = record { front = w.text; back = []; parts = sym (append-nil w.text); first = w.spells.spelled; fits = w.spells.fits; others = refl }
 
-telling_more : (T : List Reply → Type 0) (rs : List Reply) (r : Reply) → T (telling rs ++ telling (r ∷ [])) → T (telling (rs ++ r ∷ []))
-telling_more T rs r h = subst T (sym (filter-append (is_used messages_read) rs (r ∷ []))) h
+reporting_more : (T : List Reply → Type 0) (rs : List Reply) (r : Reply) → T (reporting rs ++ reporting (r ∷ [])) → T (reporting (rs ++ r ∷ []))
+reporting_more T rs r h = subst T (sym (filter-append (is_used messages_read) rs (r ∷ []))) h
 
-module _ (uses : Uses) (tag : List ℕ) (kind : Kind) (used : Bool) (len : ℕ) (R : Reply → Type 0) (Goes : List ℕ → Type 0) (old new : List ℕ) (b : Reads uses tag kind used len R Goes old new)
-    (T U : List Reply → Type 0) (tells : (told : List Reply) → T told → R b.whole.reply → U (told ++ telling (b.whole.reply ∷ [])))
+module _ (uses : Uses) (tag : List ℕ) (kind : ReplyKind) (used : Bool) (len : ℕ) (R : Reply → Type 0) (Goes : List ℕ → Type 0) (old new : List ℕ) (b : Reads uses tag kind used len R Goes old new)
+    (T U : List Reply → Type 0) (states : (reported : List Reply) → T reported → R b.whole.reply → U (reported ++ reporting (b.whole.reply ∷ [])))
     (G H : List ℕ → Type 0) (goes : (x y : List ℕ) → G x → Goes y → H (x ++ y)) (p : Passed uses T old G) where
   abbrev reply : Reply
   reply = b.whole.reply
@@ -82,8 +82,8 @@ module _ (uses : Uses) (tag : List ℕ) (kind : Kind) (used : Bool) (len : ℕ) 
   abbrev text : List ℕ
   text = b.whole.text
 
-  told : U (telling (p.replies ++ reply ∷ []))
-  told = telling_more U p.replies reply (tells (telling p.replies) p.told b.told)
+  reported : U (reporting (p.replies ++ reply ∷ []))
+  reported = reporting_more U p.replies reply (states (reporting p.replies) p.reported b.reported)
 
   spelled : AreReplies (p.replies ++ reply ∷ []) (p.text ++ text)
   spelled = replies-join p.replies (reply ∷ []) p.text text p.spelled (one len Goes old new b.whole)
@@ -106,7 +106,7 @@ module _ (uses : Uses) (tag : List ℕ) (kind : Kind) (used : Bool) (len : ℕ) 
     text = p.text ++ text;
     spelled = spelled;
     used = subst (AreReplies (filter (is_used uses) (p.replies ++ reply ∷ []))) (sym is) used_more;
-    told = told;
+    reported = reported;
     goes = goes p.text text p.goes b.whole.goes;
   }
 
@@ -120,7 +120,7 @@ module _ (uses : Uses) (tag : List ℕ) (kind : Kind) (used : Bool) (len : ℕ) 
     text = p.text ++ text;
     spelled = spelled;
     used = subst (AreReplies (filter (is_used uses) p.replies ++ reply ∷ [])) (sym b.whole.read) (kept_by true);
-    told = told;
+    reported = reported;
     goes = goes p.text text p.goes b.whole.goes;
   }
 
@@ -138,30 +138,30 @@ unread_same true len b now e = ap (λ (x : Buffer). x.unread) e
 unread_same false len b now e = ap (λ (x : Buffer). x.unread) e
 
 -- the same, of a link that behaved as specified and a sink that took the reply
-module _ {S : Type 0} (took : S → List Reply → S → Type 0) (s0 s1 s2 : S) (was_honest honest : Type 0) (was : honest → was_honest) (first mid now : Ends) (uses : Uses) (tag : List ℕ) (kind : Kind) (used : Bool) (len : ℕ)
-    (old new : List ℕ) (b : Reads uses tag kind used len (λ reply. (s : S) (told : List Reply) → took s told s1 → took s (told ++ telling (reply ∷ [])) s2) (λ text. honest → GoesOn mid now text) old new)
-    (p : Passed uses (λ told. took s0 told s1) old (λ text. was_honest → GoesOn first mid text)) where
+module _ {S : Type 0} (took : S → List Reply → S → Type 0) (s0 s1 s2 : S) (was_honest honest : Type 0) (was : honest → was_honest) (first mid now : Ends) (uses : Uses) (tag : List ℕ) (kind : ReplyKind) (used : Bool) (len : ℕ)
+    (old new : List ℕ) (b : Reads uses tag kind used len (λ reply. (s : S) (reported : List Reply) → took s reported s1 → took s (reported ++ reporting (reply ∷ [])) s2) (λ text. honest → GoesOn mid now text) old new)
+    (p : Passed uses (λ reported. took s0 reported s1) old (λ text. was_honest → GoesOn first mid text)) where
   goes_on : (x y : List ℕ) → (was_honest → GoesOn first mid x) → (honest → GoesOn mid now y) → honest → GoesOn first now (x ++ y)
   goes_on x y g k h = goes_then first mid now x y (g (was h)) (k h)
 
-  passed_on : (read : List ℕ) → read ≡ old ++ (if used then b.whole.text else []) → passes kind ≡ true → Passed uses (λ told. took s0 told s2) read (λ text. honest → GoesOn first now text)
+  passed_on : (read : List ℕ) → read ≡ old ++ (if used then b.whole.text else []) → passes kind ≡ true → Passed uses (λ reported. took s0 reported s2) read (λ text. honest → GoesOn first now text)
   passed_on read is e =
-      passed_more uses tag kind used len _ (λ text. honest → GoesOn mid now text) old new b (λ told. took s0 told s1) (λ told. took s0 told s2) (λ told t r. r s0 told t)
+      passed_more uses tag kind used len _ (λ text. honest → GoesOn mid now text) old new b (λ reported. took s0 reported s1) (λ reported. took s0 reported s2) (λ reported t r. r s0 reported t)
       (λ text. was_honest → GoesOn first mid text) (λ text. honest → GoesOn first now text) goes_on p read is e
 
-  pub came_on : (P : Reply → Type 0) → P b.whole.reply → Came uses (λ told. took s0 told s2) P new (λ text. honest → GoesOn first now text)
+  pub came_on : (P : Reply → Type 0) → P b.whole.reply → Came uses (λ reported. took s0 reported s2) P new (λ text. honest → GoesOn first now text)
   came_on P is =
-      came_last uses tag kind used len _ (λ text. honest → GoesOn mid now text) old new b (λ told. took s0 told s1) (λ told. took s0 told s2) (λ told t r. r s0 told t)
+      came_last uses tag kind used len _ (λ text. honest → GoesOn mid now text) old new b (λ reported. took s0 reported s1) (λ reported. took s0 reported s2) (λ reported t r. r s0 reported t)
       (λ text. was_honest → GoesOn first mid text) (λ text. honest → GoesOn first now text) goes_on p P is
 
 -- and then kept or dropped
-pub passed_here : {S : Type 0} (took : S → List Reply → S → Type 0) (s0 s1 s2 : S) (was_honest honest : Type 0) (was : honest → was_honest) (first mid : Ends) (line : Line) (uses : Uses) (tag : List ℕ) (kind : Kind) (used : Bool) (len : ℕ)
+pub passed_here : {S : Type 0} (took : S → List Reply → S → Type 0) (s0 s1 s2 : S) (was_honest honest : Type 0) (was : honest → was_honest) (first mid : Ends) (line : Line) (uses : Uses) (tag : List ℕ) (kind : ReplyKind) (used : Bool) (len : ℕ)
     (old : List ℕ) (heard now : Buffer) → now ≡ (if used then heard else drops_last len heard)
-    → Reads uses tag kind used len (λ reply. (s : S) (told : List Reply) → took s told s1 → took s (told ++ telling (reply ∷ [])) s2) (λ text. honest → GoesOn mid (ends_of line heard.unread) text) old heard.read
-    → Passed uses (λ told. took s0 told s1) old (λ text. was_honest → GoesOn first mid text) → passes kind ≡ true
-    → Passed uses (λ told. took s0 told s2) now.read (λ text. honest → GoesOn first (ends_of line now.unread) text)
+    → Reads uses tag kind used len (λ reply. (s : S) (reported : List Reply) → took s reported s1 → took s (reported ++ reporting (reply ∷ [])) s2) (λ text. honest → GoesOn mid (ends_of line heard.unread) text) old heard.read
+    → Passed uses (λ reported. took s0 reported s1) old (λ text. was_honest → GoesOn first mid text) → passes kind ≡ true
+    → Passed uses (λ reported. took s0 reported s2) now.read (λ text. honest → GoesOn first (ends_of line now.unread) text)
 passed_here took s0 s1 s2 was_honest honest was first mid line uses tag kind used len old heard now is b p e =
-    subst (λ (l : List ℕ). Passed uses (λ told. took s0 told s2) now.read (λ text. honest → GoesOn first (ends_of line l) text)) (sym (unread_same used len heard now is))
+    subst (λ (l : List ℕ). Passed uses (λ reported. took s0 reported s2) now.read (λ text. honest → GoesOn first (ends_of line l) text)) (sym (unread_same used len heard now is))
     (passed_on took s0 s1 s2 was_honest honest was first mid (ends_of line heard.unread) uses tag kind used len old heard.read b p now.read
     (kept_or used len (λ text. honest → GoesOn mid (ends_of line heard.unread) text) old heard now b.whole is) e)
 
@@ -176,13 +176,13 @@ abbrev pub text_of : (uses : Uses) (T : List Reply → Type 0) (P : Reply → Ty
 text_of uses T P kept G a = record { passed = a.passed; untagged = a.untagged; last = a.last; is = a.is; spelled = a.spelled }
 
 pub came_at : (uses : Uses) (T : List Reply → Type 0) (P : Reply → Type 0) (kept : List ℕ) (H : Type 0) (G : List ℕ → Type 0) → Came uses T P kept (λ text. H → G text) → H → Came uses T P kept G
-came_at uses T P kept H G a h = record { passed = a.passed; untagged = a.untagged; last = a.last; is = a.is; text = a.text; spelled = a.spelled; used = a.used; told = a.told; goes = a.goes h }
+came_at uses T P kept H G a h = record { passed = a.passed; untagged = a.untagged; last = a.last; is = a.is; text = a.text; spelled = a.spelled; used = a.used; reported = a.reported; goes = a.goes h }
 
 -- what the replies reported
-pub came_told : (uses : Uses) (T : List Reply → Type 0) (tag : List ℕ) (was is : Told) (read : List ℕ) (H : Type 0) (old new : Ends) → was ≡ is
-    → Came uses T (IsTold tag was) read (λ text. H → GoesOn old new text) → H → Came uses T (IsTold tag is) read (GoesOn old new)
-came_told uses T tag was is read H old new e a h =
-    subst (λ (t : Told). Came uses T (IsTold tag t) read (GoesOn old new)) e (came_at uses T (IsTold tag was) read H (GoesOn old new) a h)
+pub came_reported : (uses : Uses) (T : List Reply → Type 0) (tag : List ℕ) (was is : LastReply) (read : List ℕ) (H : Type 0) (old new : Ends) → was ≡ is
+    → Came uses T (IsReported tag was) read (λ text. H → GoesOn old new text) → H → Came uses T (IsReported tag is) read (GoesOn old new)
+came_reported uses T tag was is read H old new e a h =
+    subst (λ (t : LastReply). Came uses T (IsReported tag t) read (GoesOn old new)) e (came_at uses T (IsReported tag was) read H (GoesOn old new) a h)
 
 pub came_hears : (uses : Uses) (T : List Reply → Type 0) (P : Reply → Type 0) (kept : List ℕ) (old new : Ends) (a : Came uses T P kept (GoesOn old new)) → Hears (a.passed ++ a.last ∷ []) old new
 came_hears uses T P kept old new a = record { stays = a.goes.stays; bytes = a.text; spelled = a.spelled; heard = a.goes.coming }

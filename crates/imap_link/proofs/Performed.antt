@@ -10,12 +10,12 @@ use Rattle.imap_replies.specs.declared.response.ResponseText.TheVariants.{Coded}
 use Rattle.imap_replies.specs.declared.reply.Reply.{Reply}
 use Rattle.imap_replies.specs.declared.reply.Reply.TheVariants.{Notice, Exists}
 use Rattle.imap_session.specs.Mailboxes.{FarMailbox}
-use Rattle.imap_session.specs.Servers.{Server, selected, exists_of, news, told}
+use Rattle.imap_session.specs.Servers.{Server, selected, exists_of, news, reported}
 use Rattle.imap_session.specs.Steps.{Step}
 use Rattle.imap_session.specs.Heard.{IsHeardAs, AreHeardAs}
 use Rattle.imap_session.specs.Ends.{Did, DidSo, DidCommand, MayHave}
 use Rattle.law_session.proofs.HeardAs.{reads_same}
-use Rattle.law_session.proofs.Telling.{step_keeps}
+use Rattle.law_session.proofs.Reporting.{step_keeps}
 use Rattle.imap_link.specs.declared.uses.Uses.{Uses}
 use Rattle.imap_link.specs.UsedReplies.{is_used}
 use Rattle.imap_link.specs.Exchanges.{Performs, PerformsSo}
@@ -47,45 +47,45 @@ module _ (keywords : List Keyword) where
     used : (uses : Uses) → filter (is_used uses) heard ≡ filter (is_used uses) replies
     heard_as : AreHeardAs keywords replies own
 
-  behind_exists : (m : Option FarMailbox) (heard own : List Reply) → AreHeardAs keywords heard (exists_of m ++ own) → Own heard own
-  behind_exists None heard own l = record { replies = heard; used = λ uses. refl; heard_as = l }
-  behind_exists (Some m) [] own l = absurd l
-  behind_exists (Some m) (h ∷ hs) own l = record {
+  after_exists : (m : Option FarMailbox) (heard own : List Reply) → AreHeardAs keywords heard (exists_of m ++ own) → Own heard own
+  after_exists None heard own l = record { replies = heard; used = λ uses. refl; heard_as = l }
+  after_exists (Some m) [] own l = absurd l
+  after_exists (Some m) (h ∷ hs) own l = record {
     replies = hs;
     used = λ uses. ap (λ (b : Bool). if b then h ∷ filter (is_used uses) hs else filter (is_used uses) hs) (used_same uses h (Exists (length m.store.messages)) l.0);
     heard_as = l.1;
   }
 
-  behind_news : (b : Bool) (m : Option FarMailbox) (heard own : List Reply) → AreHeardAs keywords heard ((if b then exists_of m else []) ++ own) → Own heard own
-  behind_news true m heard own l = behind_exists m heard own l
-  behind_news false m heard own l = record { replies = heard; used = λ uses. refl; heard_as = l }
+  after_news : (b : Bool) (m : Option FarMailbox) (heard own : List Reply) → AreHeardAs keywords heard ((if b then exists_of m else []) ++ own) → Own heard own
+  after_news true m heard own l = after_exists m heard own l
+  after_news false m heard own l = record { replies = heard; used = λ uses. refl; heard_as = l }
 
 -- ---- the command was done
 
-is_told : (s : Server) → s.has_news ≡ false → s ≡ told s
-is_told s e = ap (λ (b : Bool). record s { has_news = b }) e
+is_reported : (s : Server) → s.has_news ≡ false → s ≡ reported s
+is_reported s e = ap (λ (b : Bool). record s { has_news = b }) e
 
 module _ (c : Command) (old new : Server) where
-  performed : (said : List Reply) (d : Did c [] old said new) → Step (told old) c d.own (told new)
+  performed : (said : List Reply) (d : Did c [] old said new) → Step (reported old) c d.own (reported new)
   performed said d =
-      let here : Step (told old) c d.own d.after = subst (λ (s : Server). Step (told s) c d.own d.after) d.quiet d.step in
-      let kept : d.after.has_news ≡ false = step_keeps (told old) c.tag c.request d.own d.after here in
-      subst (Step (told old) c d.own) (is_told d.after kept ∙ ap told (sym d.later)) here
+      let here : Step (reported old) c d.own d.after = subst (λ (s : Server). Step (reported s) c d.own d.after) d.quiet d.step in
+      let kept : d.after.has_news ≡ false = step_keeps (reported old) c.tag c.request d.own d.after here in
+      subst (Step (reported old) c d.own) (is_reported d.after kept ∙ ap reported (sym d.later)) here
 
-  pub may_perform : MayHave (DidCommand c) old new → MayHave (Performs c) (told old) (told new)
-  may_perform (inl q) = inl (ap told q)
+  pub may_perform : MayHave (DidCommand c) old new → MayHave (Performs c) (reported old) (reported new)
+  may_perform (inl q) = inl (ap reported q)
   may_perform (inr d) = inr (record { said = d.did.own; step = performed d.said d.did })
 
   -- whatever a call keeps, of the replies that were heard it keeps those that it keeps of these
   pub record HasPerformed (heard : List Reply) : Type 0 where
     pub replies : List Reply
     pub used : (uses : Uses) → filter (is_used uses) heard ≡ filter (is_used uses) replies
-    pub did : PerformsSo c replies (told old) (told new)
+    pub did : PerformsSo c replies (reported old) (reported new)
 
   pub has_performed : (heard : List Reply) → DidSo c heard old new → HasPerformed heard
   has_performed heard d =
       let said : d.said ≡ news old ++ d.did.own = d.did.replies_are ∙ ap (λ (s : Server). news s ++ d.did.own) d.did.quiet in
-      let own = behind_news old.keywords old.has_news (selected old) heard d.did.own (subst (AreHeardAs old.keywords heard) said d.heard_as) in
+      let own = after_news old.keywords old.has_news (selected old) heard d.did.own (subst (AreHeardAs old.keywords heard) said d.heard_as) in
       record {
         replies = own.replies;
         used = own.used;

@@ -7,14 +7,14 @@ use Rattle.imap_session.specs.Lines.{Stays}
 use Rattle.imap_session.specs.Ends.{Ends}
 use Rattle.reply_buf.specs.Fronts.{Spells, NoneWhole}
 use Rattle.reply_buf.specs.Buffers.{Buffer, held_in}
-use Rattle.imap_link.specs.declared.kind.Kind.{Kind}
-use Rattle.imap_link.specs.declared.kind.Kind.TheVariants.{Go, Mine, Bye}
-use Rattle.imap_link.specs.declared.wire.Told.{Told}
-use Rattle.imap_link.specs.declared.wire.Told.TheVariants as tells
+use Rattle.imap_link.specs.declared.kind.ReplyKind.{ReplyKind}
+use Rattle.imap_link.specs.declared.kind.ReplyKind.TheVariants.{Go, Mine, Bye}
+use Rattle.imap_link.specs.declared.wire.LastReply.{LastReply}
+use Rattle.imap_link.specs.declared.wire.LastReply.TheVariants as states
 use Rattle.imap_link.specs.declared.uses.Uses.{Uses}
 use Rattle.imap_link.specs.ReplyKinds.{kind_of, IsAwaited}
 use Rattle.imap_link.specs.UsedReplies.{is_used}
-use Rattle.imap_link.specs.Sinks.{telling}
+use Rattle.imap_link.specs.Sinks.{reporting}
 
 -- ---- one reply
 
@@ -28,11 +28,11 @@ pub record WholeRead (len : ℕ) (Goes : List ℕ → Type 0) (old new : List �
   pub goes : Goes text
 
 -- the same, of this kind; whether the call keeps it; and T holds of it
-pub record Reads (uses : Uses) (tag : List ℕ) (kind : Kind) (used : Bool) (len : ℕ) (T : Reply → Type 0) (Goes : List ℕ → Type 0) (old new : List ℕ) : Type 0 where
+pub record Reads (uses : Uses) (tag : List ℕ) (kind : ReplyKind) (used : Bool) (len : ℕ) (T : Reply → Type 0) (Goes : List ℕ → Type 0) (old new : List ℕ) : Type 0 where
   pub whole : WholeRead len Goes old new
   pub is : kind_of tag whole.reply ≡ kind
   pub used_is : is_used uses whole.reply ≡ used
-  pub told : T whole.reply
+  pub reported : T whole.reply
 
 -- this text was heard: what is to be heard now follows it
 pub record GoesOn (old new : Ends) (text : List ℕ) : Type 0 where
@@ -61,13 +61,13 @@ abbrev pub IsGoText : (tag : List ℕ) → List ℕ → Type 0
 IsGoText tag = EndsIn (λ r. kind_of tag r ≡ Go)
 
 -- what was read ends in what was waited for
-abbrev pub Tells : (tag read : List ℕ) → Told → Type 0
-Tells tag read (tells.Answer status) = IsAnswerText tag status read
-Tells tag read tells.Go = IsGoText tag read
+abbrev pub Reports : (tag read : List ℕ) → LastReply → Type 0
+Reports tag read (states.Answer status) = IsAnswerText tag status read
+Reports tag read states.Go = IsGoText tag read
 
-abbrev pub IsTold : (tag : List ℕ) → Told → Reply → Type 0
-IsTold tag (tells.Answer status) reply = kind_of tag reply ≡ Mine status
-IsTold tag tells.Go reply = kind_of tag reply ≡ Go
+abbrev pub IsReported : (tag : List ℕ) → LastReply → Reply → Type 0
+IsReported tag (states.Answer status) reply = kind_of tag reply ≡ Mine status
+IsReported tag states.Go reply = kind_of tag reply ≡ Go
 
 -- the server has said `* BYE`
 abbrev pub SaysBye : (tag read : List ℕ) → Type 0
@@ -87,7 +87,7 @@ pub record Passed (uses : Uses) (T : List Reply → Type 0) (kept : List ℕ) (G
   pub text : List ℕ
   pub spelled : AreReplies replies text
   pub used : AreReplies (filter (is_used uses) replies) kept
-  pub told : T (telling replies)
+  pub reported : T (reporting replies)
   pub goes : Goes text
 
 -- the same, and then one of which P holds
@@ -99,7 +99,7 @@ pub record Came (uses : Uses) (T : List Reply → Type 0) (P : Reply → Type 0)
   pub text : List ℕ
   pub spelled : AreReplies (passed ++ last ∷ []) text
   pub used : AreReplies (filter (is_used uses) passed ++ last ∷ []) kept
-  pub told : T (telling (passed ++ last ∷ []))
+  pub reported : T (reporting (passed ++ last ∷ []))
   pub goes : Goes text
 
 -- ---- how much is kept
@@ -114,7 +114,7 @@ pub record OneMore (most : ℕ) (bytes : List ℕ) : Type 0 where
   pub short : length piece ≤ most
 
 -- such bytes follow these
-pub record Behind (front : List ℕ) (most : ℕ) (bytes : List ℕ) : Type 0 where
+pub record Following (front : List ℕ) (most : ℕ) (bytes : List ℕ) : Type 0 where
   pub more : List ℕ
   pub parts : bytes ≡ front ++ more
   pub late : OneMore most more
@@ -129,4 +129,4 @@ pub record IsBounded (uses : Uses) (most : ℕ) (heard : Buffer) : Type 0 where
   pub read : AreRead uses replies
   pub kept : List ℕ
   pub spelled : AreReplies replies kept
-  pub late : Behind kept most (held_in heard)
+  pub late : Following kept most (held_in heard)

@@ -7,16 +7,16 @@ use Rattle.imap_session.specs.Servers.{Server, NotAuthenticated, Quiet}
 use Rattle.imap_session.specs.Steps.{Step}
 use Rattle.imap_session.specs.Portions.{goes_in}
 use Rattle.imap_session.specs.Heard.{AreReplies, AreHeardAs}
-use Rattle.imap_session.specs.Lines.{Line, told_server}
+use Rattle.imap_session.specs.Lines.{Line, reported_server}
 use Rattle.imap_session.specs.Ends.{ends_of, IsAt, IsIdle, IsText, AsksAtEnd, MayHave, is_logout}
 use Rattle.imap_link.specs.declared.fault.FarFault.{FarFault}
 use Rattle.imap_link.specs.declared.fault.FarFault.TheVariants.{Stopped, Refused, Protocol, TooLong, NoRev2, ReadOnly, NoMemory}
-use Rattle.imap_link.specs.declared.wire.Told.{Told}
-use Rattle.imap_link.specs.declared.wire.Told.TheVariants as tells
+use Rattle.imap_link.specs.declared.wire.LastReply.{LastReply}
+use Rattle.imap_link.specs.declared.wire.LastReply.TheVariants as states
 use Rattle.imap_link.specs.declared.uses.Uses.{Uses}
 use Rattle.imap_link.specs.UsedReplies.{is_used, uses_of}
 use Rattle.imap_link.specs.Buffers.{IsAnswerText}
-use Rattle.imap_link.specs.Sinks.{telling}
+use Rattle.imap_link.specs.Sinks.{reporting}
 use Rattle.imap_link.specs.Outcomes.{Outcome, Never}
 
 -- Each server here is one that has reported its news, if it had any: calls skip that.
@@ -38,7 +38,7 @@ pub record Replied (c : Command) (status : Status) (T : List Reply → Type 0) (
   pub text : IsAnswerText c.tag status bytes
   pub replies : List Reply
   pub spelled : AreReplies (filter (is_used (uses_of c.request)) replies) bytes
-  pub told : T (telling replies)
+  pub reported : T (reporting replies)
   pub did : PerformsSo c replies old new
 
 -- the bytes are what is missing of the command, after what the server has read; its call reads these replies
@@ -53,7 +53,7 @@ pub record Completes (c : Command) (uses : Uses) (tag from rest : List ℕ) : Ty
 abbrev pub Exchanges : (uses : Uses) → (tag rest : List ℕ) → (T : List Reply → Type 0) → Result Status FarFault → (old : Line) (coming : List ℕ) (new : Line) (read : List ℕ) → Type 0
 Exchanges uses tag rest T result old coming new read =
     (c : Command) (from : List ℕ) → Completes c uses tag from rest → IsAt from (ends_of old coming)
-    → Outcome (λ status. Replied c status T read) Never (Performs c) result (told_server old) (told_server new)
+    → Outcome (λ status. Replied c status T read) Never (Performs c) result (reported_server old) (reported_server new)
 
 -- if it has an answer, nothing is on the way after that
 abbrev pub StaysIdle : (uses : Uses) → (tag rest : List ℕ) → (old : Line) (old_coming : List ℕ) (new : Line) (new_coming : List ℕ) → Type 0
@@ -64,22 +64,22 @@ StaysIdle uses tag rest old old_coming new new_coming =
 
 -- the server waits for the literal, and nothing is on the way after its `+`
 pub record Waits (front : List ℕ) (old new : Line) (coming : List ℕ) : Type 0 where
-  pub quiet : Quiet (told_server old) (told_server new)
+  pub quiet : Quiet (reported_server old) (reported_server new)
   pub at : IsAt front (ends_of new coming)
 
-abbrev pub AsksOr : (c : Command) (front : List ℕ) → Result Told FarFault → (old new : Line) (coming : List ℕ) → Type 0
-AsksOr c front (Ok tells.Go) old new coming = Waits front old new coming
-AsksOr c front (Ok (tells.Answer status)) old new coming = ⊥
-AsksOr c front (Err Stopped) old new coming = MayHave (Performs c) (told_server old) (told_server new)
+abbrev pub AsksOr : (c : Command) (front : List ℕ) → Result LastReply FarFault → (old new : Line) (coming : List ℕ) → Type 0
+AsksOr c front (Ok states.Go) old new coming = Waits front old new coming
+AsksOr c front (Ok (states.Answer status)) old new coming = ⊥
+AsksOr c front (Err Stopped) old new coming = MayHave (Performs c) (reported_server old) (reported_server new)
 AsksOr c front (Err Refused) old new coming = ⊥
 AsksOr c front (Err Protocol) old new coming = ⊥
 AsksOr c front (Err TooLong) old new coming = ⊥
 AsksOr c front (Err NoRev2) old new coming = ⊥
 AsksOr c front (Err ReadOnly) old new coming = ⊥
-AsksOr c front (Err NoMemory) old new coming = MayHave (Performs c) (told_server old) (told_server new)
+AsksOr c front (Err NoMemory) old new coming = MayHave (Performs c) (reported_server old) (reported_server new)
 
 -- the front of a command is sent, up to where its literal is asked for
-abbrev pub AsksFor : (front : List ℕ) → Result Told FarFault → (old : Line) (old_coming : List ℕ) (new : Line) (new_coming : List ℕ) → Type 0
+abbrev pub AsksFor : (front : List ℕ) → Result LastReply FarFault → (old : Line) (old_coming : List ℕ) (new : Line) (new_coming : List ℕ) → Type 0
 AsksFor front result old old_coming new new_coming =
     (c : Command) (rest : List ℕ) (n : ℕ) → IsText c (front ++ rest) → (rest ≡ [] → ⊥) → AsksAtEnd front n → IsIdle (ends_of old old_coming)
     → AsksOr c front result old new new_coming

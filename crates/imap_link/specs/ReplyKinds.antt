@@ -4,10 +4,10 @@ use Rattle.std.specs.Cmp.Lexicographic.{pointwise}
 use Rattle.imap_replies.specs.declared.word.NoticeKind.TheVariants as notices
 use Rattle.imap_replies.specs.declared.reply.Reply.{Reply}
 use Rattle.imap_replies.specs.declared.reply.Reply.TheVariants.{Continue, Tagged, Notice, Capability, Enabled, List as Listed, Flags, Exists, Expunge, Fetch, Other, OtherNumbered}
-use Rattle.imap_link.specs.declared.kind.Kind.{Kind}
-use Rattle.imap_link.specs.declared.kind.Kind.TheVariants.{Hello, Bye, Passed, Go, Mine, Stray}
+use Rattle.imap_link.specs.declared.kind.ReplyKind.{ReplyKind}
+use Rattle.imap_link.specs.declared.kind.ReplyKind.TheVariants.{Hello, Bye, Passed, Go, Mine, Stray}
 
-abbrev pub kind_of : (tag : List ℕ) → Reply → Kind
+abbrev pub kind_of : (tag : List ℕ) → Reply → ReplyKind
 kind_of tag (Continue text) = Go
 kind_of tag (Tagged other status text) = if pointwise nat_eq other tag then Mine status else Stray
 kind_of tag (Notice notices.Ok text) = Hello
@@ -26,7 +26,7 @@ kind_of tag (Other word text) = Passed
 kind_of tag (OtherNumbered n event text) = Passed
 
 -- the reply may stand before the tagged one
-abbrev pub passes : Kind → Bool
+abbrev pub passes : ReplyKind → Bool
 passes Hello = true
 passes Bye = true
 passes Passed = true
@@ -35,7 +35,7 @@ passes (Mine status) = false
 passes Stray = false
 
 -- it is what a sender waits for
-abbrev pub IsAwaited : Kind → Type 0
+abbrev pub IsAwaited : ReplyKind → Type 0
 IsAwaited Hello = ⊥
 IsAwaited Bye = ⊥
 IsAwaited Passed = ⊥

@@ -4,8 +4,8 @@ use Rattle.imap_replies.specs.declared.reply.Reply.{Reply}
 use Rattle.imap_link.specs.UsedReplies.{messages_read, is_used}
 
 -- those of the replies that are about messages, `+` and tagged ones
-abbrev pub telling : List Reply → List Reply
-telling replies = filter (is_used messages_read) replies
+abbrev pub reporting : List Reply → List Reply
+reporting replies = filter (is_used messages_read) replies
 
 -- nothing is said of them
 abbrev pub any_replies : List Reply → Type 0

@@ -59,15 +59,15 @@ is_of_opening codes_of.ReadOnly = true
 is_of_opening codes_of.ReadWrite = false
 is_of_opening (codes_of.Other word text) = false
 
-abbrev pub tells_opening : ResponseText → Bool
-tells_opening (Plain text) = false
-tells_opening (Coded code text) = is_of_opening code
+abbrev pub reports_opening : ResponseText → Bool
+reports_opening (Plain text) = false
+reports_opening (Coded code text) = is_of_opening code
 
 -- The call keeps this reply. It keeps `+` and tagged ones in any case.
 abbrev pub is_used : Uses → Reply → Bool
 is_used uses (Continue text) = true
 is_used uses (Tagged tag status text) = true
-is_used uses (Notice notices.Ok text) = uses.opening && tells_opening text
+is_used uses (Notice notices.Ok text) = uses.opening && reports_opening text
 is_used uses (Notice notices.No text) = false
 is_used uses (Notice notices.Bad text) = false
 is_used uses (Notice notices.Bye text) = false

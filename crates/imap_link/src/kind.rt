@@ -9,7 +9,7 @@ use wire_tokens::tag::Tag;
 
 /// What a reply is to who has sent a command.
 #[derive(Clone, Copy, PartialEq, Eq)]
-pub enum Kind {
+pub enum ReplyKind {
     /// `* OK`, with which a server greets, and which may stand before the tagged reply.
     Hello,
     /// `* BYE`: the server ends the connection.
@@ -25,21 +25,21 @@ pub enum Kind {
 }
 
 /// What the reply is to who has sent the command of this tag.
-pub(crate) fn kind_of(reply: &Reply<'_>, tag: &Tag) -> Kind
+pub(crate) fn kind_of(reply: &Reply<'_>, tag: &Tag) -> ReplyKind
     ensures { result ≡ kind_of tag.now reply.now }
 {
     match reply {
-        Reply::Continue(_) => Kind::Go,
+        Reply::Continue(_) => ReplyKind::Go,
         Reply::Tagged(other, status, _) => {
             if other.text() == tag.text() {
-                Kind::Mine(*status)
+                ReplyKind::Mine(*status)
             } else {
-                Kind::Stray
+                ReplyKind::Stray
             }
         }
-        Reply::Notice(NoticeKind::Ok, _) => Kind::Hello,
-        Reply::Notice(NoticeKind::Bye, _) => Kind::Bye,
-        Reply::Notice(NoticeKind::Preauth, _) => Kind::Stray,
-        _ => Kind::Passed,
+        Reply::Notice(NoticeKind::Ok, _) => ReplyKind::Hello,
+        Reply::Notice(NoticeKind::Bye, _) => ReplyKind::Bye,
+        Reply::Notice(NoticeKind::Preauth, _) => ReplyKind::Stray,
+        _ => ReplyKind::Passed,
     }
 }

@@ -5,13 +5,13 @@ ghost use Rattle.mailcore.specs.CopyPieces.{text_left};
 ghost use Rattle.wire_reader.specs.Spelling.{crlf};
 ghost use Rattle.imap_replies.specs.declared.reply.Reply.{Reply};
 ghost use Rattle.imap_session.specs.Servers.{Quiet};
-ghost use Rattle.imap_session.specs.Lines.{told_server};
+ghost use Rattle.imap_session.specs.Lines.{reported_server};
 ghost use Rattle.imap_session.specs.Ends.{IsIdle};
 ghost use Rattle.reply_buf.specs.Buffers.{held_in, drops_last};
 ghost use Rattle.reply_buf.specs.Fronts.{IsFaulty};
 ghost use Rattle.imap_link.specs.Faults.{IsStop, IsHearing};
-ghost use Rattle.imap_link.specs.Buffers.{Reads, GoesOn, Keeps, Tells, SaysBye, Expects, IsAnswerText, Came, IsTold, Behind, IsBounded};
-ghost use Rattle.imap_link.specs.Sinks.{telling, any_replies};
+ghost use Rattle.imap_link.specs.Buffers.{Reads, GoesOn, Keeps, Reports, SaysBye, Expects, IsAnswerText, Came, IsReported, Following, IsBounded};
+ghost use Rattle.imap_link.specs.Sinks.{reporting, any_replies};
 ghost use Rattle.imap_link.specs.UsedReplies.{answer_alone};
 ghost use Rattle.imap_link.specs.Outcomes.{Outcome, Never};
 ghost use Rattle.imap_link.specs.Exchanges.{Exchanges, StaysIdle, AsksFor, Restarts};
@@ -19,7 +19,7 @@ ghost use Rattle.imap_link.specs.Sending.{AfterVisits};
 ghost use Rattle.imap_link.specs.Wires.{ends_in, HearsWhole};
 
 use crate::fault::FarFault;
-use crate::kind::{Kind, kind_of};
+use crate::kind::{ReplyKind, kind_of};
 use crate::link::Link;
 use crate::sink::{NoSink, ReplySink};
 use crate::uses::Uses;
@@ -35,7 +35,7 @@ pub const PIECE: usize = 4096;
 
 /// What a sender waits for. It is the last reply of those that were read.
 #[derive(Clone, Copy, PartialEq, Eq)]
-pub enum Told {
+pub enum LastReply {
     /// The tagged reply to the command.
     Answer(Status),
     /// `+`: the literal of the command is asked for.
@@ -85,7 +85,7 @@ impl<L: Link> Wire<L> {
         ensures counts { L.stops self.old.link ≤ L.stops self.new.link }
         ensures steady { OnOk result (L.stops self.new.link ≡ L.stops self.old.link) }
         ensures quiet { L.honest self.new.link → Quiet (L.line self.old.link).end.server (L.line self.new.link).end.server }
-        ensures late { Behind self.old.heard.read (max 4096 (length self.old.heard.unread)) (held_in self.new.heard) }
+        ensures late { Following self.old.heard.read (max 4096 (length self.old.heard.unread)) (held_in self.new.heard) }
         ensures heard { IfOk result (λ len. HearsWhole L.honest L.line len self.old self.new) }
         ensures fault { IfErr result (λ fault. L.honest self.new.link → IsStop fault ⊎ IsFaulty (ends_in L.line self.old).coming) }
         ensures known { IfErr result IsHearing }
@@ -106,14 +106,14 @@ impl<L: Link> Wire<L> {
         tag: &Tag,
         uses: Uses,
         sink: &mut S,
-    ) -> Result<(Kind, bool, usize), FarFault>
+    ) -> Result<(ReplyKind, bool, usize), FarFault>
         ensures was_honest { L.honest self.new.link → L.honest self.old.link }
         ensures counts { L.stops self.old.link ≤ L.stops self.new.link }
         ensures steady { OnOk result (L.stops self.new.link ≡ L.stops self.old.link) }
         ensures quiet { L.honest self.new.link → Quiet (L.line self.old.link).end.server (L.line self.new.link).end.server }
-        ensures late { Behind self.old.heard.read (max 4096 (length self.old.heard.unread)) (held_in self.new.heard) }
+        ensures late { Following self.old.heard.read (max 4096 (length self.old.heard.unread)) (held_in self.new.heard) }
         ensures heard { IfOk result (λ r. Reads uses tag.now r.0 r.1 r.2
-            (λ reply. (first : S) (told : List Reply) → S.took first told sink.old → S.took first (told ++ telling (reply ∷ [])) sink.new)
+            (λ reply. (first : S) (reported : List Reply) → S.took first reported sink.old → S.took first (reported ++ reporting (reply ∷ [])) sink.new)
             (λ text. L.honest self.new.link → GoesOn (ends_in L.line self.old) (ends_in L.line self.new) text) self.old.heard.read self.new.heard.read) }
         ensures fault { IfErr result (λ fault. L.honest self.new.link → IsStop fault ⊎ IsFaulty (ends_in L.line self.old).coming) }
         ensures known { IfErr result IsHearing }
@@ -133,14 +133,14 @@ impl<L: Link> Wire<L> {
         ends: bool,
         uses: Uses,
         sink: &mut S,
-    ) -> Result<Told, FarFault>
+    ) -> Result<LastReply, FarFault>
         requires forgotten { self.old.heard.read ≡ [] }
         ensures was_honest { L.honest self.new.link → L.honest self.old.link }
         ensures counts { L.stops self.old.link ≤ L.stops self.new.link }
         ensures steady { OnOk result (L.stops self.new.link ≡ L.stops self.old.link) }
         ensures quiet { L.honest self.new.link → Quiet (L.line self.old.link).end.server (L.line self.new.link).end.server }
-        ensures told { IfOk result (λ told. Tells tag.now self.new.heard.read told) }
-        ensures came { IfOk result (λ told. Came uses (λ told. S.took sink.old told sink.new) (IsTold tag.now told) self.new.heard.read
+        ensures reported { IfOk result (λ reported. Reports tag.now self.new.heard.read reported) }
+        ensures came { IfOk result (λ reported. Came uses (λ reported. S.took sink.old reported sink.new) (IsReported tag.now reported) self.new.heard.read
             (λ text. L.honest self.new.link → GoesOn (ends_in L.line self.old) (ends_in L.line self.new) text)) }
         ensures fault { IfErr result (λ fault. L.honest self.new.link → Expects tag.now (ends_in L.line self.old).coming → IsStop fault) }
         ensures bounded { IsBounded uses (max 4096 (length self.old.heard.unread)) self.new.heard }
@@ -150,16 +150,16 @@ impl<L: Link> Wire<L> {
         for _ in 0..u64::MAX {
             let (kind, is_used, len) = self.hear(tag, uses, sink)?;
             match kind {
-                Kind::Hello | Kind::Passed => keep_or_drop(&mut self.heard, is_used, len),
-                Kind::Bye => {
+                ReplyKind::Hello | ReplyKind::Passed => keep_or_drop(&mut self.heard, is_used, len),
+                ReplyKind::Bye => {
                     if !ends {
                         return Err(FarFault::Stopped);
                     }
                     keep_or_drop(&mut self.heard, is_used, len);
                 }
-                Kind::Go => return Ok(Told::Go),
-                Kind::Mine(status) => return Ok(Told::Answer(status)),
-                Kind::Stray => return Err(FarFault::Protocol),
+                ReplyKind::Go => return Ok(LastReply::Go),
+                ReplyKind::Mine(status) => return Ok(LastReply::Answer(status)),
+                ReplyKind::Stray => return Err(FarFault::Protocol),
             }
         }
         Err(FarFault::NoMemory)
@@ -180,7 +180,7 @@ impl<L: Link> Wire<L> {
         ensures was_honest { L.honest self.new.link → L.honest self.old.link }
         ensures counts { L.stops self.old.link ≤ L.stops self.new.link }
         ensures steady { OnOk result (L.stops self.new.link ≡ L.stops self.old.link) }
-        ensures outcome { L.honest self.new.link → AfterVisits L.visitors (λ line. Exchanges uses tag.now rest.now (λ told. S.took sink.old told sink.new) result
+        ensures outcome { L.honest self.new.link → AfterVisits L.visitors (λ line. Exchanges uses tag.now rest.now (λ reported. S.took sink.old reported sink.new) result
             line self.old.heard.unread (L.line self.new.link) self.new.heard.read) (L.line self.old.link) }
         ensures idle { OnOk result (L.honest self.new.link → StaysIdle uses tag.now rest.now
             (L.line self.old.link) self.old.heard.unread (L.line self.new.link) self.new.heard.unread) }
@@ -192,8 +192,8 @@ impl<L: Link> Wire<L> {
         self.heard.forget();
         self.link.send(rest)?;
         match self.wait(tag, ends, uses, sink)? {
-            Told::Answer(status) => Ok(status),
-            Told::Go => Err(FarFault::Protocol),
+            LastReply::Answer(status) => Ok(status),
+            LastReply::Go => Err(FarFault::Protocol),
         }
     }
 
@@ -219,20 +219,20 @@ impl<L: Link> Wire<L> {
         self.heard.forget();
         self.link.send_copy(self.alloc, copy)?;
         match self.wait(tag, false, uses, &mut NoSink {})? {
-            Told::Answer(status) => Ok(status),
-            Told::Go => Err(FarFault::Protocol),
+            LastReply::Answer(status) => Ok(status),
+            LastReply::Go => Err(FarFault::Protocol),
         }
     }
 
     /// Sends the front of a command, up to where its literal is asked for, and waits for `+`, or for the reply to the
     /// command.
-    pub fn ask(&mut self, tag: &Tag, front: &[u8]) -> Result<Told, FarFault>
+    pub fn ask(&mut self, tag: &Tag, front: &[u8]) -> Result<LastReply, FarFault>
         ensures was_honest { L.honest self.new.link → L.honest self.old.link }
         ensures counts { L.stops self.old.link ≤ L.stops self.new.link }
         ensures steady { OnOk result (L.stops self.new.link ≡ L.stops self.old.link) }
         ensures outcome { L.honest self.new.link → AfterVisits L.visitors (λ line. AsksFor front.now result
             line self.old.heard.unread (L.line self.new.link) self.new.heard.unread) (L.line self.old.link) }
-        ensures told { IfOk result (λ told. Tells tag.now self.new.heard.read told) }
+        ensures reported { IfOk result (λ reported. Reports tag.now self.new.heard.read reported) }
         ensures bounded { IsBounded answer_alone (max 4096 (length self.old.heard.unread)) self.new.heard }
         ensures known { IfErr result IsHearing }
         ensures stopped { IsErrOf result FarFault.Stopped → (L.stops self.old.link < L.stops self.new.link) ⊎ SaysBye tag.now self.new.heard.read }
@@ -251,7 +251,7 @@ impl<L: Link> Wire<L> {
         ensures counts { L.stops self.old.link ≤ L.stops self.new.link }
         ensures steady { OnOk result (L.stops self.new.link ≡ L.stops self.old.link) }
         ensures outcome { L.honest self.new.link → Outcome (λ _. Restarts) Never Restarts result
-            (told_server (L.line self.old.link)) (told_server (L.line self.new.link)) }
+            (reported_server (L.line self.old.link)) (reported_server (L.line self.new.link)) }
         ensures idle { OnOk result (L.honest self.new.link → IsIdle (ends_in L.line self.new)) }
         ensures known { IfErr result IsHearing }
         ensures stopped { IsErrOf result FarFault.Stopped → (L.stops self.old.link < L.stops self.new.link) ⊎ SaysBye tag.now self.new.heard.read }
@@ -260,8 +260,8 @@ impl<L: Link> Wire<L> {
         self.link.reconnect()?;
         let (kind, _, _) = self.hear(tag, Uses::answer_alone(), &mut NoSink {})?;
         match kind {
-            Kind::Hello => Ok(()),
-            Kind::Bye => Err(FarFault::Stopped),
+            ReplyKind::Hello => Ok(()),
+            ReplyKind::Bye => Err(FarFault::Stopped),
             _ => Err(FarFault::Protocol),
         }
     }

@@ -56,8 +56,8 @@ unnamed_before named ms start end reach inside k d within =
     ap (λ (m : Message). named m.uid) (get_or-take start ms k d (omega arith)) ∙ reach.front k d (omega arith) (omega arith)
 
 -- from a place after the last one on
-pub unnamed_behind : (named : ℕ → Bool) (ms : List Message) (start end place : ℕ) → IsReach named ms start end → end ≤ place → All (λ (m : Message). named m.uid ≡ false) (drop place ms)
-unnamed_behind named ms start end place reach behind k d within =
+pub unnamed_after : (named : ℕ → Bool) (ms : List Message) (start end place : ℕ) → IsReach named ms start end → end ≤ place → All (λ (m : Message). named m.uid ≡ false) (drop place ms)
+unnamed_after named ms start end place reach following k d within =
     let long = length-drop place ms in
     ap (λ (m : Message). named m.uid) (get_or-drop place ms k d) ∙ reach.back (place + k) d (omega arith) (omega arith)
 
@@ -75,7 +75,7 @@ module _ (named : ℕ → Bool) (mode : StoreMode) (flags : ℕ) where
       sym (ap (λ (l : List Message). l ++ drop start ms) (none_given (take start ms) (unnamed_before named ms start end reach inside)) ∙ take-append-drop start ms)
 
   pub given_within : (ms : List Message) (start end place : ℕ) → IsReach named ms start end → end ≤ place → map (given named mode flags) (take place ms) ++ drop place ms ≡ map (given named mode flags) ms
-  given_within ms start end place reach behind =
-      ap (λ (l : List Message). map (given named mode flags) (take place ms) ++ l) (sym (none_given (drop place ms) (unnamed_behind named ms start end place reach behind)))
+  given_within ms start end place reach following =
+      ap (λ (l : List Message). map (given named mode flags) (take place ms) ++ l) (sym (none_given (drop place ms) (unnamed_after named ms start end place reach following)))
       ∙ sym (map-append (given named mode flags) (take place ms) (drop place ms))
       ∙ ap (map (given named mode flags)) (take-append-drop place ms)

@@ -1,19 +1,19 @@
 -- The mailboxes that a server keeps, as imap_session sees them.
 use Rattle.std.specs.Prelude.{◌≡◌, true, List, map, All}
-use Rattle.mailcore.specs.declared.mailbox.Mailbox.{Mailbox}
+use Rattle.mailcore.specs.declared.mailbox.StoredMailbox.{StoredMailbox}
 use Rattle.mailcore.specs.Ranges.{IsInRange}
 use Rattle.mailcore.specs.Stores.{Store, IsStore}
 use Rattle.mailcore.specs.MailboxNames.{is_mailbox_name}
 use Rattle.wire_strings.specs.Literals.{IsLiteral}
 use Rattle.imap_session.specs.Mailboxes.{FarMailbox}
 
-abbrev pub store_of : Mailbox → Store
+abbrev pub store_of : StoredMailbox → Store
 store_of m = record { validity = m.validity; next = m.next; messages = m.messages }
 
-abbrev pub far_of : Mailbox → FarMailbox
+abbrev pub far_of : StoredMailbox → FarMailbox
 far_of m = record { name = m.name; store = store_of m }
 
-abbrev pub all_of : List Mailbox → List FarMailbox
+abbrev pub all_of : List StoredMailbox → List FarMailbox
 all_of mailboxes = map far_of mailboxes
 
 -- What a server can serve: a name within the limits, UIDs that rise below the next one, numbers in their ranges, and

@@ -11,13 +11,19 @@ ghost use Rattle.imap_messages.specs.Naming.{Going};
 use crate::naming::{greatest, is_named, reach};
 use imap_commands::command::StoreMode;
 use mailcore::flags::{Flag, Flags};
-use mailcore::mailbox::{Mailbox, Message, Messages};
+use mailcore::mailbox::{Message, Messages, StoredMailbox};
 use std::alloc::Global;
 use std::mem;
 use wire_tokens::uid_set::UidSet;
 
 /// Changes the flags of those messages that the set names.
-pub fn store(alloc: Global, mailbox: &mut Mailbox, set: &UidSet, mode: StoreMode, flags: Flags)
+pub fn store(
+    alloc: Global,
+    mailbox: &mut StoredMailbox,
+    set: &UidSet,
+    mode: StoreMode,
+    flags: Flags,
+)
     requires { IsServed (far_of mailbox.old) }
     ensures store { far_of mailbox.new ≡ record (far_of mailbox.old) { store = stored mode flags set.now (store_of mailbox.old) } }
     ensures served { IsServed (far_of mailbox.new) }
@@ -54,7 +60,7 @@ fn new_flags(mode: StoreMode, old: Flags, flags: Flags) -> Flags
 }
 
 /// Removes the messages that go.
-pub fn expunge(alloc: Global, mailbox: &mut Mailbox, set: &UidSet)
+pub fn expunge(alloc: Global, mailbox: &mut StoredMailbox, set: &UidSet)
     requires { IsServed (far_of mailbox.old) }
     ensures store { far_of mailbox.new ≡ record (far_of mailbox.old) { store = swept set.now (store_of mailbox.old) } }
     ensures served { IsServed (far_of mailbox.new) }

@@ -7,7 +7,7 @@ use Rattle.wire_reader.specs.declared.stop.Kind.TheVariants.{Syntax}
 use Rattle.wire_reader.specs.declared.stop.Stop.{Stop}
 use Rattle.wire_reader.specs.Reading.{◌>>=◌}
 use Rattle.wire_reader.specs.Machine.{run, run_next, run_end, text_go, text_out}
-use Rattle.wire_reader.specs.declared.side.Side.TheVariants.{Replies}
+use Rattle.wire_reader.specs.declared.side.Speaker.TheVariants.{Replies}
 use Rattle.wire_reader.specs.declared.stop.Stop.TheVariants.{Fails}
 use Rattle.wire_reader.proofs.Reader.{Open, stops, Reader}
 use Rattle.wire_tokens.specs.Atoms.{is_atom_byte, AtomText, atom_at}

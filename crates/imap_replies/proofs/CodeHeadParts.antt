@@ -2,7 +2,7 @@
 use Rattle.std.proofs.Common.{◌≡◌, ℕ, ◌<◌, true, ltb, List, [], ◌∷◌, length, map, Option, None, Some, refl, sym, ap, subst, ◌∙◌, arith}
 use Rattle.std.specs.List.{list_all}
 use Rattle.std.proofs.lemmas.Bool.{ltb-true}
-use Rattle.wire_reader.specs.declared.side.Side.{Side}
+use Rattle.wire_reader.specs.declared.side.Speaker.{Speaker}
 use Rattle.wire_reader.specs.Spelling.{upper}
 use Rattle.wire_reader.specs.Machine.{text_go}
 use Rattle.wire_reader.proofs.Reader.{Open}
@@ -88,5 +88,5 @@ from_code (heads.Other a) text h =
     subst (λ (x : List ℕ). Decided Short code_of (heads.Other a) x) (sym h.0)
     (record { each = o.atom.each; fits = o.atom.most; is = code_is a o.atom.some ∙ ap (λ (w : Option CodeWord). Some (code_by a w)) o.other })
 
-pub code_head_part : {side : Side} → Part side true (Open is_atom_byte) CodeHeadText code_head_at
+pub code_head_part : {side : Speaker} → Part side true (Open is_atom_byte) CodeHeadText code_head_at
 code_head_part {side} = same_part to_code from_code (decided_part (text_go 255) code_of Short short_went short_goes short_front (omega arith) short_syntax completes)

@@ -3,7 +3,7 @@ use Rattle.std.proofs.Common.{◌≡◌, ℕ, true, List, [], ◌∷◌, ◌++�
 use Rattle.std.specs.List.{list_all}
 use Rattle.std.proofs.lemmas.Bool.{and_parts, and_from}
 use Rattle.std.proofs.lemmas.List.{append-nil}
-use Rattle.wire_reader.specs.declared.side.Side.{Side}
+use Rattle.wire_reader.specs.declared.side.Speaker.{Speaker}
 use Rattle.wire_reader.specs.declared.stop.Kind.{Kind}
 use Rattle.wire_reader.specs.declared.stop.Kind.TheVariants.{Syntax}
 use Rattle.wire_reader.specs.Machine.{run, RunText}
@@ -46,7 +46,7 @@ module _ {A : Type 0} (go : List ℕ → ℕ → Result (List ℕ) Kind) (out : 
   completed s a f h = (88 ∷ [], a, from_decided (88 ∷ []) s a refl f h)
 
   module _ (none : Fits []) (syntax : (s : List ℕ) (b : ℕ) (k : Kind) → go s b ≡ Err k → k ≡ Syntax) (completes : (s : List ℕ) → (z : List ℕ) × (a : A) × Text s a z) where
-    pub decided_part : {side : Side} → Part side true (Open is_atom_byte) (Decided Fits out) (run is_atom_byte go out [])
+    pub decided_part : {side : Speaker} → Part side true (Open is_atom_byte) (Decided Fits out) (run is_atom_byte go out [])
     decided_part {side} = same_part
         (λ a t h. let r = to_decided t [] a none h in record { each = r.0; fits = r.1; is = r.2 })
         (λ a t h. from_decided t [] a h.each h.fits h.is)

@@ -3,7 +3,7 @@ use Rattle.std.proofs.Common.{◌≡◌, ℕ, ◌<◌, Bool, true, false, cond, 
 use Rattle.std.specs.List.{list_all}
 use Rattle.std.proofs.lemmas.Bool.{cases_Bool, ltb-true, lt-ltb}
 use Rattle.std.proofs.lemmas.List.{length-append}
-use Rattle.wire_reader.specs.declared.side.Side.{Side}
+use Rattle.wire_reader.specs.declared.side.Speaker.{Speaker}
 use Rattle.wire_reader.specs.Spelling.{upper, Word}
 use Rattle.wire_reader.specs.Machine.{text_go}
 use Rattle.wire_reader.proofs.Reader.{Open}
@@ -15,7 +15,7 @@ use Rattle.imap_replies.specs.declared.event.Event.{Event}
 use Rattle.imap_replies.specs.declared.event.Event.TheVariants as events
 use Rattle.imap_replies.specs.Words.{event_word, event_words, find_event_word}
 use Rattle.imap_replies.specs.Heads.{EventText, with_message, event_by, event_of, event_at}
-use Rattle.imap_replies.proofs.WordLemmas.{finds, found, find_same, word_each, word_long, lower_behind}
+use Rattle.imap_replies.proofs.WordLemmas.{finds, found, find_same, word_each, word_long, lower_after}
 use Rattle.imap_replies.proofs.Decided.{Decided, Text, completed, decided_part}
 use Rattle.imap_replies.proofs.AtomDecided.{Short, short_went, short_goes, short_front, short_syntax}
 
@@ -39,10 +39,10 @@ finds_it words.Exists = refl
 finds_it words.Expunge = refl
 finds_it words.Fetch = refl
 
-none_behind : (k : EventWord) → find_event_word (event_word k ++ 88 ∷ []) ≡ None
-none_behind words.Exists = refl
-none_behind words.Expunge = refl
-none_behind words.Fetch = refl
+none_after : (k : EventWord) → find_event_word (event_word k ++ 88 ∷ []) ≡ None
+none_after words.Exists = refl
+none_after words.Expunge = refl
+none_after words.Fetch = refl
 
 module _ (n : ℕ) where
   abbrev message_case : (ℕ → Event) → Bool → Option Event
@@ -60,7 +60,7 @@ module _ (n : ℕ) where
   longer : (k : EventWord) (text : List ℕ) → Word (event_word k) text → event_of n (text ++ 88 ∷ []) ≡ Some (events.Other (text ++ 88 ∷ []))
   longer k text h =
       event_is (text ++ 88 ∷ []) None (omega (arith, length-append text (88 ∷ [])))
-      (find_same event_word event_words (text ++ 88 ∷ []) (event_word k ++ 88 ∷ []) (lower_behind text (event_word k) 88 h) ∙ none_behind k)
+      (find_same event_word event_words (text ++ 88 ∷ []) (event_word k ++ 88 ∷ []) (lower_after text (event_word k) 88 h) ∙ none_after k)
 
   message : (k : EventWord) (e : ℕ → Event) (text : List ℕ) → find_event_word text ≡ Some k → event_of n text ≡ with_message n e → (z : List ℕ) × (a : Event) × T text a z
   message k e text f h =
@@ -128,5 +128,5 @@ module _ (n : ℕ) where
       subst (λ (x : List ℕ). Decided Short (event_of n) (events.Other a) x) (sym h.0)
       (record { each = o.atom.each; fits = o.atom.most; is = event_is a None some o.other })
 
-  pub event_part : {side : Side} → Part side true (Open is_atom_byte) (EventText n) (event_at n)
+  pub event_part : {side : Speaker} → Part side true (Open is_atom_byte) (EventText n) (event_at n)
   event_part {side} = same_part to_event from_event (decided_part (text_go 255) (event_of n) Short short_went short_goes short_front (omega arith) short_syntax completes)

@@ -2,8 +2,8 @@
 use Rattle.std.proofs.Common.{◌≡◌, ℕ, Bool, true, eqb, ◌||◌, List, [], ◌∷◌, ◌++◌, Result, refl, sym, ap, subst, ◌∙◌, inl, inr}
 use Rattle.std.proofs.Math.Path.{fun_ext}
 use Rattle.std.proofs.lemmas.Bool.{cases_Bool}
-use Rattle.wire_reader.specs.declared.side.Side.{Side}
-use Rattle.wire_reader.specs.declared.side.Side.TheVariants.{Replies}
+use Rattle.wire_reader.specs.declared.side.Speaker.{Speaker}
+use Rattle.wire_reader.specs.declared.side.Speaker.TheVariants.{Replies}
 use Rattle.wire_reader.specs.declared.stop.Stop.{Stop}
 use Rattle.wire_reader.specs.Spelling.{◌⨾◌, ThenBy, Is, Word, ItemsText, is_digit, crlf}
 use Rattle.wire_reader.specs.Reading.{skip, keep, byte_at, crlf_at}
@@ -41,7 +41,7 @@ digit_or_atom b = elim (cases_Bool (is_digit b)) [
   | inr e ↦ ap (λ (x : Bool). x || is_atom_byte b) e
 ]
 
-ended_number : {A : Type 0} {side : Side} {L : A → List ℕ → Type 0} {r : List ℕ → Result (A × List ℕ) Stop} → Part side true (Open is_digit) L r → Part side true (Open is_atom_byte) L (ended is_atom_byte r)
+ended_number : {A : Type 0} {side : Speaker} {L : A → List ℕ → Type 0} {r : List ℕ → Result (A × List ℕ) Stop} → Part side true (Open is_digit) L r → Part side true (Open is_atom_byte) L (ended is_atom_byte r)
 ended_number {side} {L} {r} p = subst (λ (g : ℕ → Bool). Part side true (Open g) L (ended is_atom_byte r)) (fun_ext digit_or_atom) (ended_part is_atom_byte p)
 
 -- ---- the words
@@ -56,7 +56,7 @@ item_keyword words.Head = (refl, refl)
 abbrev ItemWordText : ItemWord → List ℕ → Type 0
 ItemWordText w t = Among item_word (λ k. (item_keyword k).0) words.Uid later_item_words w × Word (item_word w) t
 
-item_word_part : {side : Side} → Part side true Closed ItemWordText item_word_at
+item_word_part : {side : Speaker} → Part side true Closed ItemWordText item_word_at
 item_word_part = keys_part item_word item_keyword words.Uid later_item_words refl
 
 -- ---- an item
@@ -113,7 +113,7 @@ item_list_part = items_part Replies 32 refl refl item_part
 abbrev close : List ℕ → Result (Unit {0} × List ℕ) Stop
 close = skip (byte_at 41) crlf_at
 
-close_part : {side : Side} → Part side true Closed (λ _ t. (Is (41 ∷ []) ⨾ Is crlf) t) close
+close_part : {side : Speaker} → Part side true Closed (λ _ t. (Is (41 ∷ []) ⨾ Is crlf) t) close
 close_part = skip_part (byte_part 41 refl) crlf_part (after_closed crlf_at)
 
 abbrev Listed : List FetchItem → List ℕ → Type 0

@@ -4,8 +4,8 @@ use Rattle.std.specs.List.{list_all}
 use Rattle.std.proofs.lemmas.Bool.{cases_Bool, true≢false, ltb-true, ltb-false, lt-ltb, eqb-true, eq-eqb, and_parts, and_from}
 use Rattle.std.proofs.lemmas.Bool.Decides.{nat_tests}
 use Rattle.std.proofs.lemmas.List.{append-nil, length-append}
-use Rattle.wire_reader.specs.declared.side.Side.{Side}
-use Rattle.wire_reader.specs.declared.side.Side.TheVariants.{Replies}
+use Rattle.wire_reader.specs.declared.side.Speaker.{Speaker}
+use Rattle.wire_reader.specs.declared.side.Speaker.TheVariants.{Replies}
 use Rattle.wire_reader.specs.declared.stop.Kind.{Kind}
 use Rattle.wire_reader.specs.declared.stop.Kind.TheVariants.{Syntax}
 use Rattle.wire_reader.specs.declared.stop.Stop.{Stop}
@@ -305,5 +305,5 @@ from_head (heads.Other a) t h =
       is = head_word a i.atom.some i.letters ∙ ap (λ (w : Option ReplyWord). Some (word_head a w)) o.other;
     })
 
-pub head_part : {side : Side} → Part side true (Open is_atom_byte) HeadText head_at
+pub head_part : {side : Speaker} → Part side true (Open is_atom_byte) HeadText head_at
 head_part {side} = same_part to_head from_head (decided_part head_go head_of Fits went goes front refl syntax completes)

@@ -22,8 +22,8 @@ module _ (xs : List ℕ) (i : ℕ) (total : Result (Head × List ℕ) Stop) (pos
   bs : List ℕ
   bs = drop (i + 1) xs
 
-  behind : drop i xs ≡ get_or xs i 0 ∷ drop (i + 1) xs
-  behind = drop_more xs i 0 in'
+  following : drop i xs ≡ get_or xs i 0 ∷ drop (i + 1) xs
+  following = drop_more xs i 0 in'
 
   abbrev at : Bool → Result (Head × List ℕ) Stop
   at t = cond t (run_next (head_go (take i xs) (get_or xs i 0)) (λ t. run is_atom_byte head_go head_of t (drop (i + 1) xs)) (length (get_or xs i 0 ∷ drop (i + 1) xs))) (run_end (head_of (take i xs)) (get_or xs i 0 ∷ drop (i + 1) xs))
@@ -33,9 +33,9 @@ module _ (xs : List ℕ) (i : ℕ) (total : Result (Head × List ℕ) Stop) (pos
 
   ended : total ≡ run_end (number_read (number_at (take i xs ++ 32 ∷ []))) (drop i xs)
   ended =
-      sym reads ∙ ap (run is_atom_byte head_go head_of (take i xs)) behind ∙ ap at other
+      sym reads ∙ ap (run is_atom_byte head_go head_of (take i xs)) following ∙ ap at other
       ∙ ap (λ (o : Option Head). run_end o (get_or xs i 0 ∷ drop (i + 1) xs)) (head_number (take i xs) some digits)
-      ∙ ap (run_end (number_read (number_at (take i xs ++ 32 ∷ [])))) (sym behind)
+      ∙ ap (run_end (number_read (number_at (take i xs ++ 32 ∷ [])))) (sym following)
 
   no_digit : is_digit (get_or xs i 0) ≡ false
   no_digit = elim (cases_Bool (is_digit (get_or xs i 0))) [
@@ -44,7 +44,7 @@ module _ (xs : List ℕ) (i : ℕ) (total : Result (Head × List ℕ) Stop) (pos
   ]
 
   stop : stops (Open is_digit) (drop i xs) ≡ true
-  stop = ap (stops (Open is_digit)) behind ∙ ap not no_digit
+  stop = ap (stops (Open is_digit)) following ∙ ap not no_digit
 
   whole : take i xs ++ drop i xs ≡ xs
   whole = take-append-drop i xs
@@ -66,4 +66,4 @@ module _ (xs : List ℕ) (i : ℕ) (total : Result (Head × List ℕ) Stop) (pos
   pub number_no : (s : Stop) → number_at xs ≡ Err s → total ≡ Err (Fails Syntax (length (drop i xs)))
   number_no s h =
       ended ∙ ap (λ (o : Option Head). run_end o (drop i xs)) (none_by s h (number_at (take i xs ++ 32 ∷ [])) refl)
-      ∙ ap (run_end None) behind ∙ sym (ap (λ (ys : List ℕ). let o : Result (Head × List ℕ) Stop = Err (Fails Syntax (length ys)) in o) behind)
+      ∙ ap (run_end None) following ∙ sym (ap (λ (ys : List ℕ). let o : Result (Head × List ℕ) Stop = Err (Fails Syntax (length ys)) in o) following)

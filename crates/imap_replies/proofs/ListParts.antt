@@ -1,8 +1,8 @@
 -- LIST replies as a part of a grammar.
 use Rattle.std.proofs.Common.{◌≡◌, ℕ, true, false, eqb, List, [], ◌∷◌, codes, Option, None, Some, Result, refl, sym, ap, subst, ◌∙◌, inl, inr, ◌⊎◌}
 use Rattle.std.proofs.lemmas.Bool.{cases_Bool, true≢false, eqb-true}
-use Rattle.wire_reader.specs.declared.side.Side.{Side}
-use Rattle.wire_reader.specs.declared.side.Side.TheVariants.{Replies}
+use Rattle.wire_reader.specs.declared.side.Speaker.{Speaker}
+use Rattle.wire_reader.specs.declared.side.Speaker.TheVariants.{Replies}
 use Rattle.wire_reader.specs.declared.stop.Stop.{Stop}
 use Rattle.wire_reader.specs.Spelling.{◌⨾◌, Is, Word, crlf, upper}
 use Rattle.wire_reader.specs.Reading.{skip, keep, both, byte_at, crlf_at}
@@ -62,7 +62,7 @@ from_mark : (v : Option ℕ) (t : List ℕ) → MarkText v t → Quoted v t ⊎ 
 from_mark None t h = inr h
 from_mark (Some c) t h = inl h
 
-pub mark_part : {side : Side} → Part side true Closed MarkText mark_at
+pub mark_part : {side : Speaker} → Part side true Closed MarkText mark_at
 unfolding mark_at
 mark_part = same_part to_mark from_mark
     (first_part is_quote

@@ -1,6 +1,6 @@
 -- Parts whose values bear a constructor, and parts that may be left out at the end.
 use Rattle.std.proofs.Common.{◌≡◌, ℕ, Bool, true, false, cond, eqb, List, [], ◌∷◌, ◌++◌, Option, None, Some, Result, Ok, refl, sym, ap, subst, ◌∙◌, inl, inr, ◌⊎◌}
-use Rattle.wire_reader.specs.declared.side.Side.{Side}
+use Rattle.wire_reader.specs.declared.side.Speaker.{Speaker}
 use Rattle.wire_reader.specs.declared.stop.Stop.{Stop}
 use Rattle.wire_reader.specs.Spelling.{◌⨾◌, Is}
 use Rattle.wire_reader.specs.Reading.{stuck, mapped, skip, by_first, byte_at}
@@ -18,7 +18,7 @@ pub record Made {A B : Type 0} (f : A → B) (L : A → List ℕ → Type 0) (b 
   pub is : b ≡ f value
   pub spelled : L value text
 
-pub made_part : {A B : Type 0} {side : Side} {k : Bool} {e : Ender} {L : A → List ℕ → Type 0} {r : List ℕ → Result (A × List ℕ) Stop} (f : A → B) → Part side k e L r → Part side k e (Made f L) (mapped f r)
+pub made_part : {A B : Type 0} {side : Speaker} {k : Bool} {e : Ender} {L : A → List ℕ → Type 0} {r : List ℕ → Result (A × List ℕ) Stop} (f : A → B) → Part side k e L r → Part side k e (Made f L) (mapped f r)
 made_part f p = mapped_part f (λ a t h. record { value = a; is = refl; spelled = h }) (λ b t h. (h.value, h.is, h.spelled)) p
 
 -- ---- what may follow a token
@@ -34,7 +34,7 @@ after_either r s g c d gc gd st xs h = first_refuses r s c d st xs (no_head g c 
 
 -- ---- the end, or a space and a part
 
-module _ {A : Type 0} {side : Side} {k : Bool} {L : A → List ℕ → Type 0} {end_at : List ℕ → Result (Unit {0} × List ℕ) Stop} {r : List ℕ → Result (A × List ℕ) Stop} (c : ℕ) (end : List ℕ) (apart : eqb 32 c ≡ false) (begins : Begins true (λ b. eqb b c) end) (p : Part side k Closed (λ _ t. Is end t) end_at) (q : Part side k Closed L r) where
+module _ {A : Type 0} {side : Speaker} {k : Bool} {L : A → List ℕ → Type 0} {end_at : List ℕ → Result (Unit {0} × List ℕ) Stop} {r : List ℕ → Result (A × List ℕ) Stop} (c : ℕ) (end : List ℕ) (apart : eqb 32 c ≡ false) (begins : Begins true (λ b. eqb b c) end) (p : Part side k Closed (λ _ t. Is end t) end_at) (q : Part side k Closed L r) where
   abbrev Ended : Option A → List ℕ → Type 0
   Ended None t = Is end t
   Ended (Some a) t = ⊥

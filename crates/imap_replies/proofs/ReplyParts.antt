@@ -1,7 +1,7 @@
 -- Replies as parts of a grammar.
 use Rattle.std.proofs.Common.{◌≡◌, ℕ, Bool, true, false, eqb, List, [], ◌∷◌, ◌++◌, refl, sym, ap, subst, ◌∙◌, inl, inr, ◌⊎◌, arith}
 use Rattle.std.proofs.lemmas.Bool.{cases_Bool, true≢false, eqb-true, and_parts}
-use Rattle.wire_reader.specs.declared.side.Side.TheVariants.{Replies}
+use Rattle.wire_reader.specs.declared.side.Speaker.TheVariants.{Replies}
 use Rattle.wire_reader.specs.Spelling.{◌⨾◌, Is, Word}
 use Rattle.wire_reader.specs.Reading.{seq, skip, both, byte_at}
 use Rattle.wire_reader.proofs.Reader.{Closed}
@@ -24,7 +24,7 @@ use Rattle.imap_replies.specs.Words.{status_word}
 use Rattle.imap_replies.specs.Heads.{head_at}
 use Rattle.imap_replies.specs.Responses.{sp, ResponseLine, response_at}
 use Rattle.imap_replies.specs.Replies.{ReplyText}
-use Rattle.imap_replies.specs.ReplyReading.{continue, tagged, continue_at, status_at, tagged_at, behind_head, untagged_at, is_plus, is_star, reply_at}
+use Rattle.imap_replies.specs.ReplyReading.{continue, tagged, continue_at, status_at, tagged_at, after_head, untagged_at, is_plus, is_star, reply_at}
 use Rattle.imap_replies.proofs.Made.{Made, made_part}
 use Rattle.imap_replies.proofs.ResponseParts.{response_part}
 use Rattle.imap_replies.proofs.UntaggedParts.{Body, body_part}
@@ -75,7 +75,7 @@ Starred v = Is (42 ∷ []) ⨾ Is (32 ∷ []) ⨾ Body v
 
 untagged_part : Part Replies false Closed Starred untagged_at
 unfolding untagged_at
-untagged_part = skip_part (byte_part 42 refl) (skip_part (byte_part 32 refl) body_part (after_closed (seq head_at behind_head))) (after_closed (skip (byte_at 32) (seq head_at behind_head)))
+untagged_part = skip_part (byte_part 42 refl) (skip_part (byte_part 32 refl) body_part (after_closed (seq head_at after_head))) (after_closed (skip (byte_at 32) (seq head_at after_head)))
 
 -- ---- by the first byte
 
@@ -98,12 +98,12 @@ no_sign c n b h = elim (cases_Bool (eqb b c)) [
   | inr e ↦ e
 ]
 
-abbrev Behind : Reply → List ℕ → Type 0
-Behind v t = Starred v t ⊎ Made tagged TaggedLine v t
+abbrev Following : Reply → List ℕ → Type 0
+Following v t = Starred v t ⊎ Made tagged TaggedLine v t
 
-behind_plus : (v : Reply) (t : List ℕ) → Behind v t → Begins false is_plus t
-behind_plus v t (inl h) = begins is_plus 42 false t h.front h.back refl h.parts h.first
-behind_plus v t (inr h) = tag_first is_plus (no_sign 43 refl) v t h
+after_plus : (v : Reply) (t : List ℕ) → Following v t → Begins false is_plus t
+after_plus v t (inl h) = begins is_plus 42 false t h.front h.back refl h.parts h.first
+after_plus v t (inr h) = tag_first is_plus (no_sign 43 refl) v t h
 
 -- ---- the two bytes in front
 
@@ -130,12 +130,12 @@ starred (Fetch n items) t h = h
 starred (Other word text) t h = h
 starred (OtherNumbered n event text) t h = h
 
-to_reply : (v : Reply) (t : List ℕ) → Made continue GoOn v t ⊎ Behind v t → ReplyText v t
+to_reply : (v : Reply) (t : List ℕ) → Made continue GoOn v t ⊎ Following v t → ReplyText v t
 to_reply v t (inl h) = subst (λ (r : Reply). ReplyText r t) (sym h.is) (joined 43 32 t h.spelled)
 to_reply v t (inr (inl h)) = starred v t (joined 42 32 t h)
 to_reply v t (inr (inr h)) = subst (λ (r : Reply). ReplyText r t) (sym h.is) h.spelled
 
-from_reply : (v : Reply) (t : List ℕ) → ReplyText v t → Made continue GoOn v t ⊎ Behind v t
+from_reply : (v : Reply) (t : List ℕ) → ReplyText v t → Made continue GoOn v t ⊎ Following v t
 from_reply (Continue text) t h = inl (record { value = text; is = refl; spelled = parted 43 32 t h })
 from_reply (Tagged tag status text) t h = inr (inr (record { value = (tag, (status, text)); is = refl; spelled = h }))
 from_reply (Notice kind text) t h = inr (inl (parted 42 32 t h))
@@ -155,4 +155,4 @@ reply_part = same_part to_reply from_reply
     (first_part is_plus continue_part
     (first_part is_star untagged_part tagged_part (λ v t h. begins is_star 42 true t h.front h.back refl h.parts h.first) (tag_first is_star (no_sign 42 refl)))
     (λ v t h. begins is_plus 43 true t h.spelled.front h.spelled.back refl h.spelled.parts h.spelled.first)
-    behind_plus)
+    after_plus)

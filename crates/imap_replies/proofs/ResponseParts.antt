@@ -1,6 +1,6 @@
 -- The text of a status reply as a part of a grammar.
 use Rattle.std.proofs.Common.{◌≡◌, ℕ, true, false, List, [], ◌∷◌, ◌++◌, refl, sym, ap, subst, ◌∙◌, inl, inr, ◌⊎◌}
-use Rattle.wire_reader.specs.declared.side.Side.{Side}
+use Rattle.wire_reader.specs.declared.side.Speaker.{Speaker}
 use Rattle.wire_reader.specs.Spelling.{◌⨾◌, ThenBy, Is, is_digit, crlf}
 use Rattle.wire_reader.specs.Reading.{stuck, skip, byte_at}
 use Rattle.wire_reader.proofs.Reader.{Closed, Open, stops}
@@ -43,13 +43,13 @@ TwoUids p = NzText p.0 ⨾ Is sp ⨾ NzText p.1 ⨾ Is close
 abbrev PermanentClose : List (List ℕ) → List ℕ → Type 0
 PermanentClose p = PermanentFlagsText p ⨾ Is close
 
-uid_close_part : {side : Side} → Part side true Closed UidClose uid_close_at
+uid_close_part : {side : Speaker} → Part side true Closed UidClose uid_close_at
 uid_close_part = keep_part nz_part (byte_part 93 refl) (after is_digit 93 refl (starts_byte 93))
 
-two_uids_part : {side : Side} → Part side true Closed TwoUids two_uids_at
+two_uids_part : {side : Speaker} → Part side true Closed TwoUids two_uids_at
 two_uids_part = both_part nz_part (skip_part (byte_part 32 refl) uid_close_part (after_closed uid_close_at)) (after is_digit 32 refl (starts_seq (λ _. uid_close_at) (starts_byte 32)))
 
-permanent_close_part : {side : Side} → Part side true Closed PermanentClose permanent_close_at
+permanent_close_part : {side : Speaker} → Part side true Closed PermanentClose permanent_close_at
 permanent_close_part = keep_part permanent_flags_part (byte_part 93 refl) (after_closed (byte_at 93))
 
 -- what follows each word
@@ -65,7 +65,7 @@ abbrev Tail : CodeHead → Code → List ℕ → Type 0
 Tail (heads.Known w) = KnownTail w
 Tail (heads.Other a) = Made (other_code a) (RestText close BracketText)
 
-known_part : {side : Side} (w : CodeWord) → Part side true Closed (KnownTail w) (known_code_at w)
+known_part : {side : Speaker} (w : CodeWord) → Part side true Closed (KnownTail w) (known_code_at w)
 unfolding known_code_at
 known_part words.UidNext = made_part uid_next (skip_part (byte_part 32 refl) uid_close_part (after_closed uid_close_at))
 known_part words.UidValidity = made_part uid_validity (skip_part (byte_part 32 refl) uid_close_part (after_closed uid_close_at))
@@ -74,7 +74,7 @@ known_part words.AppendUid = made_part append_uid (skip_part (byte_part 32 refl)
 known_part words.ReadOnly = made_part read_only (byte_part 93 refl)
 known_part words.ReadWrite = made_part read_write (byte_part 93 refl)
 
-tail_part : {side : Side} (h : CodeHead) → Part side true Closed (Tail h) (code_tail_at h)
+tail_part : {side : Speaker} (h : CodeHead) → Part side true Closed (Tail h) (code_tail_at h)
 tail_part (heads.Known w) = known_part w
 tail_part (heads.Other a) = made_part (other_code a) (rest_part 93 close refl refl (byte_part 93 refl) code_text_part)
 
@@ -111,7 +111,7 @@ split code.ReadOnly t h = record { value = heads.Known words.ReadOnly; front = h
 split code.ReadWrite t h = record { value = heads.Known words.ReadWrite; front = h.front; back = h.back; parts = h.parts; first = h.first; second = record { value = tt; is = refl; spelled = h.second } }
 split (code.Other a text) t h = record { value = heads.Other a; front = h.front; back = h.back; parts = h.parts; first = h.first; second = record { value = text; is = refl; spelled = h.second } }
 
-pub code_part : {side : Side} → Part side true Closed CodeSpelling code_at
+pub code_part : {side : Speaker} → Part side true Closed CodeSpelling code_at
 unfolding code_at
 code_part {side} = same_part
     (λ v t h. subst (CodeSpelling v) (sym h.parts) (join h.value v h.front h.back h.first h.second))
@@ -123,7 +123,7 @@ code_part {side} = same_part
 abbrev CodedLine : Code × List ℕ → List ℕ → Type 0
 CodedLine p = Is (91 ∷ []) ⨾ CodeSpelling p.0 ⨾ Is sp ⨾ LastText p.1
 
-coded_line_part : {side : Side} → Part side false Closed (Made coded CodedLine) coded_at
+coded_line_part : {side : Speaker} → Part side false Closed (Made coded CodedLine) coded_at
 unfolding coded_at
 coded_line_part = made_part coded (skip_part (byte_part 91 refl) (both_part code_part (skip_part (byte_part 32 refl) last_text_part (after_closed last_text_at)) (after_closed (skip (byte_at 32) last_text_at))) (after_closed _))
 
@@ -148,6 +148,6 @@ from_response : (v : ResponseText) (t : List ℕ) → ResponseLine v t → Made 
 from_response (responses.Plain text) t h = inr (record { value = text; is = refl; spelled = h })
 from_response (responses.Coded code text) t h = inl (record { value = (code, text); is = refl; spelled = h })
 
-pub response_part : {side : Side} → Part side false Closed ResponseLine response_at
+pub response_part : {side : Speaker} → Part side false Closed ResponseLine response_at
 unfolding response_at
 response_part = same_part to_response from_response (first_part is_bracket coded_line_part (made_part plain plain_text_part) coded_first plain_first)

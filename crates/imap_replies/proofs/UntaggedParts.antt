@@ -1,6 +1,6 @@
 -- What follows `* ` as a part of a grammar.
 use Rattle.std.proofs.Common.{◌≡◌, ℕ, ◌<◌, true, false, eqb, ◌||◌, List, ◌∷◌, ◌++◌, Option, refl, sym, ap, subst, ◌∙◌}
-use Rattle.wire_reader.specs.declared.side.Side.TheVariants.{Replies}
+use Rattle.wire_reader.specs.declared.side.Speaker.TheVariants.{Replies}
 use Rattle.wire_reader.specs.Spelling.{◌⨾◌, ThenBy, Is, Word, crlf}
 use Rattle.wire_reader.specs.Reading.{stuck, seq, skip, keep, both, byte_at, crlf_at}
 use Rattle.wire_reader.proofs.Reader.{Closed, Open, stops}
@@ -35,7 +35,7 @@ use Rattle.imap_replies.specs.Responses.{sp, ResponseLine, response_at}
 use Rattle.imap_replies.specs.Listings.{ListLine, mark_at, list_at}
 use Rattle.imap_replies.specs.Fetches.{FetchLine, item_list_at, fetch_at}
 use Rattle.imap_replies.specs.Replies.{NamesLine, OtherWordText, OtherEventText}
-use Rattle.imap_replies.specs.ReplyReading.{notice, capability, enabled, listed, flags, exists, expunge, fetch, other, other_numbered, rest_line_at, names_line_at, flags_line_at, notice_at, known_at, event_line_at, numbered_at, behind_head}
+use Rattle.imap_replies.specs.ReplyReading.{notice, capability, enabled, listed, flags, exists, expunge, fetch, other, other_numbered, rest_line_at, names_line_at, flags_line_at, notice_at, known_at, event_line_at, numbered_at, after_head}
 use Rattle.imap_replies.proofs.Made.{Made, made_part, mapped_follows, rest_part, rest_follows}
 use Rattle.imap_replies.proofs.HeadParts.{head_part}
 use Rattle.imap_replies.proofs.EventParts.{event_part}
@@ -63,20 +63,20 @@ flags_line_part : Part Replies true Closed FlagsLine flags_line_at
 unfolding flags_line_at
 flags_line_part = skip_part (byte_part 32 refl) (keep_part flags_part crlf_part (after_closed crlf_at)) (after_closed (keep flags_at crlf_at))
 
-abbrev Told : ResponseText → List ℕ → Type 0
-Told r = Is sp ⨾ ResponseLine r
+abbrev Reported : ResponseText → List ℕ → Type 0
+Reported r = Is sp ⨾ ResponseLine r
 
-told_part : Part Replies false Closed Told (skip (byte_at 32) response_at)
-told_part = skip_part (byte_part 32 refl) response_part (after_closed response_at)
+reported_part : Part Replies false Closed Reported (skip (byte_at 32) response_at)
+reported_part = skip_part (byte_part 32 refl) response_part (after_closed response_at)
 
 -- ---- after a word
 
 abbrev KnownTail : ReplyWord → Reply → List ℕ → Type 0
-KnownTail words.Ok = Made (notice notices.Ok) Told
-KnownTail words.No = Made (notice notices.No) Told
-KnownTail words.Bad = Made (notice notices.Bad) Told
-KnownTail words.Bye = Made (notice notices.Bye) Told
-KnownTail words.Preauth = Made (notice notices.Preauth) Told
+KnownTail words.Ok = Made (notice notices.Ok) Reported
+KnownTail words.No = Made (notice notices.No) Reported
+KnownTail words.Bad = Made (notice notices.Bad) Reported
+KnownTail words.Bye = Made (notice notices.Bye) Reported
+KnownTail words.Preauth = Made (notice notices.Preauth) Reported
 KnownTail words.Capability = Made capability (RestText crlf NamesLine)
 KnownTail words.Enabled = Made enabled (RestText crlf NamesLine)
 KnownTail words.List = Made listed ListedLine
@@ -84,18 +84,18 @@ KnownTail words.Flags = Made flags FlagsLine
 
 known_part : (w : ReplyWord) → Part Replies false Closed (KnownTail w) (known_at w)
 unfolding known_at
-known_part words.Ok = made_part (notice notices.Ok) told_part
-known_part words.No = made_part (notice notices.No) told_part
-known_part words.Bad = made_part (notice notices.Bad) told_part
-known_part words.Bye = made_part (notice notices.Bye) told_part
-known_part words.Preauth = made_part (notice notices.Preauth) told_part
+known_part words.Ok = made_part (notice notices.Ok) reported_part
+known_part words.No = made_part (notice notices.No) reported_part
+known_part words.Bad = made_part (notice notices.Bad) reported_part
+known_part words.Bye = made_part (notice notices.Bye) reported_part
+known_part words.Preauth = made_part (notice notices.Preauth) reported_part
 known_part words.Capability = made_part capability (last_part names_line_part)
 known_part words.Enabled = made_part enabled (last_part names_line_part)
 known_part words.List = made_part listed (last_part list_part)
 known_part words.Flags = made_part flags (last_part flags_line_part)
 
-told_follows : (kind : NoticeKind) (xs : List ℕ) → stops (Open is_atom_byte) xs ≡ false → notice_at kind xs ≡ stuck xs
-told_follows kind = after is_atom_byte 32 refl (starts_mapped (notice kind) (starts_seq (λ _. response_at) (starts_byte 32)))
+reported_follows : (kind : NoticeKind) (xs : List ℕ) → stops (Open is_atom_byte) xs ≡ false → notice_at kind xs ≡ stuck xs
+reported_follows kind = after is_atom_byte 32 refl (starts_mapped (notice kind) (starts_seq (λ _. response_at) (starts_byte 32)))
 
 names_follows : (xs : List ℕ) → stops (Open is_atom_byte) xs ≡ false → names_line_at xs ≡ stuck xs
 unfolding names_line_at
@@ -107,11 +107,11 @@ line_follows = rest_follows is_atom_byte 13 crlf_at last_text_at refl refl
 
 known_follows : (w : ReplyWord) (xs : List ℕ) → stops (Open is_atom_byte) xs ≡ false → known_at w xs ≡ stuck xs
 unfolding known_at list_at flags_line_at
-known_follows words.Ok xs s = told_follows notices.Ok xs s
-known_follows words.No xs s = told_follows notices.No xs s
-known_follows words.Bad xs s = told_follows notices.Bad xs s
-known_follows words.Bye xs s = told_follows notices.Bye xs s
-known_follows words.Preauth xs s = told_follows notices.Preauth xs s
+known_follows words.Ok xs s = reported_follows notices.Ok xs s
+known_follows words.No xs s = reported_follows notices.No xs s
+known_follows words.Bad xs s = reported_follows notices.Bad xs s
+known_follows words.Bye xs s = reported_follows notices.Bye xs s
+known_follows words.Preauth xs s = reported_follows notices.Preauth xs s
 known_follows words.Capability xs s = mapped_follows names_line_at capability xs (names_follows xs s)
 known_follows words.Enabled xs s = mapped_follows names_line_at enabled xs (names_follows xs s)
 known_follows words.List xs s = mapped_follows list_at listed xs (after is_atom_byte 32 refl (starts_seq (λ _. both flags_at (skip (byte_at 32) (both mark_at (skip (byte_at 32) (keep (astring_at Replies) crlf_at))))) (starts_byte 32)) xs s)
@@ -157,12 +157,12 @@ Tail (heads.Number n) = Numbered n
 Tail (heads.Known w) = KnownTail w
 Tail (heads.Other a) = Made (other a) Rest
 
-tail_part : (h : Head) → Part Replies false Closed (Tail h) (behind_head h)
+tail_part : (h : Head) → Part Replies false Closed (Tail h) (after_head h)
 tail_part (heads.Number n) = numbered_part n
 tail_part (heads.Known w) = known_part w
 tail_part (heads.Other a) = made_part (other a) rest_line_part
 
-tail_follows : (h : Head) (xs : List ℕ) → stops (Open is_atom_byte) xs ≡ false → behind_head h xs ≡ stuck xs
+tail_follows : (h : Head) (xs : List ℕ) → stops (Open is_atom_byte) xs ≡ false → after_head h xs ≡ stuck xs
 tail_follows (heads.Number n) xs s = numbered_follows n xs s
 tail_follows (heads.Known w) xs s = known_follows w xs s
 tail_follows (heads.Other a) xs s = mapped_follows rest_line_at (other a) xs (line_follows xs s)
@@ -252,7 +252,7 @@ split (Fetch n items) t h = event_split n (events.Fetch n) (Fetch n items) t (λ
 split (Other word text) t h = record { value = heads.Other word; front = h.front; back = h.back; parts = h.parts; first = h.first; second = record { value = text; is = refl; spelled = h.second } }
 split (OtherNumbered n event text) t h = event_split n (events.Other event) (OtherNumbered n event text) t (λ x p. p) (λ x y p q. q) (λ y r. record { value = text; is = refl; spelled = r }) h
 
-pub body_part : Part Replies false Closed Body (seq head_at behind_head)
+pub body_part : Part Replies false Closed Body (seq head_at after_head)
 body_part = same_part
     (λ v t h. subst (Body v) (sym h.parts) (join h.value v h.front h.back h.first h.second))
     split

@@ -86,5 +86,5 @@ word_digits w text h each = ap (list_all is_digit) (sym h) ∙ raised text each
     raised (b ∷ bs) e = let p = and_parts _ _ e in and_from _ _ (is_digit_of_upper b p.0) (raised bs p.1)
 
 -- with a byte after it
-pub lower_behind : (a w : List ℕ) (c : ℕ) → Word w a → str_to_ascii_lowercase (a ++ c ∷ []) ≡ str_to_ascii_lowercase (w ++ c ∷ [])
-lower_behind a w c h = map-append to_ascii_lowercase a (c ∷ []) ∙ ap (λ (x : List ℕ). x ++ to_ascii_lowercase c ∷ []) (lower_of w a h) ∙ sym (map-append to_ascii_lowercase w (c ∷ []))
+pub lower_after : (a w : List ℕ) (c : ℕ) → Word w a → str_to_ascii_lowercase (a ++ c ∷ []) ≡ str_to_ascii_lowercase (w ++ c ∷ [])
+lower_after a w c h = map-append to_ascii_lowercase a (c ∷ []) ∙ ap (λ (x : List ℕ). x ++ to_ascii_lowercase c ∷ []) (lower_of w a h) ∙ sym (map-append to_ascii_lowercase w (c ∷ []))

@@ -1,6 +1,6 @@
 -- What a message has (RFC 9051, section 9: msg-att, msg-att-dynamic, msg-att-static).
 use Rattle.std.specs.Prelude.{ℕ, List, codes, Option, Result}
-use Rattle.wire_reader.specs.declared.side.Side.TheVariants.{Replies}
+use Rattle.wire_reader.specs.declared.side.Speaker.TheVariants.{Replies}
 use Rattle.wire_reader.specs.declared.stop.Stop.{Stop}
 use Rattle.wire_reader.specs.Spelling.{◌⨾◌, Is, crlf, ItemsText}
 use Rattle.wire_reader.specs.Reading.{seq, mapped, skip, keep, byte_at, crlf_at}

@@ -1,6 +1,6 @@
 -- LIST replies (RFC 9051, section 9: mailbox-list; in the profile no extended data follow).
 use Rattle.std.specs.Prelude.{ℕ, Bool, List, codes, Option, None, Some, Result, ◌==◌}
-use Rattle.wire_reader.specs.declared.side.Side.TheVariants.{Replies}
+use Rattle.wire_reader.specs.declared.side.Speaker.TheVariants.{Replies}
 use Rattle.wire_reader.specs.declared.stop.Stop.{Stop}
 use Rattle.wire_reader.specs.Spelling.{◌⨾◌, Is, crlf}
 use Rattle.wire_reader.specs.Reading.{mapped, skip, keep, both, by_first, byte_at, crlf_at}

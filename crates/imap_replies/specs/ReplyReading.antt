@@ -111,13 +111,13 @@ event_line_at n (events.Other event) = mapped (other_numbered n event) rest_line
 unfoldable pub numbered_at : ℕ → List ℕ → Result (Reply × List ℕ) Stop
 numbered_at n = skip (byte_at 32) (seq (event_at n) (event_line_at n))
 
-abbrev pub behind_head : Head → List ℕ → Result (Reply × List ℕ) Stop
-behind_head (heads.Number n) = numbered_at n
-behind_head (heads.Known word) = known_at word
-behind_head (heads.Other word) = mapped (other word) rest_line_at
+abbrev pub after_head : Head → List ℕ → Result (Reply × List ℕ) Stop
+after_head (heads.Number n) = numbered_at n
+after_head (heads.Known word) = known_at word
+after_head (heads.Other word) = mapped (other word) rest_line_at
 
 unfoldable pub untagged_at : List ℕ → Result (Reply × List ℕ) Stop
-untagged_at = skip (byte_at 42) (skip (byte_at 32) (seq head_at behind_head))
+untagged_at = skip (byte_at 42) (skip (byte_at 32) (seq head_at after_head))
 
 abbrev pub is_plus : ℕ → Bool
 is_plus b = b == 43

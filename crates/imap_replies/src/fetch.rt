@@ -14,7 +14,7 @@ use std::alloc::Global;
 use std::marker::Model;
 use wire_reader::keyword::{either, keyed};
 use wire_reader::punctuation::{byte, crlf, separator};
-use wire_reader::side::Side;
+use wire_reader::side::Speaker;
 use wire_reader::stop::{Kind, ReadError, Stop};
 use wire_strings::string::{WireString, read_nstring};
 use wire_tokens::atom::is_atom_byte;
@@ -160,11 +160,11 @@ fn item_value(word: ItemWord, bytes: &[u8]) -> Result<(FetchItem<'_>, &[u8]), St
             ended(FetchItem::Size(size), rest)
         }
         ItemWord::Body => {
-            let (body, rest) = read_nstring(Side::Replies, bytes)?;
+            let (body, rest) = read_nstring(Speaker::Replies, bytes)?;
             Ok((FetchItem::Body(body), rest))
         }
         ItemWord::Head => {
-            let (head, rest) = read_nstring(Side::Replies, bytes)?;
+            let (head, rest) = read_nstring(Speaker::Replies, bytes)?;
             Ok((FetchItem::Head(head), rest))
         }
     }

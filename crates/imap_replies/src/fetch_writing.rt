@@ -1,7 +1,7 @@
 //! Writing of what a message has. Where memory runs out, a part may be written.
 
 ghost use Rattle.std.specs.Prelude.{◌≡◌, ◌<◌, length, take, codes, OnOk, OnErr};
-ghost use Rattle.wire_reader.specs.declared.side.Side.TheVariants.{Replies};
+ghost use Rattle.wire_reader.specs.declared.side.Speaker.TheVariants.{Replies};
 ghost use Rattle.wire_reader.specs.Spelling.{◌⨾◌, Is, Word, ItemsText};
 ghost use Rattle.wire_tokens.specs.Writing.{Appended};
 ghost use Rattle.wire_strings.specs.Strings.{NStringText};

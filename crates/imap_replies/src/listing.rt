@@ -8,7 +8,7 @@ ghost use Rattle.imap_replies.specs.ReplyReading.{listed};
 use crate::reply::Reply;
 use wire_reader::keyword::word;
 use wire_reader::punctuation::{byte, crlf};
-use wire_reader::side::Side;
+use wire_reader::side::Speaker;
 use wire_reader::stop::Stop;
 use wire_strings::astring::read_astring;
 use wire_strings::delimiter::{Delimiter, read_delimiter};
@@ -21,7 +21,7 @@ pub(crate) fn list(bytes: &[u8]) -> Result<(Reply<'_>, &[u8]), Stop>
 {
     let (attributes, rest) = read_flags(byte(b' ', bytes)?)?;
     let (delimiter, rest) = read_mark(byte(b' ', rest)?)?;
-    let (name, rest) = read_astring(Side::Replies, byte(b' ', rest)?)?;
+    let (name, rest) = read_astring(Speaker::Replies, byte(b' ', rest)?)?;
     Ok((Reply::List(attributes, delimiter, name), crlf(rest)?))
 }
 

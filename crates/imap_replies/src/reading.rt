@@ -3,7 +3,7 @@
 ghost use Rattle.wire_reader.specs.Reading.{mapped};
 ghost use Rattle.wire_reader.specs.Given.{Gives, GivesOr};
 ghost use Rattle.wire_reader.specs.Answers.{Answers, TakesEach, WaitsForMore, NoneBeginsAnother};
-ghost use Rattle.wire_reader.specs.declared.side.Side.TheVariants.{Replies};
+ghost use Rattle.wire_reader.specs.declared.side.Speaker.TheVariants.{Replies};
 ghost use Rattle.imap_replies.specs.Replies.{seen, ReplyText};
 ghost use Rattle.imap_replies.specs.ReplyReading.{flags, flags_line_at, continue_at, status_at, tagged_at, notice_at};
 ghost use Rattle.imap_replies.specs.ReplyReading.{known_at, event_line_at, numbered_at, untagged_at, reply_at};

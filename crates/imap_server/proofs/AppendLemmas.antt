@@ -3,7 +3,7 @@ use Rattle.std.proofs.Common.{◌≡◌, ◌<◌, ◌^◌, inr, ℕ, zero, suc, 
 use Rattle.std.specs.Prelude.{slice_get, slice_set, OnOk, OnErr, Result, Ok, Err}
 use Rattle.std.specs.declared.alloc.AllocError.{AllocError}
 use Rattle.std.proofs.lemmas.List.Elements.{All-nil, All-cons, All-append}
-use Rattle.mailcore.specs.declared.mailbox.Mailbox.{Mailbox}
+use Rattle.mailcore.specs.declared.mailbox.StoredMailbox.{StoredMailbox}
 use Rattle.mailcore.specs.declared.mailbox.Message.{Message}
 use Rattle.mailcore.specs.FlagSet.{FLAGS}
 use Rattle.mailcore.specs.KeywordNames.{named_set}
@@ -23,13 +23,13 @@ use Rattle.imap_server.proofs.WritingLemmas.{wrote_then}
 
 -- ---- the mailboxes, where one of them is changed
 
-pub all_of-set : (raw : List Mailbox) (n : ℕ) (m d : Mailbox) (c : Store → Store) → n < length raw → far_of m ≡ record (far_of (get_or raw n d)) { store = c (store_of (get_or raw n d)) }
+pub all_of-set : (raw : List StoredMailbox) (n : ℕ) (m d : StoredMailbox) (c : Store → Store) → n < length raw → far_of m ≡ record (far_of (get_or raw n d)) { store = c (store_of (get_or raw n d)) }
     → all_of (slice_set raw n m) ≡ changed_there c n (all_of raw)
 all_of-set [] n m d c h e = absurd (omega arith)
 all_of-set (x ∷ xs) zero m d c h e = ap (λ (f : FarMailbox). f ∷ all_of xs) e
 all_of-set (x ∷ xs) (suc n) m d c h e = ap (λ (l : List FarMailbox). far_of x ∷ l) (all_of-set xs n m d c (omega arith) e)
 
-pub served_set : (raw : List Mailbox) (n : ℕ) (m : Mailbox) → AreServed (all_of raw) → IsServed (far_of m) → AreServed (all_of (slice_set raw n m))
+pub served_set : (raw : List StoredMailbox) (n : ℕ) (m : StoredMailbox) → AreServed (all_of raw) → IsServed (far_of m) → AreServed (all_of (slice_set raw n m))
 served_set [] n m are is = are
 served_set (x ∷ xs) zero m are is = All-cons IsServed (far_of m) (all_of xs) is (λ k d within. are (suc k) d (omega arith))
 served_set (x ∷ xs) (suc n) m are is =
@@ -80,22 +80,22 @@ append_if s new tag name names message a c on h =
 
 -- ---- by cases on whether memory was there
 
-pub served_after : (r : Result (Unit {0}) AllocError) (raw : List Mailbox) (n : ℕ) (m d : Mailbox) (store : Store) → AreServed (all_of raw) → IsServed (far_of d)
+pub served_after : (r : Result (Unit {0}) AllocError) (raw : List StoredMailbox) (n : ℕ) (m d : StoredMailbox) (store : Store) → AreServed (all_of raw) → IsServed (far_of d)
     → OnOk r (far_of m ≡ record (far_of d) { store = store }) → OnErr r (m ≡ d) → IsServed (record (far_of d) { store = store }) → AreServed (all_of (slice_set raw n m))
 served_after (Ok x) raw n m d store are is ok err more = served_set raw n m are (subst IsServed (sym ok) more)
-served_after (Err e) raw n m d store are is ok err more = served_set raw n m are (subst (λ (y : Mailbox). IsServed (far_of y)) (sym err) is)
+served_after (Err e) raw n m d store are is ok err more = served_set raw n m are (subst (λ (y : StoredMailbox). IsServed (far_of y)) (sym err) is)
 
 same_server : (s v : Server) (mailboxes : List FarMailbox) → v.user ≡ s.user → v.password ≡ s.password → v.mailboxes ≡ mailboxes → v.keywords ≡ s.keywords → v.condition ≡ s.condition → v.has_news ≡ s.has_news → v ≡ record s { mailboxes = mailboxes }
 same_server s v mailboxes a b c k d e = λ i. record { user = a i; password = b i; mailboxes = c i; keywords = k i; condition = d i; has_news = e i }
 
-pub view_set : (s v : Server) (raw : List Mailbox) (n : ℕ) (m d : Mailbox) (c : Store → Store) → all_of raw ≡ s.mailboxes
+pub view_set : (s v : Server) (raw : List StoredMailbox) (n : ℕ) (m d : StoredMailbox) (c : Store → Store) → all_of raw ≡ s.mailboxes
     → v.user ≡ s.user → v.password ≡ s.password → v.keywords ≡ s.keywords → v.condition ≡ s.condition → v.has_news ≡ s.has_news → v.mailboxes ≡ all_of (slice_set raw n m) → n < length raw → d ≡ get_or raw n d
     → far_of m ≡ record (far_of d) { store = c (store_of d) } → v ≡ record s { mailboxes = changed_there c n s.mailboxes }
 view_set s v raw n m d c all user password keywords condition news set h at is =
-    let there : far_of m ≡ record (far_of (get_or raw n d)) { store = c (store_of (get_or raw n d)) } = is ∙ ap (λ (y : Mailbox). record (far_of y) { store = c (store_of y) }) at in
+    let there : far_of m ≡ record (far_of (get_or raw n d)) { store = c (store_of (get_or raw n d)) } = is ∙ ap (λ (y : StoredMailbox). record (far_of y) { store = c (store_of y) }) at in
     same_server s v _ user password (set ∙ all_of-set raw n m d c h there ∙ ap (changed_there c n) all) keywords condition news
 
-pub view_after : (r : Result (Unit {0}) AllocError) (s v : Server) (raw : List Mailbox) (n : ℕ) (m d : Mailbox) (c : Store → Store) → all_of raw ≡ s.mailboxes
+pub view_after : (r : Result (Unit {0}) AllocError) (s v : Server) (raw : List StoredMailbox) (n : ℕ) (m d : StoredMailbox) (c : Store → Store) → all_of raw ≡ s.mailboxes
     → v.user ≡ s.user → v.password ≡ s.password → v.keywords ≡ s.keywords → v.condition ≡ s.condition → v.has_news ≡ s.has_news → v.mailboxes ≡ all_of (slice_set raw n m) → n < length raw → d ≡ get_or raw n d
     → OnOk r (far_of m ≡ record (far_of d) { store = c (store_of d) }) → OnOk r (v ≡ record s { mailboxes = changed_there c n s.mailboxes })
 view_after (Ok x) s v raw n m d c all user password keywords condition news set h at is = view_set s v raw n m d c all user password keywords condition news set h at is

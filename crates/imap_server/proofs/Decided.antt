@@ -3,7 +3,7 @@ use Rattle.std.proofs.Common.{◌≡◌, ℕ, zero, suc, ◌<◌, ◌≤◌, ◌
 use Rattle.std.proofs.lemmas.Bool.{cases_lt}
 use Rattle.std.proofs.lemmas.List.{length-append, length-take, take_all, take-append-le}
 use Rattle.std.proofs.Math.Seq.{drop-append_seam}
-use Rattle.wire_reader.specs.declared.side.Side.TheVariants.{Commands}
+use Rattle.wire_reader.specs.declared.side.Speaker.TheVariants.{Commands}
 use Rattle.wire_reader.specs.Spelling.{crlf}
 use Rattle.wire_reader.specs.Lexical.{outside}
 use Rattle.wire_reader.specs.Scanning.{NoPlace}
@@ -103,7 +103,7 @@ module _ (xs zs : List ℕ) (opens : Opens Spelled xs) (none : NoPlace xs zs) wh
 
     -- a fault follows what was waited for, and no line end follows it but at the place
     pub record FaultPlace (at : ℕ) : Type 0 where
-      pub behind : length xs ≤ at
+      pub following : length xs ≤ at
       pub within : at ≤ length text
       pub front : List ℕ
       pub front_is : drop at more ≡ front ++ b ∷ []
@@ -117,7 +117,7 @@ module _ (xs zs : List ℕ) (opens : Opens Spelled xs) (none : NoPlace xs zs) wh
               let l = f.within in
               let same : at ≡ length text = omega (arith, l, ge, shorter) in
               record {
-                behind = omega (arith, ge, length-append xs zs);
+                following = omega (arith, ge, length-append xs zs);
                 within = omega (arith, same);
                 front = [];
                 front_is = ap (λ (n : ℕ). drop n more) same ∙ drop-append_seam text (b ∷ []);
@@ -138,9 +138,9 @@ module _ (xs zs : List ℕ) (opens : Opens Spelled xs) (none : NoPlace xs zs) wh
         inside lt (inl o) = absurd (fault_not_begun text at (length text) (fault_front text (b ∷ []) at f lt) lt (subst (Begins Spelled) (sym (take_all (length text) text (omega arith))) o.begins))
         inside lt (inr d) =
             let same : d.at ≡ at = one_fault text d.at at d.fault (fault_front text (b ∷ []) at f lt) in
-            let behind = d.behind in
+            let following = d.following in
             record {
-              behind = omega (arith, behind, same);
+              following = omega (arith, following, same);
               within = omega (arith, lt);
               front = drop at text;
               front_is = cut at text (omega (arith, lt));

@@ -4,7 +4,7 @@ use Rattle.std.specs.List.{list_all}
 use Rattle.std.proofs.Math.Seq.{take-append_seam, take-append-add, take-add}
 use Rattle.std.proofs.lemmas.List.{length-append, take_all, take_at, take-append-le}
 use Rattle.std.proofs.lemmas.Bool.{false≢true}
-use Rattle.wire_reader.specs.declared.side.Side.TheVariants.{Commands}
+use Rattle.wire_reader.specs.declared.side.Speaker.TheVariants.{Commands}
 use Rattle.wire_reader.specs.declared.scanner.Scanner.{Scanner}
 use Rattle.wire_reader.specs.Lexical.{outside, asks}
 use Rattle.wire_reader.specs.Scanning.{start, scanned, first_place, up_to, NoPlace}
@@ -17,7 +17,7 @@ use Rattle.imap_commands.specs.Commands.{Spelled}
 use Rattle.imap_commands.proofs.CommandParts.{command_part}
 use Rattle.imap_commands.proofs.CommandFeeds.{command_feed}
 use Rattle.imap_replies.specs.declared.reply.Reply.{Reply}
-use Rattle.imap_session.specs.Servers.{Server, is_over, told}
+use Rattle.imap_session.specs.Servers.{Server, is_over, reported}
 use Rattle.imap_session.specs.Portions.{LineFault, FaultIs, Item, Asks, Ends, Reads, once, goes_in}
 use Rattle.imap_session.specs.Unread.{Kept, Whole, Holds}
 use Rattle.imap_session.specs.Serving.{is_late, Runs, End, IsUnread, Feeds, FeedsSome}
@@ -25,11 +25,11 @@ use Rattle.law_session.specs.Short.{is_short}
 use Rattle.law_session.proofs.Joins.{feeds-join}
 use Rattle.law_session.proofs.Opening.{nothing_opens}
 use Rattle.law_session.proofs.ShortReplies.{short_append}
-use Rattle.imap_server.specs.declared.line.Line.{Line}
+use Rattle.imap_server.specs.declared.line.LineBuf.{LineBuf}
 use Rattle.imap_server.specs.declared.unread.Unread.{Unread}
 use Rattle.imap_server.specs.declared.unread.Unread.TheVariants as kinds
 use Rattle.imap_server.specs.Unreads.{Waits, IsSound, IsNothing, kept_of, end_of}
-use Rattle.imap_server.specs.Taking.{Tells, Took, TookSome, ToPlace, ReadLine, AnswersPlace}
+use Rattle.imap_server.specs.Taking.{Reports, Took, TookSome, ToPlace, ReadLine, AnswersPlace}
 use Rattle.imap_server.specs.Writing.{Wrote}
 use Rattle.imap_server.proofs.UpToPlaces.{found_place, no_place-take, no_place-append, goes_same, goes_last}
 use Rattle.imap_server.proofs.Decided.{state, fault_not_begun, one_fault, fault_place, whole_all, whole_is_all, limit_last}
@@ -38,11 +38,11 @@ use Rattle.imap_server.proofs.WritingLemmas.{wrote_none, wrote_then}
 use Rattle.imap_server.proofs.Feeding.{no_portion, one_portion, feeds_none, feeds_some, feeds_late}
 
 -- whether the connection is over is known
-holds_if : (over : Bool) (kept : Kept) (text : List ℕ) (told : List Reply) → over ≡ false → Holds false kept text told → Holds over kept text told
-holds_if over kept text told e h = subst (λ (b : Bool). Holds b kept text told) (sym e) h
+holds_if : (over : Bool) (kept : Kept) (text : List ℕ) (reported : List Reply) → over ≡ false → Holds false kept text reported → Holds over kept text reported
+holds_if over kept text reported e h = subst (λ (b : Bool). Holds b kept text reported) (sym e) h
 
-held_if : (over : Bool) (kept : Kept) (text : List ℕ) (told : List Reply) → over ≡ false → Holds over kept text told → Holds false kept text told
-held_if over kept text told e h = subst (λ (b : Bool). Holds b kept text told) e h
+held_if : (over : Bool) (kept : Kept) (text : List ℕ) (reported : List Reply) → over ≡ false → Holds over kept text reported → Holds false kept text reported
+held_if over kept text reported e h = subst (λ (b : Bool). Holds b kept text reported) e h
 
 -- ---- what was said so far
 
@@ -52,27 +52,27 @@ module _ (front since : List ℕ) (opens : Opens Spelled front) (none : NoPlace 
 
   -- up to a fault as much as up to the last place
   pub goes_to : (at : ℕ) → length front ≤ at → goes_in (take at line) ≡ goes_in front
-  goes_to at behind =
-      let parts : take at line ≡ front ++ take (at - length front) since = ap (λ (n : ℕ). take n line) (let e : at ≡ length front + (at - length front) = omega (arith, behind) in e) ∙ take-append-add front since (at - length front) in
+  goes_to at following =
+      let parts : take at line ≡ front ++ take (at - length front) since = ap (λ (n : ℕ). take n line) (let e : at ≡ length front + (at - length front) = omega (arith, following) in e) ∙ take-append-add front since (at - length front) in
       ap goes_in parts ∙ goes_same front (take (at - length front) since) (no_place-take (at - length front) front since none)
 
-  pub record Told (text : List ℕ) (told : List Reply) : Type 0 where
+  pub record Reported (text : List ℕ) (reported : List Reply) : Type 0 where
     pub text_is : text ≡ line
-    pub told_is : told ≡ goes_in front
+    pub reported_is : reported ≡ goes_in front
 
-  pub told_so : (text : List ℕ) (told : List Reply) → Holds false (Whole line) text told → Told text told
-  told_so text told (same, inl o) = record { text_is = sym same; told_is = o.said_is ∙ ap goes_in (sym same) ∙ goes_same front since none }
-  told_so text told (same, inr f) =
+  pub reported_so : (text : List ℕ) (reported : List Reply) → Holds false (Whole line) text reported → Reported text reported
+  reported_so text reported (same, inl o) = record { text_is = sym same; reported_is = o.said_is ∙ ap goes_in (sym same) ∙ goes_same front since none }
+  reported_so text reported (same, inr f) =
       let at = f.at in
       let fault : FaultAt Spelled line at = subst (λ (l : List ℕ). FaultAt Spelled l at) (sym same) (fault_there f.fault at text f.goes_on.is) in
       record {
         text_is = sym same;
-        told_is = f.goes_on.said_is ∙ ap (λ (l : List ℕ). goes_in (take at l)) (sym same) ∙ goes_to at (behind at fault (state front since opens none));
+        reported_is = f.goes_on.said_is ∙ ap (λ (l : List ℕ). goes_in (take at l)) (sym same) ∙ goes_to at (following at fault (state front since opens none));
       }
     where
-      behind : (at : ℕ) → FaultAt Spelled line at → Opens Spelled line ⊎ Drops Spelled front line → length front ≤ at
-      behind at fault (inl o) = let w = fault.within in absurd (fault_not_begun line at (length line) fault w (subst (Begins Spelled) (sym (take_all (length line) line (omega arith))) o.begins))
-      behind at fault (inr d) = let same = one_fault line d.at at d.fault fault in let b = d.behind in omega (arith, same, b)
+      following : (at : ℕ) → FaultAt Spelled line at → Opens Spelled line ⊎ Drops Spelled front line → length front ≤ at
+      following at fault (inl o) = let w = fault.within in absurd (fault_not_begun line at (length line) fault w (subst (Begins Spelled) (sym (take_all (length line) line (omega arith))) o.begins))
+      following at fault (inr d) = let same = one_fault line d.at at d.fault fault in let b = d.following in omega (arith, same, b)
 
   -- as long as no place comes, more is waited for, or a fault was met
   pub still_held : Holds false (Whole line) line (goes_in front)
@@ -82,26 +82,26 @@ module _ (front since : List ℕ) (opens : Opens Spelled front) (none : NoPlace 
       by_state (inl o) = (refl, inl (record { begins = o.begins; fits = o.fits; said_is = sym (goes_same front since none) }))
       by_state (inr d) =
           let s = sort d.at line d.fault d.fits in
-          (refl, inr (record { fault = s.fault; at = d.at; goes_on = record { is = s.is; no_end = d.no_end; said_is = sym (goes_to d.at d.behind) } }))
+          (refl, inr (record { fault = s.fault; at = d.at; goes_on = record { is = s.is; no_end = d.no_end; said_is = sym (goes_to d.at d.following) } }))
 
 -- no place among the bytes that come
 pub feeds_more : (s : Server) (front since more : List ℕ) → is_over s.condition ≡ false → Opens Spelled front → NoPlace front since → NoPlace (front ++ since) more
     → Feeds (record { server = s; kept = Whole (front ++ since) }) more [] (record { server = s; kept = Whole ((front ++ since) ++ more) })
 feeds_more s front since more in_time opens none later = record {
-  from = λ text told is.
-      let t = told_so front since opens none text told (held_if (is_over s.condition) (Whole (front ++ since)) text told in_time is) in
+  from = λ text reported is.
+      let t = reported_so front since opens none text reported (held_if (is_over s.condition) (Whole (front ++ since)) text reported in_time is) in
       let held : Holds false (Whole (front ++ (since ++ more))) (front ++ (since ++ more)) (goes_in front) = still_held front (since ++ more) opens (no_place-append front since more none later) in
       let same : front ++ (since ++ more) ≡ text ++ more = sym (append_assoc front since more) ∙ ap (λ (l : List ℕ). l ++ more) (sym t.text_is) in
       record {
         replies = [];
         rest = text ++ more;
-        rest_said = told;
+        rest_said = reported;
         runs = no_portion s (text ++ more);
-        unread_then = holds_if (is_over s.condition) (Whole ((front ++ since) ++ more)) (text ++ more) told in_time
-            (subst (λ (l : List ℕ). Holds false (Whole ((front ++ since) ++ more)) l told) same
-            (subst (λ (rs : List Reply). Holds false (Whole ((front ++ since) ++ more)) (front ++ (since ++ more)) rs) (sym t.told_is)
+        unread_then = holds_if (is_over s.condition) (Whole ((front ++ since) ++ more)) (text ++ more) reported in_time
+            (subst (λ (l : List ℕ). Holds false (Whole ((front ++ since) ++ more)) l reported) same
+            (subst (λ (rs : List Reply). Holds false (Whole ((front ++ since) ++ more)) (front ++ (since ++ more)) rs) (sym t.reported_is)
             (subst (λ (l : List ℕ). Holds false (Whole l) (front ++ (since ++ more)) (goes_in front)) (sym (append_assoc front since more)) held)));
-        are = append-nil told;
+        are = append-nil reported;
       };
 }
 
@@ -110,15 +110,15 @@ pub feeds_place : (s new : Server) (front since piece before out : List ℕ) (af
     → (r : ReadLine s ((front ++ since) ++ piece) (goes_in front) before out new after)
     → Feeds (record { server = s; kept = Whole (front ++ since) }) piece r.said (end_of new after)
 feeds_place s new front since piece before out after in_time opens none r = record {
-  from = λ text told is.
-      let t = told_so front since opens none text told (held_if (is_over s.condition) (Whole (front ++ since)) text told in_time is) in
+  from = λ text reported is.
+      let t = reported_so front since opens none text reported (held_if (is_over s.condition) (Whole (front ++ since)) text reported in_time is) in
       record {
         replies = r.replies;
         rest = r.rest;
         rest_said = r.rest_said;
         runs = subst (λ (l : List ℕ). Runs s (l ++ piece) r.replies r.rest new) (sym t.text_is) r.runs;
         unread_then = r.unread_then;
-        are = ap (λ (l : List Reply). l ++ r.said) t.told_is ∙ r.are;
+        are = ap (λ (l : List Reply). l ++ r.said) t.reported_is ∙ r.are;
       };
 }
 
@@ -145,8 +145,8 @@ module _ (old : Server) (text : List ℕ) (line : ToPlace text) where
 
   -- one portion was answered
   pub read_portion : (item : Item) (own : List Reply) (new : Server) (before out : List ℕ) (after : Unread) → list_all is_short own ≡ true → is_over old.condition ≡ false → Reads item text (goes_in line.front) → is_late item ≡ false
-      → Tells old item own new → Wrote own before out → IsNothing after → ReadLine old text (goes_in line.front) before out new after
-  read_portion item own new before out after short in_time reads late tells wrote nothing =
+      → Reports old item own new → Wrote own before out → IsNothing after → ReadLine old text (goes_in line.front) before out new after
+  read_portion item own new before out after short in_time reads late states wrote nothing =
       let n = unread_none new after nothing in
       record {
         said = own;
@@ -156,7 +156,7 @@ module _ (old : Server) (text : List ℕ) (line : ToPlace text) where
         replies = goes_in line.front ++ own;
         rest = [];
         rest_said = [];
-        runs = one_portion old new item text (goes_in line.front) own reads (late ∙ sym in_time) tells;
+        runs = one_portion old new item text (goes_in line.front) own reads (late ∙ sym in_time) states;
         unread_then = n.1;
         are = sym (append-nil (goes_in line.front ++ own));
       }
@@ -215,14 +215,14 @@ module _ (old : Server) (text : List ℕ) (line : ToPlace text) where
           ap (λ (n : ℕ). take n text) count ∙ ap (take (length begun)) line.parts ∙ take-append_seam begun (line.byte ∷ [])
 
   -- so much was said of a line with a fault
-  pub told_to_fault : (fault : LineFault) (at : ℕ) → FaultIs fault at text → goes_in line.front ≡ goes_in (take at text)
-  told_to_fault fault at is =
+  pub reported_to_fault : (fault : LineFault) (at : ℕ) → FaultIs fault at text → goes_in line.front ≡ goes_in (take at text)
+  reported_to_fault fault at is =
       let f = fault_place line.front line.since line.opens line.no_place line.byte at (subst (λ (l : List ℕ). FaultAt Spelled l at) line.parts (fault_there fault at text is)) in
-      sym (ap (λ (l : List ℕ). goes_in (take at l)) line.parts ∙ ap goes_in (take-append-le at begun (line.byte ∷ []) f.within) ∙ goes_to line.front line.since line.opens line.no_place at f.behind)
+      sym (ap (λ (l : List ℕ). goes_in (take at l)) line.parts ∙ ap goes_in (take-append-le at begun (line.byte ∷ []) f.within) ∙ goes_to line.front line.since line.opens line.no_place at f.following)
 
 -- ---- what the reader answers
 
-pub begun_sound : (s : Server) (line : Line) → is_over s.condition ≡ false → line.scanner ≡ scanned start line.bytes.items → Begins Spelled line.bytes.items → outside line.bytes.items ≤ 65536 → IsSound s (kinds.Line line)
+pub begun_sound : (s : Server) (line : LineBuf) → is_over s.condition ≡ false → line.scanner ≡ scanned start line.bytes.items → Begins Spelled line.bytes.items → outside line.bytes.items ≤ 65536 → IsSound s (kinds.Line line)
 begun_sound s line in_time scan begins fits = record {
   scanned = record { front = line.bytes.items; since = []; parts = sym (append-nil line.bytes.items); opens = record { begins = begins; fits = fits }; no_place = refl; scanned_is = scan };
   over = λ over. absurd (false≢true (sym in_time ∙ over));
@@ -230,15 +230,15 @@ begun_sound s line in_time scan begins fits = record {
 
 -- ---- bytes after the begin of a line
 
-pub scanned_on : (line new : Line) (bytes : List ℕ) → Waits line.bytes.items line.scanner → new.bytes.items ≡ line.bytes.items ++ bytes → new.scanner ≡ scanned line.scanner bytes → new.scanner ≡ scanned start new.bytes.items
+pub scanned_on : (line new : LineBuf) (bytes : List ℕ) → Waits line.bytes.items line.scanner → new.bytes.items ≡ line.bytes.items ++ bytes → new.scanner ≡ scanned line.scanner bytes → new.scanner ≡ scanned start new.bytes.items
 scanned_on line new bytes w taken scan =
     scan ∙ ap (λ (t : Scanner). scanned t bytes) w.scanned_is ∙ sym (scanned-append start line.bytes.items bytes) ∙ ap (scanned start) (sym taken)
 
-pub waits_more : (s : Server) (line new : Line) (bytes out : List ℕ) (found : Option ℕ) → is_over s.condition ≡ false → (w : Waits line.bytes.items line.scanner) → 0 < length bytes → found ≡ None → found ≡ first_place line.scanner bytes
+pub waits_more : (s : Server) (line new : LineBuf) (bytes out : List ℕ) (found : Option ℕ) → is_over s.condition ≡ false → (w : Waits line.bytes.items line.scanner) → 0 < length bytes → found ≡ None → found ≡ first_place line.scanner bytes
     → new.bytes.items ≡ line.bytes.items ++ up_to found bytes → new.scanner ≡ scanned line.scanner (up_to found bytes) → TookSome (end_of s (kinds.Line line)) bytes out out s (kinds.Line new) (length bytes)
-waits_more s line new bytes out found in_time w some is_none found_is taken_up scan_up =
+waits_more s line new bytes out found in_time w some is_none found_is taken_to scan_up =
     let place : first_place line.scanner bytes ≡ None = sym found_is ∙ is_none in
-    let taken : new.bytes.items ≡ line.bytes.items ++ bytes = taken_up ∙ ap (λ (o : Option ℕ). line.bytes.items ++ up_to o bytes) is_none in
+    let taken : new.bytes.items ≡ line.bytes.items ++ bytes = taken_to ∙ ap (λ (o : Option ℕ). line.bytes.items ++ up_to o bytes) is_none in
     let scan : new.scanner ≡ scanned line.scanner bytes = scan_up ∙ ap (λ (o : Option ℕ). scanned line.scanner (up_to o bytes)) is_none in
     let none : NoPlace (w.front ++ w.since) bytes = ap (λ (l : List ℕ). first_place (scanned start l) bytes) (sym w.parts) ∙ ap (λ (t : Scanner). first_place t bytes) (sym w.scanned_is) ∙ place in
     let all : take (length bytes) bytes ≡ bytes = take_all (length bytes) bytes (omega arith) in
@@ -267,7 +267,7 @@ waits_more s line new bytes out found in_time w some is_none found_is taken_up s
       };
     }
 
-pub placed : (s new : Server) (line : Line) (text bytes before out : List ℕ) (count : ℕ) (after : Unread) (found_at : Option ℕ) → is_over s.condition ≡ false → (w : Waits line.bytes.items line.scanner) → found_at ≡ Some count
+pub placed : (s new : Server) (line : LineBuf) (text bytes before out : List ℕ) (count : ℕ) (after : Unread) (found_at : Option ℕ) → is_over s.condition ≡ false → (w : Waits line.bytes.items line.scanner) → found_at ≡ Some count
     → found_at ≡ first_place line.scanner bytes → text ≡ line.bytes.items ++ up_to found_at bytes → AnswersPlace s text before out new after → TookSome (end_of s (kinds.Line line)) bytes before out new after count
 placed s new line text bytes before out count after found_at in_time w is_some found_is text_up answers =
     let found : Some count ≡ first_place line.scanner bytes = sym is_some ∙ found_is in
@@ -301,13 +301,13 @@ placed s new line text bytes before out count after found_at in_time w is_some f
       };
     }
 
-pub late_took : (s : Server) (unread : Unread) (bytes out : List ℕ) → 0 < length bytes → IsSound s unread → is_over s.condition ≡ true → TookSome (end_of s unread) bytes out out (told s) unread (length bytes)
+pub late_took : (s : Server) (unread : Unread) (bytes out : List ℕ) → 0 < length bytes → IsSound s unread → is_over s.condition ≡ true → TookSome (end_of s unread) bytes out out (reported s) unread (length bytes)
 late_took s unread bytes out some sound over = record {
   some = some;
   within = omega arith;
   took = record {
     said = [];
-    feeds = subst (λ (l : List ℕ). Feeds (end_of s unread) l [] (end_of (told s) unread)) (sym (take_all (length bytes) bytes (omega arith))) (feeds_late (end_of s unread) bytes over (sound.over over) some);
+    feeds = subst (λ (l : List ℕ). Feeds (end_of s unread) l [] (end_of (reported s) unread)) (sym (take_all (length bytes) bytes (omega arith))) (feeds_late (end_of s unread) bytes over (sound.over over) some);
     wrote = wrote_none out;
     short = refl;
     sound = record { scanned = sound.scanned; over = sound.over };

@@ -4,7 +4,7 @@ use Rattle.std.specs.List.{list_all, flat_map}
 use Rattle.std.proofs.lemmas.Bool.{cases_Bool, false≢true, eqb-true, and_parts, and_from, not-true}
 use Rattle.std.proofs.lemmas.List.{length-append}
 use Rattle.std.proofs.lemmas.List.Concat.{flat_map-cons}
-use Rattle.wire_reader.specs.declared.side.Side.TheVariants.{Commands}
+use Rattle.wire_reader.specs.declared.side.Speaker.TheVariants.{Commands}
 use Rattle.wire_reader.specs.declared.lexical.Phase.{Phase}
 use Rattle.wire_reader.specs.declared.lexical.Phase.TheVariants.{Plain}
 use Rattle.wire_reader.specs.Spelling.{◌⨾◌, Is, ItemsText, Word, crlf, is_digit, upper}
@@ -294,27 +294,27 @@ mode_octets modes.Remove = word_octets (mode_word modes.Remove) refl refl
 abbrev pub two : ℕ
 two = 33554476
 
-behind_octets : (r : Request) (t : List ℕ) → RequestText r t → HasOctets two t
-behind_octets requests.Capability t h = at_most 0 two t (omega arith) (end_octets t h)
-behind_octets requests.Noop t h = at_most 0 two t (omega arith) (end_octets t h)
-behind_octets requests.Logout t h = at_most 0 two t (omega arith) (end_octets t h)
-behind_octets (requests.Login user password) t h =
+after_octets : (r : Request) (t : List ℕ) → RequestText r t → HasOctets two t
+after_octets requests.Capability t h = at_most 0 two t (omega arith) (end_octets t h)
+after_octets requests.Noop t h = at_most 0 two t (omega arith) (end_octets t h)
+after_octets requests.Logout t h = at_most 0 two t (omega arith) (end_octets t h)
+after_octets (requests.Login user password) t h =
     then_octets 16777238 16777238 (string_octets user) (then_octets 0 16777238 space_octets (then_octets 16777238 0 (string_octets password) end_octets)) t h
-behind_octets (requests.Enable names) t h = at_most 0 two t (omega arith) (then_octets 0 0 (names_octets names) end_octets t h)
-behind_octets (requests.List pattern) t h = at_most 0 two t (omega arith) (then_octets 0 0 (quoted_octets pattern) end_octets t h)
-behind_octets (requests.Create mailbox) t h = at_most 16777238 two t (omega arith) (then_octets 16777238 0 (string_octets mailbox) end_octets t h)
-behind_octets (requests.Select mailbox) t h = at_most 16777238 two t (omega arith) (then_octets 16777238 0 (string_octets mailbox) end_octets t h)
-behind_octets (requests.Append mailbox flags message) t h =
+after_octets (requests.Enable names) t h = at_most 0 two t (omega arith) (then_octets 0 0 (names_octets names) end_octets t h)
+after_octets (requests.List pattern) t h = at_most 0 two t (omega arith) (then_octets 0 0 (quoted_octets pattern) end_octets t h)
+after_octets (requests.Create mailbox) t h = at_most 16777238 two t (omega arith) (then_octets 16777238 0 (string_octets mailbox) end_octets t h)
+after_octets (requests.Select mailbox) t h = at_most 16777238 two t (omega arith) (then_octets 16777238 0 (string_octets mailbox) end_octets t h)
+after_octets (requests.Append mailbox flags message) t h =
     then_octets 16777238 16777238 (string_octets mailbox)
     (then_octets 0 16777238 space_octets
     (then_octets 0 16777238 (flags_octets flags)
     (then_octets 0 16777238 space_octets (then_octets 16777238 0 (λ u g. literal_octets message u g.0) end_octets)))) t h
-behind_octets (requests.Fetch set what) t h =
+after_octets (requests.Fetch set what) t h =
     at_most 0 two t (omega arith) (then_octets 0 0 (set_octets set) (then_octets 0 0 space_octets (then_octets 0 0 (items_octets what) end_octets)) t h)
-behind_octets (requests.Store set mode flags) t h =
+after_octets (requests.Store set mode flags) t h =
     at_most 0 two t (omega arith) (then_octets 0 0 (set_octets set) (then_octets 0 0 space_octets (then_octets 0 0 (mode_octets mode) (then_octets 0 0 (flags_octets flags) end_octets))) t h)
-behind_octets (requests.Expunge set) t h = at_most 0 two t (omega arith) (then_octets 0 0 (set_octets set) end_octets t h)
+after_octets (requests.Expunge set) t h = at_most 0 two t (omega arith) (then_octets 0 0 (set_octets set) end_octets t h)
 
 pub command_octets : (c : Command) (t : List ℕ) → Spelled c t → HasOctets two t
 command_octets c t h =
-    then_octets 0 two (tag_octets c.tag) (then_octets 0 two space_octets (then_octets 0 two (verb_octets (verb_of c.request)) (behind_octets c.request))) t h
+    then_octets 0 two (tag_octets c.tag) (then_octets 0 two space_octets (then_octets 0 two (verb_octets (verb_of c.request)) (after_octets c.request))) t h

@@ -1,6 +1,6 @@
 -- The answers of the reader, of the bytes of the line itself.
 use Rattle.std.proofs.Common.{◌≡◌, ℕ, ◌≤◌, List, take, None, Some, Result, Ok, Err, sym, subst, arith}
-use Rattle.wire_reader.specs.declared.side.Side.TheVariants.{Commands}
+use Rattle.wire_reader.specs.declared.side.Speaker.TheVariants.{Commands}
 use Rattle.wire_reader.specs.declared.answer.Read.{Read}
 use Rattle.wire_reader.specs.declared.answer.Read.TheVariants.{Whole, WantsLiteral, Partial}
 use Rattle.wire_reader.specs.declared.answer.WireFault.{WireFault}

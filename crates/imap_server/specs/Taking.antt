@@ -6,7 +6,7 @@ use Rattle.wire_reader.specs.Places.{Opens}
 use Rattle.imap_commands.specs.declared.command.Command.{Command}
 use Rattle.imap_commands.specs.Commands.{Spelled}
 use Rattle.imap_replies.specs.declared.reply.Reply.{Reply}
-use Rattle.imap_session.specs.Servers.{Server, is_over, news, told}
+use Rattle.imap_session.specs.Servers.{Server, is_over, news, reported}
 use Rattle.imap_session.specs.Answering.{Answer, only}
 use Rattle.imap_session.specs.Portions.{LineFault, FaultIs, Item, Asks, goes_in}
 use Rattle.imap_session.specs.Unread.{Kept}
@@ -19,18 +19,18 @@ use Rattle.imap_server.specs.Unreads.{IsSound, end_of}
 use Rattle.imap_server.specs.Writing.{Wrote}
 
 -- the news was reported, and then what was read was done
-pub record Tells (old : Server) (item : Item) (replies : List Reply) (new : Server) : Type 0 where
+pub record Reports (old : Server) (item : Item) (replies : List Reply) (new : Server) : Type 0 where
   pub own : List Reply
-  pub does : Does (told old) item own new
+  pub does : Does (reported old) item own new
   pub replies_are : replies ≡ news old ++ own
 
 -- so it was with a command, with short replies
-abbrev pub TellsShort : Server → Command → List Reply → Server → Type 0
-TellsShort old command replies new = Tells old (Asks command) replies new × (list_all is_short replies ≡ true)
+abbrev pub ReportsShort : Server → Command → List Reply → Server → Type 0
+ReportsShort old command replies new = Reports old (Asks command) replies new × (list_all is_short replies ≡ true)
 
 -- an answer of the server once it has reported its news, after that news
-abbrev pub telling : (Server → Answer) → Server → Answer
-telling answer s = record { replies = news s ++ (answer (told s)).replies; after = (answer (told s)).after }
+abbrev pub reporting : (Server → Answer) → Server → Answer
+reporting answer s = record { replies = news s ++ (answer (reported s)).replies; after = (answer (reported s)).after }
 
 -- they were read, and what they complete was answered
 pub record Took (old : End) (bytes : List ℕ) (before out : List ℕ) (server : Server) (unread : Unread) : Type 0 where
@@ -58,7 +58,7 @@ pub record ToPlace (text : List ℕ) : Type 0 where
   pub no_place : NoPlace front since
 
 -- the text was read, of which so many `+ go` had been said before
-pub record ReadLine (old : Server) (text : List ℕ) (told : List Reply) (before out : List ℕ) (new : Server) (unread : Unread) : Type 0 where
+pub record ReadLine (old : Server) (text : List ℕ) (reported : List Reply) (before out : List ℕ) (new : Server) (unread : Unread) : Type 0 where
   pub said : List Reply
   pub wrote : Wrote said before out
   pub short : list_all is_short said ≡ true
@@ -68,7 +68,7 @@ pub record ReadLine (old : Server) (text : List ℕ) (told : List Reply) (before
   pub rest_said : List Reply
   pub runs : Runs old text replies rest new
   pub unread_then : IsUnread (end_of new unread) rest rest_said
-  pub are : told ++ said ≡ replies ++ rest_said
+  pub are : reported ++ said ≡ replies ++ rest_said
 
 abbrev pub AnswersPlace : Server → (text before out : List ℕ) → Server → Unread → Type 0
 AnswersPlace old text before out new unread = (is_over old.condition ≡ false) → (line : ToPlace text) → ReadLine old text (goes_in line.front) before out new unread

@@ -9,15 +9,15 @@ ghost use Rattle.imap_messages.specs.Boxes.{store_of, far_of};
 ghost use Rattle.imap_server.specs.Services.{condition_of};
 ghost use Rattle.imap_server.specs.Writing.{Wrote};
 
-use crate::condition::Condition;
+use crate::condition::ConnectionState;
 use crate::mailbox_commands::{count_of, number};
 use crate::service::{Service, same_name};
 use crate::writing::{say, say_done_with, say_no, say_no_with, say_out_of_place};
-use imap_commands::message::Message as Sent;
+use imap_commands::message::SentMessage as Sent;
 use imap_replies::reply::Reply;
 use imap_replies::response::Code;
 use mailcore::flags::Flags;
-use mailcore::mailbox::{Mailbox, Message};
+use mailcore::mailbox::{Message, StoredMailbox};
 use mailcore::octets::Octets;
 use mailcore::uid::Uid;
 use std::alloc::AllocError;
@@ -115,14 +115,14 @@ impl Service {
 
 /// Reports how many messages the mailbox of this name has now, if it is the one that is selected.
 fn say_grown(
-    condition: &Condition,
+    condition: &ConnectionState,
     name: &[u8],
     count: u32,
     out: &mut Vec<u8>,
 ) -> Result<(), AllocError>
     ensures { OnOk result (Wrote (grown (condition_of condition.now) name.now count) out.old.items out.new.items) }
 {
-    if let Condition::Selected(selected) = condition {
+    if let ConnectionState::Selected(selected) = condition {
         if same_name(selected.as_slice(), name) {
             say(&Reply::Exists(count), out)?;
         }
@@ -138,7 +138,12 @@ fn say_appended(tag: Tag, validity: NonZero, uid: Uid, out: &mut Vec<u8>) -> Res
 }
 
 /// Adds the message after the others, under the next UID.
-fn add(mailbox: &mut Mailbox, uid: Uid, flags: Flags, message: Vec<u8>) -> Result<(), AllocError>
+fn add(
+    mailbox: &mut StoredMailbox,
+    uid: Uid,
+    flags: Flags,
+    message: Vec<u8>,
+) -> Result<(), AllocError>
     requires { uid ≡ mailbox.old.next }
     ensures ok { OnOk result (far_of mailbox.new ≡ record (far_of mailbox.old) { store = added uid flags message.items (store_of mailbox.old) }) }
     ensures err { OnErr result (mailbox.new ≡ mailbox.old) }

@@ -4,7 +4,7 @@ use wire_strings::text::Text;
 
 /// What a connection may ask for.
 #[derive(Drop)]
-pub(crate) enum Condition {
+pub(crate) enum ConnectionState {
     /// Nobody is logged in.
     NotAuthenticated,
     /// Somebody is, and no mailbox is selected.

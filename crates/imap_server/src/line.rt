@@ -5,21 +5,21 @@ use wire_reader::scanner::Scanner;
 
 /// The begin of a line, and how far it was scanned: to its end.
 #[derive(Drop)]
-pub(crate) struct Line {
+pub(crate) struct LineBuf {
     pub(crate) bytes: Vec<u8>,
     scanner: Scanner,
 }
 
-impl Line {
+impl LineBuf {
     ghost use Rattle.std.specs.Prelude.{◌≡◌, ◌++◌, [], IfOk};
     ghost use Rattle.wire_reader.specs.Scanning.{start, scanned, first_place, up_to};
 
     /// A line of which nothing was read.
-    pub(crate) fn new(alloc: Global) -> Line
+    pub(crate) fn new(alloc: Global) -> LineBuf
         ensures empty { result.bytes.items ≡ [] }
         ensures start { result.scanner ≡ start }
     {
-        Line {
+        LineBuf {
             bytes: Vec::new(alloc),
             scanner: Scanner::new(),
         }

@@ -11,8 +11,8 @@ ghost use Rattle.imap_server.specs.Writing.{Wrote};
 use crate::mailbox_commands::say_listed;
 use crate::service::Service;
 use crate::writing::{say_done, say_out_of_place};
-use imap_commands::pattern::Pattern;
-use mailcore::mailbox::Mailbox;
+use imap_commands::pattern::ListPattern;
+use mailcore::mailbox::StoredMailbox;
 use mailcore::mailbox_pattern::matches;
 use std::alloc::{AllocError, Global};
 use wire_tokens::tag::Tag;
@@ -26,7 +26,7 @@ impl Service {
     pub(crate) fn list(
         &self,
         tag: Tag,
-        pattern: &Pattern,
+        pattern: &ListPattern,
         out: &mut Vec<u8>,
     ) -> Result<(), AllocError>
         ensures { OnOk result (Answered (lists self.now tag pattern.now) out.old.items out.new.items self.now) }
@@ -44,7 +44,7 @@ impl Service {
 /// The names that match the pattern, in the order of their bytes.
 fn names_matched<'a>(
     alloc: Global,
-    mailboxes: &'a [Mailbox],
+    mailboxes: &'a [StoredMailbox],
     pattern: &[u8],
 ) -> Result<Vec<&'a [u8]>, AllocError>
     ensures { IfOk result (λ names. map (λ n. n.now) names.items ≡ names_matched pattern.now (all_of mailboxes.now)) }
@@ -58,7 +58,7 @@ fn names_matched<'a>(
 /// The names that match the pattern, in the order of the mailboxes. `row` is room for the matcher, one longer than the pattern.
 fn names_among<'a>(
     alloc: Global,
-    mailboxes: &'a [Mailbox],
+    mailboxes: &'a [StoredMailbox],
     pattern: &[u8],
     row: &mut [bool],
 ) -> Result<Vec<&'a [u8]>, AllocError>

@@ -8,7 +8,7 @@ ghost use Rattle.imap_messages.specs.Boxes.{far_of, all_of, IsServed};
 ghost use Rattle.imap_server.specs.Services.{condition_of};
 ghost use Rattle.imap_server.specs.Writing.{Wrote};
 
-use crate::condition::Condition;
+use crate::condition::ConnectionState;
 use crate::service::Service;
 use crate::words::word_code;
 use crate::writing::{
@@ -17,7 +17,7 @@ use crate::writing::{
 use imap_replies::reply::Reply;
 use imap_replies::response::Code;
 use mailcore::keywords::Keywords;
-use mailcore::mailbox::Mailbox;
+use mailcore::mailbox::StoredMailbox;
 use mailcore::mailbox_name::{MailboxName, is_mailbox_name};
 use std::alloc::{AllocError, Global};
 use wire_strings::text::Text;
@@ -92,11 +92,11 @@ impl Service {
         match self.place_of(name.as_slice()) {
             Some(place) => {
                 say_opening(self.alloc, self.mailbox(place), &self.keywords, tag, out)?;
-                self.enter(Condition::Selected(name));
+                self.enter(ConnectionState::Selected(name));
             }
             None => {
                 say_no_with(tag, b"NONEXISTENT", b"no mailbox", out)?;
-                self.enter(Condition::Authenticated);
+                self.enter(ConnectionState::Authenticated);
             }
         }
         Ok(())
@@ -104,10 +104,10 @@ impl Service {
 }
 
 /// Reports that the mailbox that was selected is so no more.
-fn say_closed(condition: &Condition, out: &mut Vec<u8>) -> Result<(), AllocError>
+fn say_closed(condition: &ConnectionState, out: &mut Vec<u8>) -> Result<(), AllocError>
     ensures { OnOk result (Wrote (closes (condition_of condition.now)) out.old.items out.new.items) }
 {
-    if let Condition::Selected(_) = condition {
+    if let ConnectionState::Selected(_) = condition {
         say_note(word_code(b"CLOSED"), b"closed", out)?;
     }
     Ok(())
@@ -116,7 +116,7 @@ fn say_closed(condition: &Condition, out: &mut Vec<u8>) -> Result<(), AllocError
 /// Reports what a mailbox that is selected has.
 fn say_opening(
     alloc: Global,
-    mailbox: &Mailbox,
+    mailbox: &StoredMailbox,
     keywords: &Keywords,
     tag: Tag,
     out: &mut Vec<u8>,
@@ -144,7 +144,7 @@ fn say_opening(
 }
 
 /// How many messages the mailbox has.
-pub(crate) fn count_of(mailbox: &Mailbox) -> u32
+pub(crate) fn count_of(mailbox: &StoredMailbox) -> u32
     requires { IsServed (far_of mailbox.now) }
     ensures count { result ≡ length mailbox.now.messages }
     ensures below { result < mailbox.now.next }
@@ -175,7 +175,7 @@ pub(crate) fn say_listed(name: &[u8], out: &mut Vec<u8>) -> Result<(), AllocErro
 }
 
 /// The UIDVALIDITY of the next mailbox, or none where none is left.
-fn next_validity(mailboxes: &[Mailbox]) -> Option<u32>
+fn next_validity(mailboxes: &[StoredMailbox]) -> Option<u32>
     ensures some { IfSome result (λ v. v ≡ next_validity (all_of mailboxes.now)) }
     ensures none { IfNone result (4294967296 ≤ next_validity (all_of mailboxes.now)) }
 {
@@ -184,14 +184,14 @@ fn next_validity(mailboxes: &[Mailbox]) -> Option<u32>
 }
 
 /// A mailbox without messages.
-fn empty_mailbox(alloc: Global, name: &[u8], validity: u32) -> Result<Mailbox, AllocError>
+fn empty_mailbox(alloc: Global, name: &[u8], validity: u32) -> Result<StoredMailbox, AllocError>
     requires name { is_mailbox_name name.now ≡ true }
     requires validity { 0 < validity }
     ensures new { IfOk result (λ m. far_of m ≡ empty_mailbox name.now validity) }
     ensures served { IfOk result (λ m. IsServed (far_of m)) }
 {
     match MailboxName::from_bytes(alloc, name)? {
-        Some(name) => Ok(Mailbox::new(alloc, name, validity, 1)),
+        Some(name) => Ok(StoredMailbox::new(alloc, name, validity, 1)),
         None => unreachable!(),
     }
 }

@@ -20,9 +20,9 @@ use imap_replies::fetch::{FetchItem, FetchList};
 use imap_replies::reply::Reply;
 use mailcore::flags::Flags;
 use mailcore::keywords::Keywords;
-use mailcore::mailbox::{Mailbox, Message};
+use mailcore::mailbox::{Message, StoredMailbox};
 use std::alloc::{AllocError, Global};
-use wire_strings::octets::Octets;
+use wire_strings::octets::LentOctets;
 use wire_strings::string::WireString;
 use wire_tokens::flag_list::FlagList;
 use wire_tokens::number::NonZero;
@@ -136,7 +136,7 @@ impl Service {
 /// Reports the items of those messages that the set names.
 fn say_messages(
     alloc: Global,
-    mailbox: &Mailbox,
+    mailbox: &StoredMailbox,
     keywords: &Keywords,
     set: &UidSet,
     items: FetchItems,
@@ -208,7 +208,7 @@ fn literal(bytes: &[u8]) -> WireString<'_>
     requires { IsLiteral bytes.now }
     ensures { result ≡ WireString.Literal bytes.now }
 {
-    match Octets::read(bytes) {
+    match LentOctets::read(bytes) {
         Some(octets) => WireString::Literal(octets),
         None => unreachable!(),
     }
@@ -228,7 +228,7 @@ fn head(bytes: &[u8]) -> &[u8]
 }
 
 /// Reports which messages are removed: those that the set names and that are marked as deleted.
-fn say_removed(mailbox: &Mailbox, set: &UidSet, out: &mut Vec<u8>) -> Result<(), AllocError>
+fn say_removed(mailbox: &StoredMailbox, set: &UidSet, out: &mut Vec<u8>) -> Result<(), AllocError>
     requires { IsServed (far_of mailbox.now) }
     ensures { OnOk result (Wrote (removed (named_in (store_of mailbox.now) set.now) 1 mailbox.now.messages) out.old.items out.new.items) }
 {

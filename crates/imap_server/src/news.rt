@@ -8,11 +8,11 @@ use imap_replies::reply::Reply;
 use mailcore::flags::Flags;
 use mailcore::uid::Uid;
 use std::alloc::AllocError;
-use wire_strings::octets::Octets;
+use wire_strings::octets::LentOctets;
 
 impl Service {
     ghost use Rattle.std.specs.Prelude.{◌≡◌, ◌||◌, OnOk, OnErr, IfOk};
-    ghost use Rattle.imap_session.specs.Servers.{news, told};
+    ghost use Rattle.imap_session.specs.Servers.{news, reported};
     ghost use Rattle.imap_session.specs.Steps.{Step};
     ghost use Rattle.imap_session.specs.Arrivals.{is_selected, Arrived};
     ghost use Rattle.imap_server.specs.Writing.{Wrote, AnsweredBy};
@@ -31,12 +31,12 @@ impl Service {
     }
 
     /// Does what the command asks for, once the news was reported. If memory runs out, the news counts as not reported.
-    pub(crate) fn answer_told(
+    pub(crate) fn answer_reported(
         &mut self,
         command: Command,
         out: &mut Vec<u8>,
     ) -> Result<(), AllocError>
-        ensures ok { OnOk result (AnsweredBy (Step (told self.old) command) out.old.items out.new.items self.new) }
+        ensures ok { OnOk result (AnsweredBy (Step (reported self.old) command) out.old.items out.new.items self.new) }
         ensures err { OnErr result (self.new ≡ self.old) }
     {
         let had_news = self.has_news;
@@ -64,7 +64,7 @@ impl Service {
         let Some(place) = self.place_of(name) else {
             return Ok(None);
         };
-        if Octets::read(message).is_none() {
+        if LentOctets::read(message).is_none() {
             return Ok(None);
         }
         match Uid::new(self.mailbox(place).next) {

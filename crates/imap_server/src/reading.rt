@@ -2,10 +2,10 @@
 
 ghost use Rattle.std.specs.Prelude.{◌≡◌};
 
-use crate::condition::Condition;
+use crate::condition::ConnectionState;
 use crate::dropped::Dropped;
 use crate::fault::{LineFault, say_fault, tag_before};
-use crate::line::Line;
+use crate::line::LineBuf;
 use crate::service::Service;
 use crate::unread::Unread;
 use crate::writing::{say_bye, say_go};
@@ -21,7 +21,7 @@ impl Service {
     ghost use Rattle.imap_session.specs.Serving.{FeedsSome, ends};
     ghost use Rattle.imap_server.specs.declared.unread.Unread.TheVariants as kinds;
     ghost use Rattle.imap_server.specs.Unreads.{Waits, IsSound, IsNothing, end_of, fault_of};
-    ghost use Rattle.imap_server.specs.Taking.{TellsShort, telling, Took, TookSome, AnswersPlace, DropsLine, dropped_answer};
+    ghost use Rattle.imap_server.specs.Taking.{ReportsShort, reporting, Took, TookSome, AnswersPlace, DropsLine, dropped_answer};
     ghost use Rattle.imap_server.specs.Writing.{Answered, AnsweredBy};
 
     /// Reads bytes of the connection, and answers what they complete.
@@ -72,7 +72,7 @@ impl Service {
     /// Reads some of the bytes after the begin of a line.
     fn read_line(
         &mut self,
-        line: Line,
+        line: LineBuf,
         bytes: &[u8],
         out: &mut Vec<u8>,
     ) -> Result<(Unread, usize), AllocError>
@@ -93,7 +93,7 @@ impl Service {
     }
 
     /// Reads a line that ends with a place: a command, the begin of one, or a fault.
-    fn read_place(&mut self, line: Line, out: &mut Vec<u8>) -> Result<Unread, AllocError>
+    fn read_place(&mut self, line: LineBuf, out: &mut Vec<u8>) -> Result<Unread, AllocError>
         requires { line.scanner ≡ scanned start line.bytes.items }
         ensures ok { IfOk result (λ after. AnswersPlace self.old line.bytes.items out.old.items out.new.items self.new after) }
         ensures err { OnErr result (self.new ≡ self.old) }
@@ -123,13 +123,13 @@ impl Service {
 
     /// Answers a command; nothing is unread after it.
     fn answer_command(&mut self, command: Command, out: &mut Vec<u8>) -> Result<Unread, AllocError>
-        ensures ok { IfOk result (λ after. IsNothing after × AnsweredBy (TellsShort self.old command) out.old.items out.new.items self.new) }
+        ensures ok { IfOk result (λ after. IsNothing after × AnsweredBy (ReportsShort self.old command) out.old.items out.new.items self.new) }
         ensures err { OnErr result (self.new ≡ self.old) }
     {
-        let nothing = Unread::Line(Line::new(self.alloc));
+        let nothing = Unread::Line(LineBuf::new(self.alloc));
         self.has_map();
         self.say_news(out)?;
-        self.answer_told(command, out)?;
+        self.answer_reported(command, out)?;
         Ok(nothing)
     }
 
@@ -174,7 +174,7 @@ impl Service {
 
     /// Answers a line with a fault, whose end was met.
     fn end_line(&mut self, dropped: Dropped, out: &mut Vec<u8>) -> Result<Unread, AllocError>
-        ensures ok { IfOk result (λ after. IsNothing after × Answered (telling (dropped_answer (fault_of dropped.fault) dropped.last) self.old)
+        ensures ok { IfOk result (λ after. IsNothing after × Answered (reporting (dropped_answer (fault_of dropped.fault) dropped.last) self.old)
             out.old.items out.new.items self.new) }
         ensures err { OnErr result (self.new ≡ self.old) }
     {
@@ -189,13 +189,13 @@ impl Service {
 
     /// Ends the connection, since what follows can't be read.
     fn end(&mut self, out: &mut Vec<u8>) -> Result<Unread, AllocError>
-        ensures ok { IfOk result (λ after. IsNothing after × Answered (telling ends self.old) out.old.items out.new.items self.new) }
+        ensures ok { IfOk result (λ after. IsNothing after × Answered (reporting ends self.old) out.old.items out.new.items self.new) }
         ensures err { OnErr result (self.new ≡ self.old) }
     {
         self.say_news(out)?;
         say_bye(b"too long", out)?;
         self.set_news(false);
-        self.enter(Condition::LoggedOut);
+        self.enter(ConnectionState::LoggedOut);
         Ok(self.nothing())
     }
 
@@ -203,6 +203,6 @@ impl Service {
     fn nothing(&self) -> Unread
         ensures { IsNothing result }
     {
-        Unread::Line(Line::new(self.alloc))
+        Unread::Line(LineBuf::new(self.alloc))
     }
 }

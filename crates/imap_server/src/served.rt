@@ -5,18 +5,18 @@ ghost use Rattle.mailcore.specs.Ranges.{AreInRange};
 ghost use Rattle.wire_strings.specs.Literals.{IsLiteral};
 ghost use Rattle.imap_messages.specs.Boxes.{far_of, all_of, IsServed, AreServed};
 
-use mailcore::mailbox::{Mailbox, Message};
-use wire_strings::octets::Octets;
+use mailcore::mailbox::{Message, StoredMailbox};
+use wire_strings::octets::LentOctets;
 
 /// Whether a server can be made with these mailboxes: each name keeps to the limits of docs/SESSION.md, no UIDVALIDITY and
 /// no UIDNEXT is 0, and each message can be sent as a literal.
-pub fn are_served(mailboxes: &[Mailbox]) -> bool
+pub fn are_served(mailboxes: &[StoredMailbox]) -> bool
     ensures { (result ≡ true) ↔ AreServed (all_of mailboxes.now) }
 {
     each_is_served(mailboxes)
 }
 
-fn each_is_served(mailboxes: &[Mailbox]) -> bool
+fn each_is_served(mailboxes: &[StoredMailbox]) -> bool
     ensures { (result ≡ true) ↔ All (λ m. IsServed (far_of m)) mailboxes.now }
 {
     for mailbox in mailboxes {
@@ -27,7 +27,7 @@ fn each_is_served(mailboxes: &[Mailbox]) -> bool
     true
 }
 
-fn is_served(mailbox: &Mailbox) -> bool
+fn is_served(mailbox: &StoredMailbox) -> bool
     ensures yes { result ≡ true → IsServed (far_of mailbox.now) }
     ensures no { IsServed (far_of mailbox.now) → result ≡ true }
 {
@@ -44,7 +44,7 @@ fn are_sent(messages: &[Message]) -> bool
     for message in messages {
         // Their ranges are known from these calls.
         let _ranges = (message.uid.get(), message.flags.bits());
-        if Octets::read(message.bytes.as_slice()).is_none() {
+        if LentOctets::read(message.bytes.as_slice()).is_none() {
             return false;
         }
     }

@@ -2,13 +2,13 @@
 
 ghost use Rattle.std.specs.Prelude.{◌≡◌};
 
-use crate::condition::Condition;
-use crate::line::Line;
+use crate::condition::ConnectionState;
+use crate::line::LineBuf;
 use crate::service::Service;
 use crate::unread::Unread;
 use mailcore::flags::Flags;
 use mailcore::keywords::Keywords;
-use mailcore::mailbox::Mailbox;
+use mailcore::mailbox::StoredMailbox;
 use mailcore::uid::Uid;
 use std::alloc::{AllocError, Global};
 use std::marker::Model;
@@ -61,7 +61,12 @@ impl Server {
     /// A server with these mailboxes, for one user with a password, whose flags are the six that IMAP names. There is no connection.
     ///
     /// The mailboxes keep to the limits of docs/SESSION.md; of two with one name only the first is ever found.
-    pub fn new(alloc: Global, mailboxes: Vec<Mailbox>, user: Vec<u8>, password: Vec<u8>) -> Server
+    pub fn new(
+        alloc: Global,
+        mailboxes: Vec<StoredMailbox>,
+        user: Vec<u8>,
+        password: Vec<u8>,
+    ) -> Server
         requires { AreServed (all_of mailboxes.items) }
         ensures { result ≡ record {
           server = record { user = user.items; password = password.items; mailboxes = all_of mailboxes.items; keywords = []; condition = NotAuthenticated; has_news = false };
@@ -75,7 +80,7 @@ impl Server {
     /// The same, whose flags are the six and these keywords.
     pub fn with_keywords(
         alloc: Global,
-        mailboxes: Vec<Mailbox>,
+        mailboxes: Vec<StoredMailbox>,
         user: Vec<u8>,
         password: Vec<u8>,
         keywords: Keywords,
@@ -93,7 +98,7 @@ impl Server {
             password,
             mailboxes,
             keywords,
-            condition: Condition::NotAuthenticated,
+            condition: ConnectionState::NotAuthenticated,
             has_news: false,
         };
         Server {
@@ -112,10 +117,10 @@ impl Server {
           is_lost = false;
         } }
     {
-        self.service.enter(Condition::NotAuthenticated);
+        self.service.enter(ConnectionState::NotAuthenticated);
         self.service.set_news(false);
         self.is_lost = false;
-        self.unread = Some(Unread::Line(Line::new(self.service.alloc)));
+        self.unread = Some(Unread::Line(LineBuf::new(self.service.alloc)));
         b"* OK ready\r\n"
     }
 
@@ -204,7 +209,7 @@ impl Server {
     }
 
     /// The mailboxes as they stand.
-    pub fn mailboxes(&self) -> &[Mailbox]
+    pub fn mailboxes(&self) -> &[StoredMailbox]
         ensures { all_of result.now ≡ self.now.server.mailboxes }
     {
         self.service.mailboxes.as_slice()

@@ -5,9 +5,9 @@ ghost use Rattle.imap_session.specs.Mailboxes.{is_inbox, same_name};
 ghost use Rattle.imap_messages.specs.Boxes.{all_of};
 ghost use Rattle.imap_server.specs.Places.{Place};
 
-use crate::condition::Condition;
+use crate::condition::ConnectionState;
 use mailcore::keywords::Keywords;
-use mailcore::mailbox::Mailbox;
+use mailcore::mailbox::StoredMailbox;
 use std::alloc::Global;
 use std::marker::Model;
 
@@ -17,10 +17,10 @@ pub(crate) struct Service {
     pub(crate) alloc: Global,
     pub(crate) user: Vec<u8>,
     pub(crate) password: Vec<u8>,
-    pub(crate) mailboxes: Vec<Mailbox>,
+    pub(crate) mailboxes: Vec<StoredMailbox>,
     // the letters by which flags are seen here
     pub(crate) keywords: Keywords,
-    pub(crate) condition: Condition,
+    pub(crate) condition: ConnectionState,
     // messages have arrived in the mailbox that is selected, of which nothing was said yet
     pub(crate) has_news: bool,
 }
@@ -73,7 +73,7 @@ impl Service {
         ensures { SelectedPlace self.now result }
     {
         match &self.condition {
-            Condition::Selected(name) => self.place_of(name.as_slice()),
+            ConnectionState::Selected(name) => self.place_of(name.as_slice()),
             _ => None,
         }
     }
@@ -83,13 +83,13 @@ impl Service {
         ensures { result ≡ is_selected name.now self.now.condition }
     {
         match &self.condition {
-            Condition::Selected(at) => same_name(at.as_slice(), name),
+            ConnectionState::Selected(at) => same_name(at.as_slice(), name),
             _ => false,
         }
     }
 
     /// The mailbox at this place.
-    pub(crate) fn mailbox(&self, place: usize) -> &Mailbox
+    pub(crate) fn mailbox(&self, place: usize) -> &StoredMailbox
         requires { place < length self.now.mailboxes }
         ensures there { slice_get self.now.mailboxes place ≡ Some (far_of result.now) }
         ensures served { IsServed (far_of result.now) }
@@ -98,7 +98,7 @@ impl Service {
     }
 
     /// The connection is in this condition from now on.
-    pub(crate) fn enter(&mut self, condition: Condition)
+    pub(crate) fn enter(&mut self, condition: ConnectionState)
         ensures { self.new ≡ record self.old { condition = condition_of condition } }
     {
         self.condition = condition;
@@ -115,7 +115,7 @@ impl Service {
     pub(crate) fn is_before_login(&self) -> bool
         ensures { result ≡ is_before_login self.now.condition }
     {
-        matches!(self.condition, Condition::NotAuthenticated)
+        matches!(self.condition, ConnectionState::NotAuthenticated)
     }
 
     /// Whether somebody is logged in.
@@ -124,7 +124,7 @@ impl Service {
     {
         matches!(
             self.condition,
-            Condition::Authenticated | Condition::Selected(_)
+            ConnectionState::Authenticated | ConnectionState::Selected(_)
         )
     }
 
@@ -132,19 +132,19 @@ impl Service {
     pub(crate) fn is_over(&self) -> bool
         ensures { result ≡ is_over self.now.condition }
     {
-        matches!(self.condition, Condition::LoggedOut)
+        matches!(self.condition, ConnectionState::LoggedOut)
     }
 }
 
 /// The place of the mailbox of this name.
-fn place_of(mailboxes: &[Mailbox], name: &[u8]) -> Option<usize>
+fn place_of(mailboxes: &[StoredMailbox], name: &[u8]) -> Option<usize>
     ensures { Place name.now (all_of mailboxes.now) result }
 {
     first_named(mailboxes, name)
 }
 
 /// The place of the first mailbox of this name.
-fn first_named(mailboxes: &[Mailbox], name: &[u8]) -> Option<usize>
+fn first_named(mailboxes: &[StoredMailbox], name: &[u8]) -> Option<usize>
     ensures { result ≡ position (λ m. same_name m.name name.now) mailboxes.now }
 {
     mailboxes

@@ -4,7 +4,7 @@ ghost use Rattle.std.specs.Prelude.{◌≡◌, ◌∷◌, [], None, Some, if◌t
 ghost use Rattle.wire_tokens.specs.Names.{has_name};
 ghost use Rattle.imap_session.specs.SessionCommands.{REV2};
 
-use crate::condition::Condition;
+use crate::condition::ConnectionState;
 use crate::service::Service;
 use crate::writing::{say, say_bye, say_done, say_no_with, say_out_of_place};
 use imap_replies::reply::Reply;
@@ -16,12 +16,12 @@ use wire_tokens::tag::Tag;
 
 impl Service {
     ghost use Rattle.std.specs.Prelude.{◌≡◌, OnOk, OnErr};
-    ghost use Rattle.imap_session.specs.SessionCommands.{tells_capabilities, does_nothing, logs_out, logs_in, enables};
+    ghost use Rattle.imap_session.specs.SessionCommands.{reports_capabilities, does_nothing, logs_out, logs_in, enables};
     ghost use Rattle.imap_server.specs.Writing.{Answered};
 
     /// Answers CAPABILITY.
     pub(crate) fn capability(&self, tag: Tag, out: &mut Vec<u8>) -> Result<(), AllocError>
-        ensures { OnOk result (Answered (tells_capabilities self.now tag) out.old.items out.new.items self.now) }
+        ensures { OnOk result (Answered (reports_capabilities self.now tag) out.old.items out.new.items self.now) }
     {
         say(&Reply::Capability(rev2()), out)?;
         say_done(tag, out)?;
@@ -43,7 +43,7 @@ impl Service {
     {
         say_bye(b"bye", out)?;
         say_done(tag, out)?;
-        self.condition = Condition::LoggedOut;
+        self.condition = ConnectionState::LoggedOut;
         Ok(())
     }
 
@@ -65,7 +65,7 @@ impl Service {
             && password.as_slice() == self.password.as_slice()
         {
             say_done(tag, out)?;
-            self.condition = Condition::Authenticated;
+            self.condition = ConnectionState::Authenticated;
             Ok(())
         } else {
             say_no_with(tag, b"AUTHENTICATIONFAILED", b"login", out)

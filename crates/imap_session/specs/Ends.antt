@@ -1,13 +1,13 @@
 -- What a client has of a connection, and what became of a command that it sent.
 use Rattle.std.specs.Prelude.{◌≡◌, ◌≤◌, ◌⊎◌, ℕ, Bool, true, false, List, [], ◌∷◌, ◌++◌, Some}
-use Rattle.wire_reader.specs.declared.side.Side.TheVariants.{Commands}
+use Rattle.wire_reader.specs.declared.side.Speaker.TheVariants.{Commands}
 use Rattle.wire_reader.specs.Lexical.{asks, outside}
 use Rattle.imap_commands.specs.declared.command.Command.{Command}
 use Rattle.imap_commands.specs.declared.command.Request.{Request}
 use Rattle.imap_commands.specs.declared.command.Request.TheVariants as requests
 use Rattle.imap_commands.specs.Commands.{Spelled}
 use Rattle.imap_replies.specs.declared.reply.Reply.{Reply}
-use Rattle.imap_session.specs.Servers.{Server, is_over, Quiet, news, told}
+use Rattle.imap_session.specs.Servers.{Server, is_over, Quiet, news, reported}
 use Rattle.imap_session.specs.Answering.{go}
 use Rattle.imap_session.specs.Steps.{Step}
 use Rattle.imap_session.specs.Portions.{goes_in}
@@ -57,7 +57,7 @@ pub record Did (command : Command) (goes : List Reply) (old : Server) (replies :
   pub own : List Reply
   pub after : Server
   pub quiet : Quiet old before
-  pub step : Step (told before) command own after
+  pub step : Step (reported before) command own after
   pub later : Quiet after new
   pub replies_are : replies ≡ goes ++ (news before ++ own)
 

@@ -4,7 +4,7 @@ use Rattle.imap_replies.specs.declared.word.NoticeKind.TheVariants as notices
 use Rattle.imap_replies.specs.declared.response.ResponseText.TheVariants.{Plain}
 use Rattle.imap_replies.specs.declared.reply.Reply.{Reply}
 use Rattle.imap_replies.specs.declared.reply.Reply.TheVariants.{Notice}
-use Rattle.imap_session.specs.Servers.{Server, NotAuthenticated, Quiet, told}
+use Rattle.imap_session.specs.Servers.{Server, NotAuthenticated, Quiet, reported}
 use Rattle.imap_session.specs.Unread.{Whole}
 use Rattle.imap_session.specs.Serving.{End, Feeds}
 use Rattle.imap_session.specs.Heard.{AreReplies, AreHeardAs}
@@ -16,8 +16,8 @@ pub record Line : Type 0 where
   pub unseen : List ℕ
 
 -- the server, but for news that it has not reported yet
-abbrev pub told_server : Line → Server
-told_server line = told line.end.server
+abbrev pub reported_server : Line → Server
+reported_server line = reported line.end.server
 
 -- A beginning of the bytes was read, and answered; the others are lost.
 pub record Sends (bytes : List ℕ) (old new : Line) : Type 0 where

@@ -1,6 +1,6 @@
 -- What a server reads: the stream of a connection is cut into portions, each a command, or a line that is none.
 use Rattle.std.specs.Prelude.{◌≡◌, ◌<◌, ◌≤◌, ◌⊎◌, ℕ, suc, true, false, List, [], ◌∷◌, ◌++◌, length, take, drop, codes, Option, None, Some}
-use Rattle.wire_reader.specs.declared.side.Side.TheVariants.{Commands}
+use Rattle.wire_reader.specs.declared.side.Speaker.TheVariants.{Commands}
 use Rattle.wire_reader.specs.declared.lexical.Phase.{Phase}
 use Rattle.wire_reader.specs.declared.lexical.Phase.TheVariants.{Plain}
 use Rattle.wire_reader.specs.Spelling.{crlf}

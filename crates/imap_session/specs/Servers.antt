@@ -75,5 +75,5 @@ abbrev pub news : Server → List Reply
 news s = if s.has_news then exists_of (selected s) else []
 
 -- the server once it has reported them
-abbrev pub told : Server → Server
-told s = record s { has_news = false }
+abbrev pub reported : Server → Server
+reported s = record s { has_news = false }

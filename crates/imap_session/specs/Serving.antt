@@ -4,7 +4,7 @@ use Rattle.imap_replies.specs.declared.word.NoticeKind.TheVariants as notices
 use Rattle.imap_replies.specs.declared.response.ResponseText.TheVariants.{Plain}
 use Rattle.imap_replies.specs.declared.reply.Reply.{Reply}
 use Rattle.imap_replies.specs.declared.reply.Reply.TheVariants.{Notice}
-use Rattle.imap_session.specs.Servers.{Server, LoggedOut, is_over, Quiet, news, told}
+use Rattle.imap_session.specs.Servers.{Server, LoggedOut, is_over, Quiet, news, reported}
 use Rattle.imap_session.specs.Answering.{Answer, Gives, only, bad, bye}
 use Rattle.imap_session.specs.Steps.{Step}
 use Rattle.imap_session.specs.Portions.{LineFault, Syntax, LiteralTooLong, Item, Asks, Faulty, Ends, Late, Reads}
@@ -48,7 +48,7 @@ pub record Takes (old : Server) (portion : Portion) (replies : List Reply) (new 
   pub reads : Reads portion.item portion.text portion.said
   pub quiet : Quiet old before
   pub at_end : is_late portion.item ≡ is_over before.condition
-  pub does : Does (told before) portion.item own new
+  pub does : Does (reported before) portion.item own new
   pub replies_are : replies ≡ portion.said ++ (news before ++ own)
 
 abbrev pub Serve : Server → List Portion → List Reply → Server → Type 0

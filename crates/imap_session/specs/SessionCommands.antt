@@ -10,8 +10,8 @@ abbrev pub REV2 : List ℕ
 REV2 = codes "IMAP4rev2"
 
 -- CAPABILITY and NOOP are taken in each condition
-abbrev pub tells_capabilities : Server → (tag : List ℕ) → Answer
-tells_capabilities s tag = record { replies = Capability (Some (REV2 ∷ [])) ∷ done tag ∷ []; after = s }
+abbrev pub reports_capabilities : Server → (tag : List ℕ) → Answer
+reports_capabilities s tag = record { replies = Capability (Some (REV2 ∷ [])) ∷ done tag ∷ []; after = s }
 
 abbrev pub does_nothing : Server → (tag : List ℕ) → Answer
 does_nothing s tag = only s (done tag)

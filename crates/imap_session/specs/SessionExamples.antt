@@ -18,7 +18,7 @@ use Rattle.imap_replies.specs.declared.word.NoticeKind.TheVariants as notices
 use Rattle.imap_replies.specs.declared.response.Code.TheVariants as codes_of
 use Rattle.imap_replies.specs.declared.response.ResponseText.TheVariants.{Plain}
 use Rattle.imap_replies.specs.declared.reply.Reply.TheVariants.{Notice, Capability, Enabled, Flags, Exists, Expunge, Fetch}
-use Rattle.imap_session.specs.Servers.{Condition, NotAuthenticated, Authenticated, Selected, LoggedOut, Server, news, told}
+use Rattle.imap_session.specs.Servers.{Condition, NotAuthenticated, Authenticated, Selected, LoggedOut, Server, news, reported}
 use Rattle.imap_session.specs.Mailboxes.{FarMailbox}
 use Rattle.imap_session.specs.AppendCommand.{MayGive}
 use Rattle.imap_session.specs.Answering.{done, done_with, go, listed, note, bad, refused, refused_with, word_code}
@@ -174,13 +174,13 @@ enable_none = (refl, refl)
 arrived : Server
 arrived = record (with_inbox two at_inbox) { has_news = true }
 
-arrival_told : news arrived ≡ Exists 2 ∷ []
+arrival_reported : news arrived ≡ Exists 2 ∷ []
 unfolding arrived
-arrival_told = refl
+arrival_reported = refl
 
-told_once : news (told arrived) ≡ []
+reported_once : news (reported arrived) ≡ []
 unfolding arrived
-told_once = refl
+reported_once = refl
 
 none_selected : news (record (with_inbox two Authenticated) { has_news = true }) ≡ []
 none_selected = refl

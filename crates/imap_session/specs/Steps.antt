@@ -6,13 +6,13 @@ use Rattle.imap_commands.specs.declared.command.Request.TheVariants as requests
 use Rattle.imap_replies.specs.declared.reply.Reply.{Reply}
 use Rattle.imap_session.specs.Servers.{Server}
 use Rattle.imap_session.specs.Answering.{Gives}
-use Rattle.imap_session.specs.SessionCommands.{tells_capabilities, does_nothing, logs_out, logs_in, enables}
+use Rattle.imap_session.specs.SessionCommands.{reports_capabilities, does_nothing, logs_out, logs_in, enables}
 use Rattle.imap_session.specs.MailboxCommands.{lists, creates, selects}
 use Rattle.imap_session.specs.AppendCommand.{Appends}
 use Rattle.imap_session.specs.MessageCommands.{fetches, stores, expunges}
 
 abbrev pub StepOf : Server → (tag : List ℕ) → Request → List Reply → Server → Type 0
-StepOf s tag requests.Capability = Gives (tells_capabilities s tag)
+StepOf s tag requests.Capability = Gives (reports_capabilities s tag)
 StepOf s tag requests.Noop = Gives (does_nothing s tag)
 StepOf s tag requests.Logout = Gives (logs_out s tag)
 StepOf s tag (requests.Login user password) = Gives (logs_in s tag user password)

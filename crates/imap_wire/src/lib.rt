@@ -3,8 +3,8 @@
 #![tactic(auto)]
 
 pub use imap_commands::command::{Command, FetchItems, Request, StoreMode};
-pub use imap_commands::message::Message;
-pub use imap_commands::pattern::Pattern;
+pub use imap_commands::message::SentMessage;
+pub use imap_commands::pattern::ListPattern;
 pub use imap_commands::places::{commands_end_at_places, commands_wait_between_places};
 pub use imap_commands::reading::read_command;
 pub use imap_commands::writing::write_command;
@@ -23,7 +23,7 @@ pub use wire_strings::astring::AString;
 pub use wire_strings::code_text::CodeText;
 pub use wire_strings::delimiter::Delimiter;
 pub use wire_strings::line_text::LineText;
-pub use wire_strings::octets::Octets;
+pub use wire_strings::octets::LentOctets;
 pub use wire_strings::plain_text::PlainText;
 pub use wire_strings::quoted::Quoted;
 pub use wire_strings::string::WireString;

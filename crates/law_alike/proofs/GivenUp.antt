@@ -46,13 +46,13 @@ pub given_up_is_opening : GivenUpIsOpening
 given_up_is_opening j lost s t d over left text =
     let w = over.sound in
     let copies = entries_of_copies j.plan.steps j.log in
-    let behind = left_entry j lost in
+    let following = left_entry j lost in
     let names = opening_names (world_at d s) w in
-    let far : All (λ e. uid_of Far e < d.far.next) t.entries = All-permutation (λ (e : Entry). uid_of Far e < d.far.next) (map behind s.entries ++ copies) t.entries left.entries
-    (All-append (λ (e : Entry). uid_of Far e < d.far.next) (map behind s.entries) copies (left_below j lost Far s.entries d.far.next names.far)
+    let far : All (λ e. uid_of Far e < d.far.next) t.entries = All-permutation (λ (e : Entry). uid_of Far e < d.far.next) (map following s.entries ++ copies) t.entries left.entries
+    (All-append (λ (e : Entry). uid_of Far e < d.far.next) (map following s.entries) copies (left_below j lost Far s.entries d.far.next names.far)
     (All-weaker (λ (e : Entry). (side : Side) → uid_of side e < (box d side).next) (λ e. uid_of Far e < d.far.next) (λ e g. g Far) copies over.given)) in
-    let near : All (λ e. uid_of Near e < d.near.store.next) t.entries = All-permutation (λ (e : Entry). uid_of Near e < d.near.store.next) (map behind s.entries ++ copies) t.entries left.entries
-    (All-append (λ (e : Entry). uid_of Near e < d.near.store.next) (map behind s.entries) copies (left_below j lost Near s.entries d.near.store.next names.near)
+    let near : All (λ e. uid_of Near e < d.near.store.next) t.entries = All-permutation (λ (e : Entry). uid_of Near e < d.near.store.next) (map following s.entries ++ copies) t.entries left.entries
+    (All-append (λ (e : Entry). uid_of Near e < d.near.store.next) (map following s.entries) copies (left_below j lost Near s.entries d.near.store.next names.near)
     (All-weaker (λ (e : Entry). (side : Side) → uid_of side e < (box d side).next) (λ e. uid_of Near e < d.near.store.next) (λ e g. g Near) copies over.given)) in
     let below : NamesBelow (world_at d t) = record { pulled = rw left.max_pulled names.pulled; pushed = rw left.max_pushed names.pushed; far = far; near = near } in
     let later : IsLater (world_at d t) = record {

@@ -60,17 +60,17 @@ lines_of-plain b [] more h = rw (ne_eqb b LF (All-head IsPlain b [] h).0) (onto-
 lines_of-plain b (c ∷ t) more h =
     rw (ne_eqb b LF (All-head IsPlain b (c ∷ t) h).0) (ap (onto_first b) (lines_of-plain c t more (All-tail IsPlain b (c ∷ t) h)) ∙ onto-more b (c ∷ t) (lines_of more))
 
-abbrev behind : List TextLine → List TextLine
-behind [] = []
-behind (line ∷ lines) = lines
+abbrev following : List TextLine → List TextLine
+following [] = []
+following (line ∷ lines) = lines
 
-mark_goes : (mark : List ℕ) (lines : List TextLine) → without_marks (onto (marked mark) lines) ≡ without_marks (behind lines)
+mark_goes : (mark : List ℕ) (lines : List TextLine) → without_marks (onto (marked mark) lines) ≡ without_marks (following lines)
 mark_goes mark [] = without_marks-mark (record { text = marked mark; ended = false }) [] (ne_eqb _ 0 (λ e. omega arith)) refl
 mark_goes mark (line ∷ lines) = without_marks-mark (record { text = marked mark ++ line.text; ended = line.ended }) lines (ne_eqb _ 0 (λ e. omega arith)) refl
 
-content_behind : (mark rest : List ℕ) → IsMark mark → content (marked mark ++ rest) ≡ flat_map (line_bytes Lf) (without_marks (behind (lines_of (lf rest))))
+content_after : (mark rest : List ℕ) → IsMark mark → content (marked mark ++ rest) ≡ flat_map (line_bytes Lf) (without_marks (following (lines_of (lf rest))))
 unfolding content
-content_behind mark rest is =
+content_after mark rest is =
     ap (λ (x : List ℕ). flat_map (line_bytes Lf) (without_marks (lines_of x))) (lf-plain (marked mark) rest (plain_marked mark is))
     ∙ ap (λ (x : List TextLine). flat_map (line_bytes Lf) (without_marks x)) (lines_of-plain 88 (codes "-TUID: " ++ mark) (lf rest) (plain_marked mark is))
     ∙ ap (λ (x : List TextLine). flat_map (line_bytes Lf) x) (mark_goes mark (lines_of (lf rest)))
@@ -80,9 +80,9 @@ content_behind mark rest is =
 abbrev no_nul : ℕ → Bool
 no_nul b = not (b == 0)
 
-all_behind : (t more : List ℕ) → list_all no_nul t ≡ true → list_all no_nul (t ++ more) ≡ list_all no_nul more
-all_behind [] more h = refl
-all_behind (b ∷ t) more h = let parts = and_parts (no_nul b) (list_all no_nul t) h in rw parts.0 (all_behind t more parts.1)
+all_after : (t more : List ℕ) → list_all no_nul t ≡ true → list_all no_nul (t ++ more) ≡ list_all no_nul more
+all_after [] more h = refl
+all_after (b ∷ t) more h = let parts = and_parts (no_nul b) (list_all no_nul t) h in rw parts.0 (all_after t more parts.1)
 
 no_nul_char : (b : ℕ) → is_mark_char b ≡ true → no_nul b ≡ true
 no_nul_char b is = rw (ne_eqb b 0 (λ e. false≢true (ap is_mark_char (sym e) ∙ is))) refl
@@ -92,7 +92,7 @@ no_nul_chars [] h = refl
 no_nul_chars (c ∷ cs) h = let parts = and_parts (is_mark_char c) (list_all is_mark_char cs) h in rw (no_nul_char c parts.0) (no_nul_chars cs parts.1)
 
 no_nul_marked : (mark rest : List ℕ) → IsMark mark → list_all no_nul (marked mark ++ rest) ≡ list_all no_nul rest
-no_nul_marked mark rest is = all_behind mark rest (no_nul_chars mark (and_parts _ _ is).1)
+no_nul_marked mark rest is = all_after mark rest (no_nul_chars mark (and_parts _ _ is).1)
 
 length_marked : (mark rest : List ℕ) → IsMark mark → length (marked mark ++ rest) ≡ 20 + length rest
 length_marked mark rest is = let twelve : length mark ≡ 12 = eqb-true _ _ (and_parts _ _ is).0 in let k = length-append mark rest in omega (arith, twelve, k)
@@ -105,5 +105,5 @@ fit_same Far a b d =
 fit_same Near a b d =
     ap (λ (x : List ℕ). fit Near x) d.one
     ∙ ap (λ (t : Bool). t && nat_le (length (crlf (content (marked d.mark ++ d.rest)))) size_limit) (no_nul_marked d.mark d.rest d.is_mark ∙ sym (no_nul_marked d.other d.rest d.is_other))
-    ∙ ap (λ (x : List ℕ). list_all no_nul (marked d.other ++ d.rest) && nat_le (length (crlf x)) size_limit) (content_behind d.mark d.rest d.is_mark ∙ sym (content_behind d.other d.rest d.is_other))
+    ∙ ap (λ (x : List ℕ). list_all no_nul (marked d.other ++ d.rest) && nat_le (length (crlf x)) size_limit) (content_after d.mark d.rest d.is_mark ∙ sym (content_after d.other d.rest d.is_other))
     ∙ ap (λ (x : List ℕ). fit Near x) (sym d.two)

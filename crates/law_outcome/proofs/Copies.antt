@@ -72,12 +72,12 @@ zip_copies side t s from k (u ∷ uids) (mark ∷ theirs) (other ∷ marks) (x �
 -- ---- marks that are found
 
 -- messages below are skipped
-pub marks_behind : (from : ℕ) (ms more : List Message) → All (λ m. m.uid < from) ms → marks_from from (ms ++ more) ≡ marks_from from more
-marks_behind from [] more below = refl
-marks_behind from (m ∷ ms) more below =
+pub marks_after : (from : ℕ) (ms more : List Message) → All (λ m. m.uid < from) ms → marks_from from (ms ++ more) ≡ marks_from from more
+marks_after from [] more below = refl
+marks_after from (m ∷ ms) more below =
     ap (λ b. map (λ (x : Message). mark_of x.bytes) (cond b (m ∷ filter (λ (x : Message). nat_le from x.uid) (ms ++ more)) (filter (λ (x : Message). nat_le from x.uid) (ms ++ more))))
     (lt-leb from m.uid (All-head (λ (x : Message). x.uid < from) m ms below))
-    ∙ marks_behind from ms more (All-tail (λ (x : Message). x.uid < from) m ms below)
+    ∙ marks_after from ms more (All-tail (λ (x : Message). x.uid < from) m ms below)
 
 not_under : (next : ℕ) (t : ℕ → ℕ) → IsRenaming next t → (a b : ℕ) → a ≤ b → t a ≤ t b
 not_under next t h a b l = elim (cases_order a b) [

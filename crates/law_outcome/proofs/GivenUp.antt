@@ -19,10 +19,10 @@ use Rattle.law_outcome.specs.GivenUpLaws.{CopiesAreNotNew, EntriesAreThese}
 pub entries_are_these : EntriesAreThese
 entries_are_these j lost old new e left =
     let copies = entries_of_copies j.plan.steps j.log in
-    let behind = left_entry j lost in
-    let kept = map behind old.entries in
+    let following = left_entry j lost in
+    let kept = map following old.entries in
     let all = kept ++ copies in (
-      λ c. Contains-permutation all new.entries (behind e) left.entries (Contains-append_left kept copies (behind e) (Contains-map behind old.entries e (behind e) c refl)),
+      λ c. Contains-permutation all new.entries (following e) left.entries (Contains-append_left kept copies (following e) (Contains-map following old.entries e (following e) c refl)),
       λ c. Contains-permutation all new.entries e left.entries (Contains-append_right kept copies e c),
       λ c. Contains-append_cases kept copies e (Contains-permutation new.entries all e (IsPermutation-sym all new.entries left.entries) c),
     )

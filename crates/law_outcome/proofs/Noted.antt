@@ -17,7 +17,7 @@ use Rattle.rules.specs.Outcome.{recorded_or}
 use Rattle.planner.specs.Written.{record_by_pair, record_note, drop_note, record_notes, drop_notes, all_notes}
 use Rattle.rules.proofs.Walks.{Contains-first, Contains-rest, Contains-cases, Contains-none, All-filter_map, Contains-filter_map, list_any_from, list_any_some}
 use Rattle.rules.proofs.LookUps.{pair_says, far_only, entry_of}
-use Rattle.planner.proofs.Behind.{record_given, drop_given}
+use Rattle.planner.proofs.Following.{record_given, drop_given}
 use Rattle.book.specs.Agreement.{is_pair}
 use Rattle.book.specs.Committed.{drops, recorded}
 
@@ -65,15 +65,15 @@ drops_rightly s e =
     (λ t. let p = is_pair_says x.far x.near e t in
     ap (λ (o : Option ℕ). vanishes s Far (unwrap_or o 0) && vanishes s Near (uid_of Near e)) p.0 ∙ ap (λ (o : Option ℕ). vanishes s Far (uid_of Far x) && vanishes s Near (unwrap_or o 0)) p.1 ∙ r.0)))
 
-contains_behind : {X : Type 0} (xs ys : List X) (y : X) → Contains ys y → Contains (xs ++ ys) y
-contains_behind [] ys y c = c
-contains_behind (x ∷ xs) ys y c = Contains-rest x y (xs ++ ys) (contains_behind xs ys y c)
+contains_after : {X : Type 0} (xs ys : List X) (y : X) → Contains ys y → Contains (xs ++ ys) y
+contains_after [] ys y c = c
+contains_after (x ∷ xs) ys y c = Contains-rest x y (xs ++ ys) (contains_after xs ys y c)
 
 -- the notes drop an entry exactly if its drop is called
 pub dropped : (s : Scene) (e : Entry) → Contains s.entries e → list_any (drops e) (all_notes s) ≡ called s (Drop (uid_of Far e) (uid_of Near e))
 dropped s e c = elim (cases_Bool (vanishes_whole s e)) [
   | inl holds ↦ list_any_from (drops e) (all_notes s) (note.Drop e.far e.near)
-      (contains_behind (record_notes s) (drop_notes s) (note.Drop e.far e.near)
+      (contains_after (record_notes s) (drop_notes s) (note.Drop e.far e.near)
       (Contains-filter_map (drop_note s) s.entries e (note.Drop e.far e.near) c (ap (λ b. cond b (Some (note.Drop e.far e.near)) None) holds)))
       (is_pair_from e.far e.near e refl refl)
       ∙ sym (drop_called s e c ∙ holds)

@@ -19,7 +19,7 @@ use Rattle.rules.specs.Outcome.{news, entry_after}
 use Rattle.planner.specs.Written.{new_steps, gone_between, gone_by, gone_step, flags_step, expunge_step, gone_steps, flags_steps, expunge_steps, all_new, all_steps}
 use Rattle.rules.proofs.Walks.{Contains-first, Contains-rest, Contains-cases, Contains-none, All-filter_map, Contains-filter_map, list_any_from, list_any_some}
 use Rattle.rules.proofs.LookUps.{full_far, full_near, full_uids, full_found, full_only, far_only, listed_item}
-use Rattle.planner.proofs.Behind.{new_steps_all, gone_given, flags_given, expunge_given}
+use Rattle.planner.proofs.Following.{new_steps_all, gone_given, flags_given, expunge_given}
 use Rattle.book.specs.Committed.{says_gone, is_gone as steps_gone}
 use Rattle.law_outcome.proofs.Noted.{is_pair_says, is_pair_from}
 
@@ -96,17 +96,17 @@ before_those (x ∷ xs) ys y c = elim (Contains-cases x y xs c) [
   | inr rest ↦ Contains-rest x y (xs ++ ys) (before_those xs ys y rest)
 ]
 
-behind_those : {X : Type 0} (xs ys : List X) (y : X) → Contains ys y → Contains (xs ++ ys) y
-behind_those [] ys y c = c
-behind_those (x ∷ xs) ys y c = Contains-rest x y (xs ++ ys) (behind_those xs ys y c)
+after_those : {X : Type 0} (xs ys : List X) (y : X) → Contains ys y → Contains (xs ++ ys) y
+after_those [] ys y c = c
+after_those (x ∷ xs) ys y c = Contains-rest x y (xs ++ ys) (after_those xs ys y c)
 
 among_steps : (s : Scene) (marks : List (List ℕ)) (d : Direction) (st : Step) → Contains (gone_steps s d) st → Contains (all_steps s marks) st
 among_steps s marks Pull st c =
     before_those _ (expunge_steps s Near) st (before_those _ (expunge_steps s Far) st (before_those _ (flags_steps s Push) st (before_those _ (flags_steps s Pull) st (before_those _ (gone_steps s Push) st
-    (behind_those (all_new s marks) (gone_steps s Pull) st c)))))
+    (after_those (all_new s marks) (gone_steps s Pull) st c)))))
 among_steps s marks Push st c =
     before_those _ (expunge_steps s Near) st (before_those _ (expunge_steps s Far) st (before_those _ (flags_steps s Push) st (before_those _ (flags_steps s Pull) st
-    (behind_those (all_new s marks ++ gone_steps s Pull) (gone_steps s Push) st c))))
+    (after_those (all_new s marks ++ gone_steps s Pull) (gone_steps s Push) st c))))
 
 own_gone_step : (s : Scene) → ArePairs s.entries → (d : Direction) (e : Entry) → Contains s.entries e → is_gone s d e ≡ true → Contains (gone_steps s d) (Gone d (uid_of Far e) (uid_of Near e))
 own_gone_step s pairs d e c h =

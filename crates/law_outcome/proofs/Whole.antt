@@ -33,7 +33,7 @@ use Rattle.law_outcome.proofs.Maps.{mono, to_of, to-renames, Follows, follows-to
 use Rattle.law_outcome.specs.OtherUids.{KeepsNamed}
 use Rattle.law_outcome.proofs.Worlds.{sent, IsSent, fixed, numbered_sent, staying_sent, new_messages_sent, entries_sent, highest_sent, kept_below, all_entries}
 use Rattle.law_outcome.proofs.Admission.{admitted_sound, admitted_names, turn_admits, opening_names}
-use Rattle.law_outcome.proofs.Copies.{zip_append, zip_stay, zip_copies, marks_behind, marks_copied, marks_apart}
+use Rattle.law_outcome.proofs.Copies.{zip_append, zip_stay, zip_copies, marks_after, marks_copied, marks_apart}
 use Rattle.law_outcome.proofs.Named.{names_below}
 use Rattle.law_outcome.proofs.InTurn.{copies, pulled, pushed, numbered_from}
 
@@ -163,7 +163,7 @@ module _ (opening : World) (options : Options) (adm : List ℕ) (next : ℕ) (fo
   marks_found : (side : Side) → marks_from (to side (copies_from opening side)) (store found side).messages ≡ map (λ mark. Some mark) (marks_to w options side b.marks)
   marks_found side =
       ap (λ ms. marks_from (to side (store a side).next) ms) (b.messages side)
-      ∙ marks_behind (to side (store a side).next) (staying w options side) (copies_under side (b.uids side) (marks_to w options side b.marks) (new_messages w options (towards side))) (old_below side)
+      ∙ marks_after (to side (store a side).next) (staying w options side) (copies_under side (b.uids side) (marks_to w options side b.marks) (new_messages w options (towards side))) (old_below side)
       ∙ marks_copied side (store opening side).next (to side) (renames side) (store a side).next (store a side).next (b.uids side) (marks_to w options side b.marks) (new_messages w options (towards side))
       (omega arith) (follows side) (b.each side) (marks_to_counted w options b.marks b.are_marks.count side) (marks_to_are side)
 

@@ -33,9 +33,9 @@ pub at_none : (side : Side) (ms : List Message) (u : ℕ) → ((m : Message) →
 at_none side [] u h = refl
 at_none side (m ∷ ms) u h = rest_is side m ms u (h m (Contains-first m ms)) ∙ at_none side ms u (λ x c. h x (Contains-rest m x ms c))
 
-pub at_behind : (side : Side) (ms ns : List Message) (u : ℕ) → ((m : Message) → Contains ms m → (m.uid == u) ≡ false) → stored_at side (ms ++ ns) u ≡ stored_at side ns u
-at_behind side [] ns u h = refl
-at_behind side (m ∷ ms) ns u h = rest_is side m (ms ++ ns) u (h m (Contains-first m ms)) ∙ at_behind side ms ns u (λ x c. h x (Contains-rest m x ms c))
+pub at_after : (side : Side) (ms ns : List Message) (u : ℕ) → ((m : Message) → Contains ms m → (m.uid == u) ≡ false) → stored_at side (ms ++ ns) u ≡ stored_at side ns u
+at_after side [] ns u h = refl
+at_after side (m ∷ ms) ns u h = rest_is side m (ms ++ ns) u (h m (Contains-first m ms)) ∙ at_after side ms ns u (λ x c. h x (Contains-rest m x ms c))
 
 pub at_before : (side : Side) (ms ns : List Message) (u : ℕ) → ((m : Message) → Contains ns m → (m.uid == u) ≡ false) → stored_at side (ms ++ ns) u ≡ stored_at side ms u
 at_before side [] ns u h = at_none side ns u h

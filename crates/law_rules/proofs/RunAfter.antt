@@ -24,7 +24,7 @@ use Rattle.rules.specs.WorldAfter.{new_messages, staying, marks_to, messages_und
 use Rattle.rules.proofs.Walks.{Contains-cases, Contains-none, filter_contains, filter_all, map_contains, list_any_from, find_none}
 use Rattle.law_rules.proofs.Unpaired.{IsNew, new_says}
 use Rattle.law_rules.proofs.After.{not_expunged}
-use Rattle.law_rules.proofs.ListedAfter.{stored_at, with_flags, at_message, at_before, at_behind, at_changed, copies_above}
+use Rattle.law_rules.proofs.ListedAfter.{stored_at, with_flags, at_message, at_before, at_after, at_changed, copies_above}
 
 -- ---- the messages of a side
 
@@ -63,7 +63,7 @@ pub stored_above : (w : World) (options : Options) (uids : List ℕ) (marks : Li
     stored_at side (messages_under w options side uids marks) u ≡ stored_at side (copies_to w options uids marks side) u
 stored_above w options uids marks side u h below l =
     ap (λ ms. stored_at side ms u) (after_is w options uids marks side h)
-    ∙ at_behind side (old_after w options side) (copies_to w options uids marks side) u
+    ∙ at_after side (old_after w options side) (copies_to w options uids marks side) u
     (λ m c. let r = old_from w options side m c in
     let less : r.0.uid < (store w side).next = All-contains (λ (x : Message). x.uid < (store w side).next) (store w side).messages r.0 below r.1 in
     let same : r.0.uid ≡ m.uid = r.2 in ne_eqb m.uid u (omega arith))

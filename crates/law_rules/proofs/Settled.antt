@@ -34,7 +34,7 @@ use Rattle.law_rules.proofs.RunAfter.{after_is, old_after, copies_to, old_from, 
 use Rattle.law_rules.proofs.NothingCalled.{nothing_called}
 
 -- the premises of the law
-record Told (w : World) (options : Options) (uids : Side → List ℕ) (marks : List (List ℕ)) (next : Side → ℕ) (entries : List Entry) : Type 0 where
+record Reported (w : World) (options : Options) (uids : Side → List ℕ) (marks : List (List ℕ)) (next : Side → ℕ) (entries : List Entry) : Type 0 where
   world : IsWorld w
   below : NamesBelow w
   far_uncovered : options.expunge.far ≡ false
@@ -44,7 +44,7 @@ record Told (w : World) (options : Options) (uids : Side → List ℕ) (marks : 
   listed : (e : Entry) → Contains entries e → Contains (entries_under w options uids) e
   all : (e : Entry) → Contains (entries_under w options uids) e → Contains entries e
 
-module _ (w : World) (options : Options) (uids : Side → List ℕ) (marks : List (List ℕ)) (next : Side → ℕ) (entries : List Entry) (told : Told w options uids marks next entries) where
+module _ (w : World) (options : Options) (uids : Side → List ℕ) (marks : List (List ℕ)) (next : Side → ℕ) (entries : List Entry) (reported : Reported w options uids marks next entries) where
   abbrev first : Scene
   first = scene_of w options
 
@@ -58,12 +58,12 @@ module _ (w : World) (options : Options) (uids : Side → List ℕ) (marks : Lis
   by_push = pairs_under Push (uids Far) (new_messages w options Push)
 
   uncovered : (side : Side) → covers options.expunge side ≡ false
-  uncovered Far = told.far_uncovered
-  uncovered Near = told.near_uncovered
+  uncovered Far = reported.far_uncovered
+  uncovered Near = reported.near_uncovered
 
   flags_of_old : (side : Side) (e : Entry) → Contains first.entries e → flags_at (items later side) (uid_of side e) ≡ changed first side (uid_of side e)
-  flags_of_old Far e c = stored_below w options (uids Far) (next Far) marks Far (uid_of Far e) (told.rise Far) (uncovered Far) (All-contains (λ (x : Entry). uid_of Far x < w.far.next) w.state.entries e told.below.far c)
-  flags_of_old Near e c = stored_below w options (uids Near) (next Near) marks Near (uid_of Near e) (told.rise Near) (uncovered Near) (All-contains (λ (x : Entry). uid_of Near x < w.near.next) w.state.entries e told.below.near c)
+  flags_of_old Far e c = stored_below w options (uids Far) (next Far) marks Far (uid_of Far e) (reported.rise Far) (uncovered Far) (All-contains (λ (x : Entry). uid_of Far x < w.far.next) w.state.entries e reported.below.far c)
+  flags_of_old Near e c = stored_below w options (uids Near) (next Near) marks Near (uid_of Near e) (reported.rise Near) (uncovered Near) (All-contains (λ (x : Entry). uid_of Near x < w.near.next) w.state.entries e reported.below.near c)
 
   -- ---- entries
 
@@ -76,7 +76,7 @@ module _ (w : World) (options : Options) (uids : Side → List ℕ) (marks : Lis
 
   pulled_entry : (e : Entry) → Contains by_pull e → IsFresh later e
   pulled_entry e c =
-      let r = pulled_copied w.near.next (uids Near) (next Near) (marks_to w options Near marks) (new_messages w options Pull) e (told.rise Near) (marks_to_counted w options marks told.marked Near) c in
+      let r = pulled_copied w.near.next (uids Near) (next Near) (marks_to w options Near marks) (new_messages w options Pull) e (reported.rise Near) (marks_to_counted w options marks reported.marked Near) c in
       let f = copied_from w options Pull r.message r.among in
       let above : w.state.max_pulled < r.message.uid = f.new.above in
       record {
@@ -86,17 +86,17 @@ module _ (w : World) (options : Options) (uids : Side → List ℕ) (marks : Lis
         far = r.from;
         near = r.copy;
         positive = omega arith;
-        far_flags = from_flags w options (uids Far) (next Far) marks Pull r.message (told.rise Far) (uncovered Far) told.world.in_order.far f;
-        near_flags = stored_above w options (uids Near) marks Near r.uid (uncovered Near) told.world.in_order.near.below r.above ∙ r.flags;
+        far_flags = from_flags w options (uids Far) (next Far) marks Pull r.message (reported.rise Far) (uncovered Far) reported.world.in_order.far f;
+        near_flags = stored_above w options (uids Near) marks Near r.uid (uncovered Near) reported.world.in_order.near.below r.above ∙ r.flags;
         noted = r.same;
-        small = All-contains (λ (m : Message). m.flags < 2 ^ FLAGS) w.far.messages r.message told.world.far_flags f.there;
+        small = All-contains (λ (m : Message). m.flags < 2 ^ FLAGS) w.far.messages r.message reported.world.far_flags f.there;
       }
 
   pushed_entry : (e : Entry) → Contains by_push e → IsFresh later e
   pushed_entry e c =
-      let r = pushed_copied w.far.next (uids Far) (next Far) (marks_to w options Far marks) (new_messages w options Push) e (told.rise Far) (marks_to_counted w options marks told.marked Far) c in
+      let r = pushed_copied w.far.next (uids Far) (next Far) (marks_to w options Far marks) (new_messages w options Push) e (reported.rise Far) (marks_to_counted w options marks reported.marked Far) c in
       let f = copied_from w options Push r.message r.among in
-      let some : w.state.max_pulled < w.far.next = told.below.pulled in
+      let some : w.state.max_pulled < w.far.next = reported.below.pulled in
       let above : w.far.next ≤ r.uid = r.above in
       record {
         far_uid = r.uid;
@@ -105,14 +105,14 @@ module _ (w : World) (options : Options) (uids : Side → List ℕ) (marks : Lis
         far = r.copy;
         near = r.from;
         positive = omega arith;
-        far_flags = stored_above w options (uids Far) marks Far r.uid (uncovered Far) told.world.in_order.far.below r.above ∙ r.flags;
-        near_flags = from_flags w options (uids Near) (next Near) marks Push r.message (told.rise Near) (uncovered Near) told.world.in_order.near f;
+        far_flags = stored_above w options (uids Far) marks Far r.uid (uncovered Far) reported.world.in_order.far.below r.above ∙ r.flags;
+        near_flags = from_flags w options (uids Near) (next Near) marks Push r.message (reported.rise Near) (uncovered Near) reported.world.in_order.near f;
         noted = r.same;
-        small = All-contains (λ (m : Message). m.flags < 2 ^ FLAGS) w.near.messages r.message told.world.near_flags f.there;
+        small = All-contains (λ (m : Message). m.flags < 2 ^ FLAGS) w.near.messages r.message reported.world.near_flags f.there;
       }
 
   each_entry : (e : Entry) → Contains later.entries e → IsKept first e ⊎ IsFresh later e
-  each_entry e c = elim (Contains-append_cases (entries_after first ++ by_pull) by_push e (told.listed e c)) [
+  each_entry e c = elim (Contains-append_cases (entries_after first ++ by_pull) by_push e (reported.listed e c)) [
     | inl before ↦ elim (Contains-append_cases (entries_after first) by_pull e before) [
       | inl old ↦ inl (old_entry e old)
       | inr new ↦ inr (pulled_entry e new)
@@ -126,10 +126,10 @@ module _ (w : World) (options : Options) (uids : Side → List ℕ) (marks : Lis
   named side u e c same = list_any_from (λ (x : Entry). uid_of side x == u) later.entries e c (eq-eqb (uid_of side e) u same)
 
   among_pulled : (e : Entry) → Contains by_pull e → Contains later.entries e
-  among_pulled e c = told.all e (Contains-append_left (entries_after first ++ by_pull) by_push e (Contains-append_right (entries_after first) by_pull e c))
+  among_pulled e c = reported.all e (Contains-append_left (entries_after first ++ by_pull) by_push e (Contains-append_right (entries_after first) by_pull e c))
 
   among_pushed : (e : Entry) → Contains by_push e → Contains later.entries e
-  among_pushed e c = told.all e (Contains-append_right (entries_after first ++ by_pull) by_push e c)
+  among_pushed e c = reported.all e (Contains-append_right (entries_after first ++ by_pull) by_push e c)
 
   old_below : (d : Direction) → goes options.cells.new d ≡ true → (m : Message) → Contains (old_after w options (source d)) m → m.uid ≤ highest d later
   old_below Pull on m c =
@@ -171,7 +171,7 @@ module _ (w : World) (options : Options) (uids : Side → List ℕ) (marks : Lis
   run_after : IsAfter first later
   run_after = record {
     options = refl;
-    pairs = told.world.in_order.pairs;
+    pairs = reported.world.in_order.pairs;
     uncovered = uncovered;
     flags = flags_of_old;
     entries = each_entry;

@@ -19,7 +19,7 @@ use Rattle.imap_replies.specs.declared.reply.Reply.{Reply}
 use Rattle.imap_replies.specs.declared.reply.Reply.TheVariants.{Notice, Fetch, Expunge, Exists}
 use Rattle.imap_session.specs.Mailboxes.{FarMailbox, mailbox_at, same_name}
 use Rattle.imap_session.specs.NamedMessages.{goes}
-use Rattle.imap_session.specs.Servers.{Condition, NotAuthenticated, Authenticated, Selected, LoggedOut, Server, is_logged_in, is_before_login, selected, news, told}
+use Rattle.imap_session.specs.Servers.{Condition, NotAuthenticated, Authenticated, Selected, LoggedOut, Server, is_logged_in, is_before_login, selected, news, reported}
 use Rattle.imap_session.specs.Answering.{Answer, Gives, listed}
 use Rattle.imap_session.specs.SessionCommands.{lets_in, logs_in, enables}
 use Rattle.imap_session.specs.MailboxCommands.{lists, makes, creates_at, creates, closes, opening, selects_at, selects, next_validity}
@@ -148,7 +148,7 @@ step_answer s tag (requests.Expunge set) rs new h = given tag _ rs new h (expung
 
 pub did_answer : (c : Command) (old : Server) (said : List Reply) (new : Server) → Did c [] old said new → IsAnswer c.tag said
 did_answer c old said new d =
-    subst (IsAnswer c.tag) (sym d.replies_are) (answer-append c.tag (news d.before) d.own (news_untagged d.before) (step_answer (told d.before) c.tag c.request d.own d.after d.step))
+    subst (IsAnswer c.tag) (sym d.replies_are) (answer-append c.tag (news d.before) d.own (news_untagged d.before) (step_answer (reported d.before) c.tag c.request d.own d.after d.step))
 
 -- ---- as they are heard
 

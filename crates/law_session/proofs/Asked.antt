@@ -43,11 +43,11 @@ asked_end c from rest read lost n old new said h some asking l e f =
           let whole : from ≡ f.rest ++ lost = e ∙ ap (λ (x : List ℕ). x ++ lost) (f.runs.read ∙ k.all) in
           let text : from ++ rest ≡ f.rest ++ (lost ++ rest) = ap (λ (x : List ℕ). x ++ rest) whole ∙ append_assoc f.rest lost rest in
           let on = quiet_left old.server new.server k.quiet ∙ l in
-          let told = holds_said c (from ++ rest) f.rest (lost ++ rest) f.rest_said (is_over new.server.condition) new.kept h on text f.unread_then in
+          let reported = holds_said c (from ++ rest) f.rest (lost ++ rest) f.rest_said (is_over new.server.condition) new.kept h on text f.unread_then in
           let read_so = reads_so c (from ++ rest) f.rest (lost ++ rest) f.rest_said new h on text f.unread_then in
           record {
             quiet = k.quiet;
-            which = elim (which_of from f.rest lost n said asking whole (f.are ∙ ap (λ (x : List Reply). x ++ f.rest_said) k.none ∙ told.said_is)) [
+            which = elim (which_of from f.rest lost n said asking whole (f.are ∙ ap (λ (x : List Reply). x ++ f.rest_said) k.none ∙ reported.said_is)) [
               | inl none ↦ inl none
               | inr all ↦ inr (subst (λ (x : List ℕ). HasRead x new) all.0 read_so, all.1)
             ];

@@ -2,10 +2,10 @@
 use Rattle.std.proofs.Common.{◌≡◌, inl, inr, ℕ, false, List, [], sym, ◌∙◌, subst}
 use Rattle.imap_commands.specs.declared.command.Command.{Command}
 use Rattle.imap_replies.specs.declared.reply.Reply.{Reply}
-use Rattle.imap_session.specs.Servers.{Server, is_over, Quiet, told}
+use Rattle.imap_session.specs.Servers.{Server, is_over, Quiet, reported}
 use Rattle.imap_session.specs.Heard.{IsAnswer, AreHeardAs}
 use Rattle.imap_session.specs.Ends.{Ends, Hears, Did, SentOr, Done, MayHave, DidCommand, is_logout}
-use Rattle.law_session.proofs.Others.{quiet-trans, quiet_left, told_left, read_stays}
+use Rattle.law_session.proofs.Others.{quiet-trans, quiet_left, reported_left, read_stays}
 use Rattle.law_session.proofs.Answering.{did_answer, heard_answer}
 use Rattle.law_session.proofs.AnswersApart.{some_bytes, answer_apart}
 use Rattle.law_session.proofs.ReadsOn.{step_on}
@@ -23,7 +23,7 @@ did_later c old mid new said d q = record {
 
 did_on : (c : Command) (old new : Server) (said : List Reply) → is_over old.condition ≡ false → Did c [] old said new → is_logout c.request ≡ false → is_over new.condition ≡ false
 did_on c old new said on d l =
-    quiet_left d.after new d.later ∙ step_on (told d.before) c.tag (told_left d.before ∙ quiet_left old d.before d.quiet ∙ on) c.request d.own d.after l d.step
+    quiet_left d.after new d.later ∙ step_on (reported d.before) c.tag (reported_left d.before ∙ quiet_left old d.before d.quiet ∙ on) c.request d.own d.after l d.step
 
 -- exactly that command was done, these were its replies, and the connection is idle
 pub done_of : (c : Command) (tag : List ℕ) (old mid new : Ends) (rs : List Reply) → is_over old.end.server.condition ≡ false → SentOr c old mid → Hears rs mid new → IsAnswer tag rs

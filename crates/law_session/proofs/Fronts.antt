@@ -8,7 +8,7 @@ use Rattle.wire_reader.specs.Answers.{FaultAt}
 use Rattle.imap_commands.specs.declared.command.Command.{Command}
 use Rattle.imap_commands.specs.Commands.{Spelled}
 use Rattle.imap_replies.specs.declared.reply.Reply.{Reply}
-use Rattle.imap_session.specs.Servers.{Server, is_over, Quiet, news, told}
+use Rattle.imap_session.specs.Servers.{Server, is_over, Quiet, news, reported}
 use Rattle.imap_session.specs.Portions.{LineFault, Syntax, LiteralTooLong, FaultIs, Item, Asks, Faulty, Ends, Late, Reads, IsLongLine, goes_in}
 use Rattle.imap_session.specs.Serving.{Portion, Takes, Serve, Does, is_late, text_of}
 use Rattle.imap_session.specs.Ends.{IsText, Did}
@@ -108,7 +108,7 @@ did_of c text old mid new p mine t is said q = record {
   own = t.own;
   after = mid;
   quiet = t.quiet;
-  step = subst (λ (i : Item). Does (told t.before) i t.own mid) is t.does;
+  step = subst (λ (i : Item). Does (reported t.before) i t.own mid) is t.does;
   later = q;
   replies_are = t.replies_are ∙ ap (λ (l : List Reply). l ++ (news t.before ++ t.own)) said;
 }

@@ -16,7 +16,7 @@ use Rattle.imap_commands.specs.declared.command.Request.TheVariants as requests
 use Rattle.imap_replies.specs.declared.reply.Reply.{Reply}
 use Rattle.imap_session.specs.Mailboxes.{FarMailbox, mailbox_at, changed}
 use Rattle.imap_session.specs.NamedMessages.{stored, swept}
-use Rattle.imap_session.specs.Servers.{Server, is_logged_in, is_before_login, selected, Quiet, told}
+use Rattle.imap_session.specs.Servers.{Server, is_logged_in, is_before_login, selected, Quiet, reported}
 use Rattle.imap_session.specs.Answering.{Answer, Gives}
 use Rattle.imap_session.specs.SessionCommands.{logs_in}
 use Rattle.imap_session.specs.MailboxCommands.{makes, creates_at, selects_at, next_validity, empty_mailbox}
@@ -120,7 +120,7 @@ go_on-trans a b c h k = record { stores = k.stores; continue = all-trans a b c h
 takes_goes_on : (old : Server) (p : Portion) (rs : List Reply) (new : Server) → AreStores old.mailboxes → Takes old p rs new → GoOn old.mailboxes new.mailboxes
 takes_goes_on old p rs new are t =
     let first = quiet_goes_on old t.before are t.quiet in
-    go_on-trans old.mailboxes t.before.mailboxes new.mailboxes first (does_goes_on (told t.before) p.item t.own new first.stores t.does)
+    go_on-trans old.mailboxes t.before.mailboxes new.mailboxes first (does_goes_on (reported t.before) p.item t.own new first.stores t.does)
 
 pub serve_goes_on : (old new : Server) (ps : List Portion) (rs : List Reply) → AreStores old.mailboxes → Serve old ps rs new → GoOn old.mailboxes new.mailboxes
 serve_goes_on old new [] rs are s = quiet_goes_on old new are s.0

@@ -1,6 +1,6 @@
 -- How often `+ go` is said of a text in two parts.
 use Rattle.std.proofs.Common.{◌≡◌, ℕ, List, [], ◌∷◌, ◌++◌, refl, sym, ◌∙◌, ap, append_assoc}
-use Rattle.wire_reader.specs.declared.side.Side.TheVariants.{Commands}
+use Rattle.wire_reader.specs.declared.side.Speaker.TheVariants.{Commands}
 use Rattle.wire_reader.specs.declared.lexical.Phase.{Phase}
 use Rattle.wire_reader.specs.Lexical.{next, asked, phase}
 use Rattle.imap_replies.specs.declared.reply.Reply.{Reply}

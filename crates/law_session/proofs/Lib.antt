@@ -21,5 +21,5 @@ pub mod ReadsOn
 pub mod Ended
 pub mod Asked
 pub mod Greeted
-pub mod Telling
+pub mod Reporting
 pub mod HeardAs

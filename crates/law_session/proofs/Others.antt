@@ -1,7 +1,7 @@
 -- What is needed of what others do.
 use Rattle.std.proofs.Common.{◌≡◌, ℕ, true, false, List, [], Option, None, Some, if◌then◌else◌, refl, sym, ◌∙◌, ap, subst}
 use Rattle.imap_session.specs.Mailboxes.{FarMailbox}
-use Rattle.imap_session.specs.Servers.{Server, is_over, Quiet, selected, exists_of, news, told}
+use Rattle.imap_session.specs.Servers.{Server, is_over, Quiet, selected, exists_of, news, reported}
 use Rattle.imap_session.specs.Portions.{goes_in}
 use Rattle.imap_session.specs.Unread.{Kept, Holds}
 use Rattle.imap_session.specs.Serving.{End}
@@ -15,8 +15,8 @@ quiet-trans s t u h k = k ∙ h
 pub quiet_left : (s t : Server) → Quiet s t → is_over t.condition ≡ is_over s.condition
 quiet_left s t h = ap (λ (v : Server). is_over v.condition) h
 
-pub told_left : (s : Server) → is_over (told s).condition ≡ is_over s.condition
-told_left s = refl
+pub reported_left : (s : Server) → is_over (reported s).condition ≡ is_over s.condition
+reported_left s = refl
 
 exists_untagged : (m : Option FarMailbox) → AreUntagged (exists_of m)
 exists_untagged None = tt

@@ -42,9 +42,9 @@ module _ (c : Command) (text from read lost : List ℕ) (old : Server) (new : En
   none_says : (replies : List Reply) → goes_in from ++ said ≡ replies ++ rest_said → NoneRead old new.server (from ++ read) rest replies → SaysNothing old new.server said
   none_says replies are n =
       let parts : text ≡ rest ++ lost = e ∙ ap (λ (x : List ℕ). x ++ lost) n.all in
-      let told = holds_said c text rest lost rest_said (is_over new.server.condition) new.kept h (quiet_left old new.server n.quiet ∙ l) parts unread in
+      let reported = holds_said c text rest lost rest_said (is_over new.server.condition) new.kept h (quiet_left old new.server n.quiet ∙ l) parts unread in
       let more : goes_in (from ++ read) ≡ goes_in from = goes_no_more from read lost (ap goes_in (sym e) ∙ plain) in
-      let are_too : goes_in from ++ said ≡ goes_in from ++ [] = are ∙ ap (λ (x : List Reply). x ++ rest_said) n.none ∙ told.said_is ∙ ap goes_in (sym n.all) ∙ more ∙ sym (append-nil (goes_in from)) in
+      let are_too : goes_in from ++ said ≡ goes_in from ++ [] = are ∙ ap (λ (x : List Reply). x ++ rest_said) n.none ∙ reported.said_is ∙ ap goes_in (sym n.all) ∙ more ∙ sym (append-nil (goes_in from)) in
       record { quiet = n.quiet; none = cancel (goes_in from) said [] are_too }
 
   one_says : (replies : List Reply) → goes_in from ++ said ≡ replies ++ rest_said → OneRead c text old new.server rest lost replies → SaysAll c old new said

@@ -14,7 +14,7 @@ use Rattle.mailcore.proofs.KnownFlags.{kept-lt}
 use Rattle.wire_strings.specs.Literals.{IsLiteral}
 use Rattle.visitors.specs.Visitors.{Visitors, AreOctets, IsForeign}
 use Rattle.imap_session.specs.Mailboxes.{FarMailbox, same_name, mailbox_at, changed}
-use Rattle.imap_session.specs.Servers.{Server, told}
+use Rattle.imap_session.specs.Servers.{Server, reported}
 use Rattle.imap_session.specs.Arrivals.{ArrivedUnder}
 use Rattle.imap_session.specs.Visits.{Gains, AllGain, Visits}
 
@@ -62,17 +62,17 @@ module _ (v : Visitors) where
   nobody_visits s = record { user = refl; password = refl; keywords = refl; condition = refl; gains = all_none s.mailboxes; nobody = λ _. refl }
 
   -- UIDs after others
-  rise_behind : (from : ℕ) (us : List ℕ) (mid : ℕ) (vs : List ℕ) (next : ℕ) → Rise from us mid → Rise mid vs next → Rise from (us ++ vs) next
-  rise_behind from [] mid [] next le rise = omega arith
-  rise_behind from [] mid (w ∷ vs) next le rise = (omega arith, rise.1)
-  rise_behind from (u ∷ us) mid vs next first rise = (first.0, rise_behind (u + 1) us mid vs next first.1 rise)
+  rise_after : (from : ℕ) (us : List ℕ) (mid : ℕ) (vs : List ℕ) (next : ℕ) → Rise from us mid → Rise mid vs next → Rise from (us ++ vs) next
+  rise_after from [] mid [] next le rise = omega arith
+  rise_after from [] mid (w ∷ vs) next le rise = (omega arith, rise.1)
+  rise_after from (u ∷ us) mid vs next first rise = (first.0, rise_after (u + 1) us mid vs next first.1 rise)
 
   gains_more : (s t u : Store) → Gains v s t → Gains v t u → Gains v s u
   gains_more s t u h k = record {
     more = h.more ++ k.more;
     messages = k.messages ∙ ap (λ (l : List Message). l ++ k.more) h.messages ∙ append_assoc s.messages h.more k.more;
     validity = k.validity ∙ h.validity;
-    rise = subst (λ us. Rise s.next us u.next) (sym (map-append uid h.more k.more)) (rise_behind s.next (map uid h.more) t.next (map uid k.more) u.next h.rise k.rise);
+    rise = subst (λ us. Rise s.next us u.next) (sym (map-append uid h.more k.more)) (rise_after s.next (map uid h.more) t.next (map uid k.more) u.next h.rise k.rise);
     range = record {
       uids = All-append Numbered h.more k.more h.range.uids k.range.uids;
       last = All-append Last h.more k.more h.range.last k.range.last;
@@ -103,8 +103,8 @@ module _ (v : Visitors) where
   }
 
   -- and the server reported it
-  pub visits_told : (s t : Server) → Visits v s t → Visits v s (told t)
-  visits_told s t h = record { user = h.user; password = h.password; keywords = h.keywords; condition = h.condition; gains = h.gains; nobody = h.nobody }
+  pub visits_reported : (s t : Server) → Visits v s t → Visits v s (reported t)
+  visits_reported s t h = record { user = h.user; password = h.password; keywords = h.keywords; condition = h.condition; gains = h.gains; nobody = h.nobody }
 
   -- ---- an arrival is a visit
 

@@ -3,7 +3,7 @@ use Rattle.std.specs.Prelude.{◌≡◌, ◌<◌, ℕ, false, List}
 use Rattle.mailcore.specs.Content.{mark_of}
 use Rattle.visitors.specs.Visitors.{Visitors, AreOctets, IsForeign}
 use Rattle.imap_session.specs.Arrivals.{ArrivedUnder}
-use Rattle.imap_session.specs.Servers.{Server, told}
+use Rattle.imap_session.specs.Servers.{Server, reported}
 use Rattle.imap_session.specs.Visits.{Visits}
 
 abbrev pub NobodyMayVisit : Type 0
@@ -13,8 +13,8 @@ abbrev pub VisitsFollow : Type 0
 VisitsFollow = (v : Visitors) (s t u : Server) → Visits v s t → Visits v t u → Visits v s u
 
 -- a visit that the server has reported is still a visit
-abbrev pub VisitsAreTold : Type 0
-VisitsAreTold = (v : Visitors) (s t : Server) → Visits v s t → Visits v s (told t)
+abbrev pub VisitsAreReported : Type 0
+VisitsAreReported = (v : Visitors) (s t : Server) → Visits v s t → Visits v s (reported t)
 
 -- a message that arrives, with no mark of the run, is a visit
 abbrev pub ArrivalsVisit : Type 0

@@ -51,6 +51,6 @@ pub fn visits_follow()
     ensures nobody { visit.NobodyMayVisit }
     ensures follow { visit.VisitsFollow }
     // It counts as such a visit, too, once the server has reported it.
-    ensures told { visit.VisitsAreTold }
+    ensures reported { visit.VisitsAreReported }
     ensures arrival { visit.ArrivalsVisit }
 {}

@@ -27,7 +27,7 @@ use Rattle.rules.proofs.LookUps.{flags_at_item, listed_item}
 use Rattle.rules.proofs.WorldLemmas.{listed, rising, store_is, stored}
 use Rattle.planner.specs.Listed.{of_note, of_step}
 use Rattle.planner.specs.Written.{all_new, all_notes, all_steps, gone_steps, flags_steps, expunge_steps}
-use Rattle.planner.proofs.Behind.{new_steps_all}
+use Rattle.planner.proofs.Following.{new_steps_all}
 use Rattle.planner.proofs.Ordered.{ordered_steps}
 use Rattle.planner.proofs.Sound.{sound}
 use Rattle.law_steps.specs.Steps.{Boxes, box, boxes_of, after, given, makes_copy, own, step_after, uid_given, without}
@@ -99,37 +99,37 @@ rank_le : (a b : ℕ × ℕ × ℕ) → IsBelow a b → a.0 ≤ b.0
 rank_le a b (inl h) = omega (arith, h)
 rank_le a b (inr h) = omega (arith, h.0)
 
-behind_one : (side at : Side) (u v : ℕ) (s : Step) → Before (propagation.Expunge at u) (of_step s) → Leaves side v s
-behind_one side at u v (New d w flags mark) h = λ x. refl
-behind_one side Far u v (Gone Pull f n) h = absurd (omega (arith, rank_le (6, u, 0) (2, n, 0) h))
-behind_one side Far u v (Gone Push f n) h = absurd (omega (arith, rank_le (6, u, 0) (3, f, 0) h))
-behind_one side Far u v (Flags Pull f n set cleared) h = absurd (omega (arith, rank_le (6, u, 0) (4, f, 0) h))
-behind_one side Far u v (Flags Push f n set cleared) h = absurd (omega (arith, rank_le (6, u, 0) (5, f, 0) h))
-behind_one side Near u v (Gone Pull f n) h = absurd (omega (arith, rank_le (7, u, 0) (2, n, 0) h))
-behind_one side Near u v (Gone Push f n) h = absurd (omega (arith, rank_le (7, u, 0) (3, f, 0) h))
-behind_one side Near u v (Flags Pull f n set cleared) h = absurd (omega (arith, rank_le (7, u, 0) (4, f, 0) h))
-behind_one side Near u v (Flags Push f n set cleared) h = absurd (omega (arith, rank_le (7, u, 0) (5, f, 0) h))
-behind_one side at u v (Expunge other w) h = λ x. refl
+after_one : (side at : Side) (u v : ℕ) (s : Step) → Before (propagation.Expunge at u) (of_step s) → Leaves side v s
+after_one side at u v (New d w flags mark) h = λ x. refl
+after_one side Far u v (Gone Pull f n) h = absurd (omega (arith, rank_le (6, u, 0) (2, n, 0) h))
+after_one side Far u v (Gone Push f n) h = absurd (omega (arith, rank_le (6, u, 0) (3, f, 0) h))
+after_one side Far u v (Flags Pull f n set cleared) h = absurd (omega (arith, rank_le (6, u, 0) (4, f, 0) h))
+after_one side Far u v (Flags Push f n set cleared) h = absurd (omega (arith, rank_le (6, u, 0) (5, f, 0) h))
+after_one side Near u v (Gone Pull f n) h = absurd (omega (arith, rank_le (7, u, 0) (2, n, 0) h))
+after_one side Near u v (Gone Push f n) h = absurd (omega (arith, rank_le (7, u, 0) (3, f, 0) h))
+after_one side Near u v (Flags Pull f n set cleared) h = absurd (omega (arith, rank_le (7, u, 0) (4, f, 0) h))
+after_one side Near u v (Flags Push f n set cleared) h = absurd (omega (arith, rank_le (7, u, 0) (5, f, 0) h))
+after_one side at u v (Expunge other w) h = λ x. refl
 
-behind : (side at : Side) (u v k : ℕ) (steps : List Step) → AllPairs Before (map of_step steps) → k < length steps → Expunge at u ≡ get_or steps k (Expunge at u) → All (Leaves side v) (drop k steps)
-behind side at u v k [] p l e = absurd (omega arith)
-behind side at u v zero (s ∷ steps) p l e =
+following : (side at : Side) (u v k : ℕ) (steps : List Step) → AllPairs Before (map of_step steps) → k < length steps → Expunge at u ≡ get_or steps k (Expunge at u) → All (Leaves side v) (drop k steps)
+following side at u v k [] p l e = absurd (omega arith)
+following side at u v zero (s ∷ steps) p l e =
     All-cons (Leaves side v) s steps (subst (Leaves side v) e (λ x. refl))
-    (All-from_contains (Leaves side v) steps (λ t c. behind_one side at u v t (subst (λ (q : Propagation). Before q (of_step t)) (ap of_step (sym e)) (AllPairs-head Before (of_step s) (map of_step steps) p (of_step t) (Contains-map of_step steps t (of_step t) c refl)))))
-behind side at u v (suc k) (s ∷ steps) p l e = behind side at u v k steps (AllPairs-tail Before (of_step s) (map of_step steps) p) (omega (arith, l)) e
+    (All-from_contains (Leaves side v) steps (λ t c. after_one side at u v t (subst (λ (q : Propagation). Before q (of_step t)) (ap of_step (sym e)) (AllPairs-head Before (of_step s) (map of_step steps) p (of_step t) (Contains-map of_step steps t (of_step t) c refl)))))
+following side at u v (suc k) (s ∷ steps) p l e = following side at u v k steps (AllPairs-tail Before (of_step s) (map of_step steps) p) (omega (arith, l)) e
 
 -- ---- the flags that all steps make
 
 new_leave : (s : Scene) (side : Side) (u : ℕ) (marks : List (List ℕ)) → All (Leaves side u) (all_new s marks)
 new_leave s side u marks = All-append (Leaves side u) _ _ (new_steps_all (Leaves side u) Pull (news s Pull) _ (λ i c m x. refl)) (new_steps_all (Leaves side u) Push (news s Push) _ (λ i c m x. refl))
 
-behind_new : (side : Side) (k a b c e f g : List Step) (u x : ℕ) →
+after_new : (side : Side) (k a b c e f g : List Step) (u x : ℕ) →
     flags_all side (k ++ a ++ b ++ c ++ e ++ f ++ g) u x ≡ flags_all side (a ++ b ++ c ++ e ++ f ++ g) u (flags_all side k u x)
-behind_new side k a b c e f g u x = simp (flags_all-append side)
+after_new side k a b c e f g u x = simp (flags_all-append side)
 
 pub all_flags : (s : Scene) (marks : List (List ℕ)) (side : Side) (u x : ℕ) → flags_all side (all_steps s marks) u x ≡ flags_all side (changes s) u x
 all_flags s marks side u x =
-    behind_new side (all_new s marks) (gone_steps s Pull) (gone_steps s Push) (flags_steps s Pull) (flags_steps s Push) (expunge_steps s Far) (expunge_steps s Near) u x
+    after_new side (all_new s marks) (gone_steps s Pull) (gone_steps s Push) (flags_steps s Pull) (flags_steps s Push) (expunge_steps s Far) (expunge_steps s Near) u x
     ∙ ap (λ y. flags_all side (changes s) u y) (flags_all-left side u (all_new s marks) (new_leave s side u marks) x)
 
 -- ---- the message that is next to be expunged
@@ -192,7 +192,7 @@ deleted_before w options marks results found side u bound h below at rises own_i
     (λ m c e.
     let under : m.uid < (store w side).next = omega (arith, less, e) in
     let r = all_back side steps results (boxes_of w) m (All-weaker (λ v. (store w side).next ≤ v) (λ v. m.uid < v) (λ v k. omega (arith, k, under)) uids least) (seen w marks found _ side m under own_is c) in
-    let left = flags_all-left side m.uid (drop (length results) steps) (behind side side u m.uid (length results) steps (ordered_steps s marks (rising w options h Far) (rising w options h Near) h.pairs) below at) m.flags in
+    let left = flags_all-left side m.uid (drop (length results) steps) (following side side u m.uid (length results) steps (ordered_steps s marks (rising w options h Far) (rising w options h Near) h.pairs) below at) m.flags in
     ap (λ x. has x DELETED) (sym left ∙ r.3)
     ∙ is_deleted w options marks side r.0 h (subst (λ v. is_expunged s side v ≡ true) (sym (r.2 ∙ e)) expunged) (stored_in w side r.0 r.1))
 

@@ -23,7 +23,7 @@ use Rattle.rules.specs.Called.{is_gone, pair_of, flags_by, flags_with, flags_aft
 use Rattle.planner.specs.Written.{gone_between, gone_by, gone_step, gone_steps, flags_by_pair, flags_step, flags_steps}
 use Rattle.rules.proofs.LookUps.{pair_says, pair_from, full_found, full_only, full_far, full_near, full_uids, flags_at_item, listed_item}
 use Rattle.rules.proofs.FlagLemmas.{taken-lt}
-use Rattle.planner.proofs.Behind.{flags_given, pair_full}
+use Rattle.planner.proofs.Following.{flags_given, pair_full}
 use Rattle.law_steps.specs.Steps.{changed_uid}
 use Rattle.law_steps.proofs.Changes.{flags_all}
 use Rattle.law_steps.proofs.Idle.{then_maybe, idle_from, walk-none, walk-one, hits_it, gone_uid, gone_idle, flags_each, pair_uid, pair_flags}

@@ -19,7 +19,7 @@ use Rattle.rules.specs.Called.{is_expunged, pair_of}
 use Rattle.planner.specs.Written.{gone_step, gone_steps, flags_step, flags_steps, expunge_step, expunge_steps}
 use Rattle.rules.proofs.Walks.{Contains-first, Contains-rest, Contains-cases, Contains-none, AllPairs-head, AllPairs-tail, All-filter_map, Contains-filter_map}
 use Rattle.rules.proofs.LookUps.{IsPairOf, full_found}
-use Rattle.planner.proofs.Behind.{gone_given, flags_given, expunge_given}
+use Rattle.planner.proofs.Following.{gone_given, flags_given, expunge_given}
 use Rattle.law_steps.specs.Steps.{changed_uid, is_side}
 use Rattle.law_steps.proofs.Changes.{hits, flags_then, stays, flags_all, stays_all, Leaves, Spares, flags_all-left, stays_all-spared}
 

@@ -86,9 +86,9 @@ changed_none mark from p g (m ∷ ms) h =
     by_test true e rest = passes_by mark from (with_new g m) (changed p g ms) None e rest
     by_test false e rest = rest
 
-pub behind : (mark : List ℕ) (from : ℕ) (ms : List Message) (c : Message) (o : Option ℕ) → marked_uid mark from ms ≡ None → marked_uid mark from (c ∷ []) ≡ o → marked_uid mark from (ms ++ c ∷ []) ≡ o
-behind mark from [] c o h e = e
-behind mark from (m ∷ ms) c o h e = let r = first_passed mark from m ms h in passes_by mark from m (ms ++ c ∷ []) o r.0 (behind mark from ms c o r.1 e)
+pub following : (mark : List ℕ) (from : ℕ) (ms : List Message) (c : Message) (o : Option ℕ) → marked_uid mark from ms ≡ None → marked_uid mark from (c ∷ []) ≡ o → marked_uid mark from (ms ++ c ∷ []) ≡ o
+following mark from [] c o h e = e
+following mark from (m ∷ ms) c o h e = let r = first_passed mark from m ms h in passes_by mark from m (ms ++ c ∷ []) o r.0 (following mark from ms c o r.1 e)
 
 -- ---- steps
 
@@ -113,8 +113,8 @@ step_none mark from side (New d u flags other) (Some uid) b is apart h =
 
     by_side : (side : Side) (d : Direction) → marked_uid mark from (box b side) ≡ None → marked_uid mark from (copy_of (target d) uid flags other (unwrap_or (bytes_at u (box b (source d))) []) ∷ []) ≡ None →
         marked_uid mark from (box (step_after b (New d u flags other) (Some uid)) side) ≡ None
-    by_side Near Pull h e = behind mark from b.near _ None h e
-    by_side Far Push h e = behind mark from b.far _ None h e
+    by_side Near Pull h e = following mark from b.near _ None h e
+    by_side Far Push h e = following mark from b.far _ None h e
     by_side Far Pull h e = h
     by_side Near Push h e = h
 step_none mark from side (Gone d f n) r b is apart h = ap (λ (ms : List Message). marked_uid mark from ms) (step-changed side (Gone d f n) r b refl) ∙ changed_none mark from (stays side (Gone d f n)) (flags_then side (Gone d f n)) (box b side) h

@@ -32,7 +32,7 @@ use Rattle.law_steps.specs.Steps.{Boxes, box, boxes_of, bytes_at, step_after, af
 use Rattle.law_steps.specs.OwnLaws.{bears, is_own, marked_uid, OpeningIsOwn, PlanStepIsOwn, NotFoundBefore, FoundAfter}
 use Rattle.law_steps.proofs.Fold.{after-more}
 use Rattle.law_steps.proofs.Copying.{box-with}
-use Rattle.law_steps.proofs.Own.{copy_bears, found_none, found_own, behind, steps_none, steps_marked, steps_apart}
+use Rattle.law_steps.proofs.Own.{copy_bears, found_none, found_own, following, steps_none, steps_marked, steps_apart}
 
 -- ---- the opening
 
@@ -140,5 +140,5 @@ found_after w options marks results found d u flags mark uid h a below at above 
     found_seen w options marks a found (step_after b (New d u flags mark) (Some uid)) (target d) (New d u flags mark) mark (length results, below, sym at) refl
     (own_is ∙ after-more steps results (New d u flags mark) (Some uid) (boxes_of w) below at)
     ∙ ap (λ (ms : List Message). marked_uid mark (store w (target d)).next ms) (box-with b (target d) (box b (target d) ++ copy ∷ []))
-    ∙ behind mark (store w (target d)).next (box b (target d)) copy (Some uid) (not_done w options marks results (target d) (New d u flags mark) mark h a below at refl)
+    ∙ following mark (store w (target d)).next (box b (target d)) copy (Some uid) (not_done w options marks results (target d) (New d u flags mark) mark h a below at refl)
     (ap (λ k. option_map (λ (x : Message). x.uid) (cond k (Some copy) None)) passes)

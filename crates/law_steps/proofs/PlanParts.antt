@@ -23,7 +23,7 @@ use Rattle.rules.specs.WorldAfter.{new_messages, marks_to}
 use Rattle.planner.specs.Written.{new_steps, all_new, gone_step, flags_step, expunge_step, gone_steps, flags_steps, expunge_steps, all_steps}
 use Rattle.rules.proofs.Walks.{All-filter_map}
 use Rattle.rules.proofs.WorldLemmas.{news_are}
-use Rattle.planner.proofs.Behind.{gone_given, flags_given, expunge_given}
+use Rattle.planner.proofs.Following.{gone_given, flags_given, expunge_given}
 use Rattle.law_steps.specs.Steps.{makes_copy, is_side}
 use Rattle.law_steps.proofs.Changes.{flags_all, stays_all, flags_all-append, stays_all-append}
 use Rattle.law_steps.proofs.Idle.{gone_other, flags_other, expunge_leaves, gone_spares, flags_spare, expunge_spares, expunge_removes}

@@ -28,7 +28,7 @@ use Rattle.planner.specs.Written.{all_steps, expunge_step, expunge_steps, flags_
 use Rattle.rules.proofs.FlagLemmas.{taken-at, taken-lt}
 use Rattle.rules.proofs.LookUps.{pair_says}
 use Rattle.rules.proofs.Walks.{All-filter_map, All-from_contains, filter_contains}
-use Rattle.planner.proofs.Behind.{expunge_given, flags_given, gone_given}
+use Rattle.planner.proofs.Following.{expunge_given, flags_given, gone_given}
 use Rattle.law_steps.specs.Keywords.{IsWithinStep, IsWithinWorld}
 
 -- ---- single sets

@@ -29,15 +29,15 @@ rest b c x h = λ k d lt. h (suc k) d (omega (arith, lt))
 
 pub record SameCut (x x' y y' : List ℕ) : Type 0 where
   pub front : x ≡ x'
-  pub behind : y ≡ y'
+  pub following : y ≡ y'
 
 pub same_cut : (b : ℕ) (x x' y y' : List ℕ) → All (λ (d : ℕ). d ≢ b) x → All (λ (d : ℕ). d ≢ b) x' → x ++ b ∷ y ≡ x' ++ b ∷ y' → SameCut x x' y y'
-same_cut b [] [] y y' n n' e = record { front = refl; behind = tails b b y y' e }
+same_cut b [] [] y y' n n' e = record { front = refl; following = tails b b y y' e }
 same_cut b [] (c ∷ x') y y' n n' e = absurd (first b c x' n' (sym (heads b c y (x' ++ b ∷ y') e)))
 same_cut b (c ∷ x) [] y y' n n' e = absurd (first b c x n (heads c b (x ++ b ∷ y) y' e))
 same_cut b (c ∷ x) (d ∷ x') y y' n n' e =
     let s = same_cut b x x' y y' (rest b c x n) (rest b d x' n') (tails c d (x ++ b ∷ y) (x' ++ b ∷ y') e) in
-    record { front = both c d x x' (heads c d (x ++ b ∷ y) (x' ++ b ∷ y') e) s.front; behind = s.behind }
+    record { front = both c d x x' (heads c d (x ++ b ∷ y) (x' ++ b ∷ y') e) s.front; following = s.following }
 
 no_cut_in : (b : ℕ) (x y : List ℕ) → All (λ (d : ℕ). d ≢ b) (x ++ b ∷ y) → ⊥
 no_cut_in b [] y h = first b b y h refl
@@ -48,28 +48,28 @@ no_cut b text x y h e = no_cut_in b x y (let P : List ℕ → Type 0 = λ l. All
 
 -- ---- a command
 
-pub no_space : (command tag word name behind : List ℕ) → All (λ (d : ℕ). d ≢ 32) command → IsInParts command tag word name behind → ⊥
-no_space command tag word name behind h p = no_cut 32 command tag _ h p.together
+pub no_space : (command tag word name following : List ℕ) → All (λ (d : ℕ). d ≢ 32) command → IsInParts command tag word name following → ⊥
+no_space command tag word name following h p = no_cut 32 command tag _ h p.together
 
 -- what follows the tag
-behind_tag : (command t r tag word name behind : List ℕ) → command ≡ t ++ 32 ∷ r → All (λ (d : ℕ). d ≢ 32) t → IsInParts command tag word name behind
-    → r ≡ word ++ 34 ∷ (name ++ 34 ∷ behind)
-behind_tag command t r tag word name behind e h p = let s = same_cut 32 t tag r _ h p.no_space (sym e ∙ p.together) in s.behind
+after_tag : (command t r tag word name following : List ℕ) → command ≡ t ++ 32 ∷ r → All (λ (d : ℕ). d ≢ 32) t → IsInParts command tag word name following
+    → r ≡ word ++ 34 ∷ (name ++ 34 ∷ following)
+after_tag command t r tag word name following e h p = let s = same_cut 32 t tag r _ h p.no_space (sym e ∙ p.together) in s.following
 
-pub no_quote : (command t r tag word name behind : List ℕ) → command ≡ t ++ 32 ∷ r → All (λ (d : ℕ). d ≢ 32) t → All (λ (d : ℕ). d ≢ 34) r
-    → IsInParts command tag word name behind → ⊥
-no_quote command t r tag word name behind e h n p = no_cut 34 r word _ n (behind_tag command t r tag word name behind e h p)
+pub no_quote : (command t r tag word name following : List ℕ) → command ≡ t ++ 32 ∷ r → All (λ (d : ℕ). d ≢ 32) t → All (λ (d : ℕ). d ≢ 34) r
+    → IsInParts command tag word name following → ⊥
+no_quote command t r tag word name following e h n p = no_cut 34 r word _ n (after_tag command t r tag word name following e h p)
 
 -- the word, and what follows the first quote
-behind_word : (command t r w q tag word name behind : List ℕ) → command ≡ t ++ 32 ∷ r → All (λ (d : ℕ). d ≢ 32) t → r ≡ w ++ 34 ∷ q → All (λ (d : ℕ). d ≢ 34) w
-    → IsInParts command tag word name behind → SameCut w word q (name ++ 34 ∷ behind)
-behind_word command t r w q tag word name behind e h f n p =
-    same_cut 34 w word q (name ++ 34 ∷ behind) n p.no_quote (sym f ∙ behind_tag command t r tag word name behind e h p)
+after_word : (command t r w q tag word name following : List ℕ) → command ≡ t ++ 32 ∷ r → All (λ (d : ℕ). d ≢ 32) t → r ≡ w ++ 34 ∷ q → All (λ (d : ℕ). d ≢ 34) w
+    → IsInParts command tag word name following → SameCut w word q (name ++ 34 ∷ following)
+after_word command t r w q tag word name following e h f n p =
+    same_cut 34 w word q (name ++ 34 ∷ following) n p.no_quote (sym f ∙ after_tag command t r tag word name following e h p)
 
-pub no_end : (command t r w q tag word name behind : List ℕ) → command ≡ t ++ 32 ∷ r → All (λ (d : ℕ). d ≢ 32) t → r ≡ w ++ 34 ∷ q → All (λ (d : ℕ). d ≢ 34) w
-    → All (λ (d : ℕ). d ≢ 34) q → IsInParts command tag word name behind → ⊥
-no_end command t r w q tag word name behind e h f n m p =
-    let s = behind_word command t r w q tag word name behind e h f n p in no_cut 34 q name behind m s.behind
+pub no_end : (command t r w q tag word name following : List ℕ) → command ≡ t ++ 32 ∷ r → All (λ (d : ℕ). d ≢ 32) t → r ≡ w ++ 34 ∷ q → All (λ (d : ℕ). d ≢ 34) w
+    → All (λ (d : ℕ). d ≢ 34) q → IsInParts command tag word name following → ⊥
+no_end command t r w q tag word name following e h f n m p =
+    let s = after_word command t r w q tag word name following e h f n p in no_cut 34 q name following m s.following
 
 -- ---- its parts, found
 
@@ -82,14 +82,14 @@ in_parts command t r w q n b e h f m g k = record {
   no_end = k;
 }
 
-pub same_word : (command t w n b tag word name behind : List ℕ) → IsInParts command t w n b → IsInParts command tag word name behind → w ≡ word
-same_word command t w n b tag word name behind p p' =
-    let s = behind_word command t _ w _ tag word name behind p.together p.no_space refl p.no_quote p' in s.front
+pub same_word : (command t w n b tag word name following : List ℕ) → IsInParts command t w n b → IsInParts command tag word name following → w ≡ word
+same_word command t w n b tag word name following p p' =
+    let s = after_word command t _ w _ tag word name following p.together p.no_space refl p.no_quote p' in s.front
 
-pub same_name : (command t w n b tag word name behind : List ℕ) → IsInParts command t w n b → IsInParts command tag word name behind → n ≡ name
-same_name command t w n b tag word name behind p p' =
-    let s = behind_word command t _ w _ tag word name behind p.together p.no_space refl p.no_quote p' in
-    let u = same_cut 34 n name b behind p.no_end p'.no_end s.behind in u.front
+pub same_name : (command t w n b tag word name following : List ℕ) → IsInParts command t w n b → IsInParts command tag word name following → n ≡ name
+same_name command t w n b tag word name following p p' =
+    let s = after_word command t _ w _ tag word name following p.together p.no_space refl p.no_quote p' in
+    let u = same_cut 34 n name b following p.no_end p'.no_end s.following in u.front
 
 -- ---- cases
 

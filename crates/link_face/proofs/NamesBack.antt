@@ -12,7 +12,7 @@ use Rattle.std.proofs.lemmas.Str.{IsUtf8-from_is_utf8, scalars-chars, encodes-ch
 use Rattle.base64.specs.Engines.{standard_no_pad}
 use Rattle.base64.specs.GeneralPurpose.{encode_of}
 use Rattle.wire_strings.specs.Texts.{is_text}
-use Rattle.link_face.specs.Names.{is_printable, swapped, plain, utf16_octets, unit_octets, run_text, written, is_name_text, near_name, units_behind, text_of, joined, read, far_name, IsName}
+use Rattle.link_face.specs.Names.{is_printable, swapped, plain, utf16_octets, unit_octets, run_text, written, is_name_text, near_name, units_after, text_of, joined, read, far_name, IsName}
 use Rattle.link_face.proofs.Utf16Back.{AllBelow, units_back, octets_are, text_back, chars_below}
 use Rattle.link_face.proofs.RunsBack.{is_fine, run_fine, run_read}
 use Rattle.std.specs.Char.Escape.{encode_utf16}
@@ -22,9 +22,9 @@ octets cs = flat_map utf16_octets cs
 
 -- ---- a run
 
-value_is : (cs : List ℕ) → scalars cs ≡ true → option_and_then text_of (units_behind None (flat_map utf16_octets cs)) ≡ Some (encode_utf8_all cs)
+value_is : (cs : List ℕ) → scalars cs ≡ true → option_and_then text_of (units_after None (flat_map utf16_octets cs)) ≡ Some (encode_utf8_all cs)
 value_is cs h =
-    ap (λ (l : List ℕ). option_and_then text_of (units_behind None l)) (octets_are cs)
+    ap (λ (l : List ℕ). option_and_then text_of (units_after None l)) (octets_are cs)
     ∙ ap (option_and_then text_of) (units_back (flat_map encode_utf16 cs))
     ∙ text_back cs h
 
@@ -35,7 +35,7 @@ same_some a b e = cc
 no_value : (cs : List ℕ) → scalars cs ≡ true → flat_map utf16_octets cs ≡ [] → encode_utf8_all cs ≡ []
 no_value cs h e =
     same_some (encode_utf8_all cs) []
-    (sym (value_is cs h) ∙ (ap (λ (l : List ℕ). option_and_then text_of (units_behind None l)) e ∙ value_is [] refl))
+    (sym (value_is cs h) ∙ (ap (λ (l : List ℕ). option_and_then text_of (units_after None l)) e ∙ value_is [] refl))
 
 run_chars : (cs rest : List ℕ) → scalars cs ≡ true → read false [] (run_text (flat_map utf16_octets cs) ++ rest) ≡ joined (Some (encode_utf8_all cs)) (read false [] rest)
 run_chars cs rest h = run_read (flat_map utf16_octets cs) rest (encode_utf8_all cs) (chars_below cs h) (value_is cs h) (no_value cs h)

@@ -29,7 +29,7 @@ use Rattle.imap_session.specs.NamedMessages.{named_in, goes}
 use Rattle.imap_session.specs.Portions.{LineFault, Syntax, LiteralTooLong}
 use Rattle.imap_session.specs.Serving.{fault_reply}
 use Rattle.imap_session.specs.Servers.{Server, Condition, NotAuthenticated, Authenticated, Selected, LoggedOut, is_logged_in, is_before_login, selected}
-use Rattle.imap_session.specs.SessionCommands.{REV2, tells_capabilities, does_nothing, logs_out, lets_in, logs_in, enables}
+use Rattle.imap_session.specs.SessionCommands.{REV2, reports_capabilities, does_nothing, logs_out, lets_in, logs_in, enables}
 use Rattle.imap_session.specs.Steps.{StepOf}
 use Rattle.link_face.specs.Hearing.{is_same_near, is_heard}
 use Rattle.link_face.specs.Profile.{NamesAreSame, AreHeard}
@@ -164,10 +164,10 @@ shown_heard keywords wanted.Head m place = refl
 fetched_heard : (keywords : List Keyword) (named : ℕ → Bool) (what : FetchItems) (place : ℕ) (ms : List Message) → AreHeard (fetched keywords named what place ms)
 fetched_heard keywords named what place [] = refl
 fetched_heard keywords named what place (m ∷ ms) =
-    let behind = fetched keywords named what (place + 1) ms in
+    let following = fetched keywords named what (place + 1) ms in
     let others = fetched_heard keywords named what (place + 1) ms in
-    replies_if (named m.uid) (Fetch place (shown keywords what m) ∷ behind) behind
-    (both_true (is_heard (Fetch place (shown keywords what m))) (list_all is_heard behind) (shown_heard keywords what m place) others) others
+    replies_if (named m.uid) (Fetch place (shown keywords what m) ∷ following) following
+    (both_true (is_heard (Fetch place (shown keywords what m))) (list_all is_heard following) (shown_heard keywords what m place) others) others
 
 fetches_heard : (found : Option FarMailbox) (s : Server) (tag : List ℕ) (set : List SetItem) (what : FetchItems) → AreHeard (fetches_in found s tag set what).replies
 fetches_heard None s tag set what = refl
@@ -220,7 +220,7 @@ lets_in_heard s tag user password =
 -- ---- all commands
 
 pub step_heard : (s : Server) (tag : List ℕ) (request : Request) (replies : List Reply) (new : Server) → NamesAreSame s → StepOf s tag request replies new → AreHeard replies
-step_heard s tag requests.Capability replies new h g = given (tells_capabilities s tag) replies new refl g
+step_heard s tag requests.Capability replies new h g = given (reports_capabilities s tag) replies new refl g
 step_heard s tag requests.Noop replies new h g = given (does_nothing s tag) replies new refl g
 step_heard s tag requests.Logout replies new h g = given (logs_out s tag) replies new refl g
 step_heard s tag (requests.Login user password) replies new h g =

@@ -12,7 +12,7 @@ use Rattle.base64.specs.Rfc4648.{encode_symbols}
 use Rattle.base64.specs.Tables.{all_below}
 use Rattle.base64.proofs.EngineFacts.{decode_of-encode_of}
 use Rattle.base64.proofs.Tables.{all_below_at}
-use Rattle.link_face.specs.Names.{is_printable, swapped, run_text, units_behind, text_of, run_value, joined, read}
+use Rattle.link_face.specs.Names.{is_printable, swapped, run_text, units_after, text_of, run_value, joined, read}
 use Rattle.link_face.proofs.Utf16Back.{AllBelow}
 
 -- printable, and no `-`
@@ -99,17 +99,17 @@ some_text o (b ∷ []) = omega arith
 some_text o (b ∷ c ∷ rest) = omega arith
 
 value_of_some : (x : List ℕ) → 0 < length x
-    → run_value x ≡ option_and_then text_of (option_and_then (units_behind None) (result_ok (decode_of standard_no_pad (map swapped x))))
+    → run_value x ≡ option_and_then text_of (option_and_then (units_after None) (result_ok (decode_of standard_no_pad (map swapped x))))
 value_of_some [] lt = absurd (omega (arith, lt))
 value_of_some (b ∷ bs) lt = refl
 
 value_back : (o : ℕ) (os : List ℕ) → AllBelow 256 (o ∷ os)
-    → run_value (map swapped (encode_of standard_no_pad (o ∷ os))) ≡ option_and_then text_of (units_behind None (o ∷ os))
+    → run_value (map swapped (encode_of standard_no_pad (o ∷ os))) ≡ option_and_then text_of (units_after None (o ∷ os))
 value_back o os h =
     let text = encode_of standard_no_pad (o ∷ os) in
     value_of_some (map swapped text) (some_text o os)
-    ∙ ap (λ (l : List ℕ). option_and_then text_of (option_and_then (units_behind None) (result_ok (decode_of standard_no_pad l)))) (all_swapped_back text)
-    ∙ ap (λ r. option_and_then text_of (option_and_then (units_behind None) (result_ok r))) (decode_of-encode_of standard_no_pad (o ∷ os) refl (is_bytes (o ∷ os) h))
+    ∙ ap (λ (l : List ℕ). option_and_then text_of (option_and_then (units_after None) (result_ok (decode_of standard_no_pad l)))) (all_swapped_back text)
+    ∙ ap (λ r. option_and_then text_of (option_and_then (units_after None) (result_ok r))) (decode_of-encode_of standard_no_pad (o ∷ os) refl (is_bytes (o ∷ os) h))
 
 -- the bytes up to the `-` are those of the run
 read_run : (text run rest : List ℕ) → list_all is_fine text ≡ true → read true run (text ++ 45 ∷ rest) ≡ joined (run_value (run ++ text)) (read false [] rest)
@@ -120,7 +120,7 @@ read_run (b ∷ text) run rest h =
     rw no (read_run text (run ++ b ∷ []) rest parts.1 ∙ ap (λ (l : List ℕ). joined (run_value l) (read false [] rest)) (append_assoc run (b ∷ []) text))
 
 -- a run of octets that stand for this text
-pub run_read : (os rest value : List ℕ) → AllBelow 256 os → option_and_then text_of (units_behind None os) ≡ Some value → ((os ≡ []) → value ≡ [])
+pub run_read : (os rest value : List ℕ) → AllBelow 256 os → option_and_then text_of (units_after None os) ≡ Some value → ((os ≡ []) → value ≡ [])
     → read false [] (run_text os ++ rest) ≡ joined (Some value) (read false [] rest)
 run_read [] rest value h e nil = nothing (read false [] rest) ∙ ap (λ (l : List ℕ). joined (Some l) (read false [] rest)) (sym (nil refl))
   where

@@ -12,14 +12,14 @@ use Rattle.std.proofs.lemmas.Grind.{flat_map-append}
 use Rattle.std.proofs.lemmas.Nat.{mod_below, div-add-mod'}
 use Rattle.std.proofs.lemmas.Str.{utf16_chars-nil, utf16_chars_lone, utf16_chars_pair}
 use Rattle.std.proofs.str.Utf16.{IsPair, one_unit, two_units, lone_unit_char_low, lone_unit_char_high}
-use Rattle.link_face.specs.Names.{unit_octets, utf16_octets, units_behind, text_of, joined}
+use Rattle.link_face.specs.Names.{unit_octets, utf16_octets, units_after, text_of, joined}
 
 -- ---- units
 
 back : (u : ℕ) → 256 * (u / 256) + u % 256 ≡ u
 back u = omega (arith, div-add-mod' u 256)
 
-pub units_back : (us : List ℕ) → units_behind None (flat_map unit_octets us) ≡ Some us
+pub units_back : (us : List ℕ) → units_after None (flat_map unit_octets us) ≡ Some us
 units_back [] = refl
 units_back (u ∷ us) =
     ap (joined (Some ((256 * (u / 256) + u % 256) ∷ []))) (units_back us)
@@ -91,16 +91,16 @@ unwrapped : (cs : List ℕ) → map (λ (o : Option ℕ). unwrap_or o 0xFFFD) (m
 unwrapped [] = refl
 unwrapped (c ∷ cs) = ap (λ (l : List ℕ). c ∷ l) (unwrapped cs)
 
-told : (b : Bool) (x : List ℕ) (cs : List ℕ) → b ≡ false → x ≡ cs → (if b then None else (let o : Option (List ℕ) = Some (encode_utf8_all x) in o)) ≡ Some (encode_utf8_all cs)
-told true x cs e f = absurd (ne e)
+reported : (b : Bool) (x : List ℕ) (cs : List ℕ) → b ≡ false → x ≡ cs → (if b then None else (let o : Option (List ℕ) = Some (encode_utf8_all x) in o)) ≡ Some (encode_utf8_all cs)
+reported true x cs e f = absurd (ne e)
   where
     ne : (let b : Bool = true in b) ≡ false → ⊥
     ne e = cc
-told false x cs e f = ap (λ (l : List ℕ). let o : Option (List ℕ) = Some (encode_utf8_all l) in o) f
+reported false x cs e f = ap (λ (l : List ℕ). let o : Option (List ℕ) = Some (encode_utf8_all l) in o) f
 
 pub text_back : (cs : List ℕ) → scalars cs ≡ true → text_of (flat_map encode_utf16 cs) ≡ Some (encode_utf8_all cs)
 text_back cs h =
-    told (list_any (λ (o : Option ℕ). not (is_some o)) (utf16_chars (flat_map encode_utf16 cs)))
+    reported (list_any (λ (o : Option ℕ). not (is_some o)) (utf16_chars (flat_map encode_utf16 cs)))
     (map (λ (o : Option ℕ). unwrap_or o 0xFFFD) (utf16_chars (flat_map encode_utf16 cs))) cs
     (ap (list_any (λ (o : Option ℕ). not (is_some o))) (chars_back cs h) ∙ all_some cs)
     (ap (map (λ (o : Option ℕ). unwrap_or o 0xFFFD)) (chars_back cs h) ∙ unwrapped cs)

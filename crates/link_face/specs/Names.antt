@@ -55,11 +55,11 @@ joined None rest = None
 joined (Some text) rest = option_map (λ bs. text ++ bs) rest
 
 -- the units of octets, by twos
-abbrev pub units_behind : (high : Option ℕ) (octets : List ℕ) → Option (List ℕ)
-units_behind None [] = Some []
-units_behind (Some high) [] = None
-units_behind None (o ∷ os) = units_behind (Some o) os
-units_behind (Some high) (o ∷ os) = joined (Some ((256 * high + o) ∷ [])) (units_behind None os)
+abbrev pub units_after : (high : Option ℕ) (octets : List ℕ) → Option (List ℕ)
+units_after None [] = Some []
+units_after (Some high) [] = None
+units_after None (o ∷ os) = units_after (Some o) os
+units_after (Some high) (o ∷ os) = joined (Some ((256 * high + o) ∷ [])) (units_after None os)
 
 abbrev pub text_of : (units : List ℕ) → Option (List ℕ)
 text_of units = if has_unpaired_surrogate units then None else Some (encode_utf8_all (utf16_lossy_chars units))
@@ -67,7 +67,7 @@ text_of units = if has_unpaired_surrogate units then None else Some (encode_utf8
 -- what stands between `&` and `-`
 abbrev pub run_value : List ℕ → Option (List ℕ)
 run_value [] = Some (codes "&")
-run_value (b ∷ bs) = option_and_then text_of (option_and_then (units_behind None) (result_ok (decode_of standard_no_pad (map swapped (b ∷ bs)))))
+run_value (b ∷ bs) = option_and_then text_of (option_and_then (units_after None) (result_ok (decode_of standard_no_pad (map swapped (b ∷ bs)))))
 
 -- the bytes after those of a run, within it, or outside of a run
 abbrev pub read : (is_within : Bool) (run bytes : List ℕ) → Option (List ℕ)

@@ -37,18 +37,18 @@ struct Named<'c> {
     word: &'c [u8],
     name: &'c [u8],
     /// What follows the name.
-    behind: &'c [u8],
+    following: &'c [u8],
 }
 
 impl<'c> Named<'c> {
     /// The parts of a command. None: it names no mailbox so.
     fn read(command: &'c [u8]) -> Option<Named<'c>>
-        ensures { MatchOption result ((tag word name behind : List ℕ) → ¬ (NamesMailbox command.now tag word name behind))
-            (λ n. NamesMailbox command.now n.tag.now n.word.now n.name.now n.behind.now) }
+        ensures { MatchOption result ((tag word name following : List ℕ) → ¬ (NamesMailbox command.now tag word name following))
+            (λ n. NamesMailbox command.now n.tag.now n.word.now n.name.now n.following.now) }
     {
         let (tag, rest) = cut(command, b' ')?;
         let (word, rest) = cut(rest, b'"')?;
-        let (name, behind) = cut(rest, b'"')?;
+        let (name, following) = cut(rest, b'"')?;
         if !is_naming(word) {
             return None;
         }
@@ -59,7 +59,7 @@ impl<'c> Named<'c> {
             tag,
             word,
             name,
-            behind,
+            following,
         })
     }
 
@@ -67,13 +67,13 @@ impl<'c> Named<'c> {
     fn with_name(&self, alloc: Global, name: &[u8]) -> Result<Vec<u8>, AllocError>
         requires { list_all is_text name.now ≡ true }
         ensures { IfOk result (λ out. (quoted : List ℕ) × QuotedText name.now quoted
-            × (out.items ≡ self.now.tag.now ++ 32 ∷ (self.now.word.now ++ (quoted ++ self.now.behind.now)))) }
+            × (out.items ≡ self.now.tag.now ++ 32 ∷ (self.now.word.now ++ (quoted ++ self.now.following.now)))) }
     {
         let mut out = Vec::from_slice(alloc, self.tag)?;
         out.extend_from_slice(b" ")?;
         out.extend_from_slice(self.word)?;
         write_quoted(name, &mut out)?;
-        out.extend_from_slice(self.behind)?;
+        out.extend_from_slice(self.following)?;
         Ok(out)
     }
 }

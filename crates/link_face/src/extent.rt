@@ -26,17 +26,17 @@ pub(crate) enum Extent {
 
 /// How far a reply has been looked at. Each of its bytes is looked at once, however small the pieces are in which it comes.
 #[derive(Clone, Copy)]
-pub(crate) struct Search {
+pub(crate) struct ReplyExtent {
     scanner: Scanner,
     scanned: usize,
 }
 
-impl Search {
+impl ReplyExtent {
     /// One for the begin of a reply.
-    pub(crate) fn new() -> Search
+    pub(crate) fn new() -> ReplyExtent
         ensures { result.scanned ≡ 0 }
     {
-        Search {
+        ReplyExtent {
             scanner: Scanner::new(),
             scanned: 0,
         }

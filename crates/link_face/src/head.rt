@@ -2,11 +2,11 @@
 
 /// What a reply is, by its first words. What follows them is lent, with the space and the line end.
 #[derive(Clone, Copy)]
-pub(crate) enum Head<'a> {
+pub(crate) enum ReplyHead<'a> {
     /// `+`: a continuation request.
     Continue,
     /// A status response, tagged or not.
-    Status(Status<'a>),
+    Status(StatusLine<'a>),
     /// CAPABILITY or ENABLED.
     Names(&'a [u8], &'a [u8]),
     /// LIST.
@@ -23,7 +23,7 @@ pub(crate) enum Head<'a> {
 
 /// A status response: no literal stands in it (RFC 9051, section 7.1).
 #[derive(Clone, Copy)]
-pub(crate) struct Status<'a> {
+pub(crate) struct StatusLine<'a> {
     /// `*` or the tag.
     pub(crate) tag: &'a [u8],
     /// OK, NO, BAD, BYE or PREAUTH, in any case.
@@ -33,42 +33,42 @@ pub(crate) struct Status<'a> {
 }
 
 /// How these bytes begin.
-pub(crate) fn head_of(raw: &[u8]) -> Head<'_> {
+pub(crate) fn head_of(raw: &[u8]) -> ReplyHead<'_> {
     if raw.starts_with(b"+") {
-        return Head::Continue;
+        return ReplyHead::Continue;
     }
     let (tag, rest) = split_word(raw);
-    let (word, text) = split_word(behind_space(rest));
+    let (word, text) = split_word(after_space(rest));
     let is_untagged = matches!(tag, [b'*']);
     if is_status_word(word) || (is_untagged && is_greeting_word(word)) {
-        Head::Status(Status { tag, word, text })
+        ReplyHead::Status(StatusLine { tag, word, text })
     } else if is_untagged {
         untagged(word, text)
     } else if raw.trim_ascii().is_empty() {
-        Head::Other
+        ReplyHead::Other
     } else {
-        Head::NoReply
+        ReplyHead::NoReply
     }
 }
 
 /// Whether no literal stands in the reply that begins so: it ends with its first line.
 pub(crate) fn is_line(raw: &[u8]) -> bool {
-    matches!(head_of(raw), Head::Continue | Head::Status(_))
+    matches!(head_of(raw), ReplyHead::Continue | ReplyHead::Status(_))
 }
 
 /// What an untagged reply is that is no status response.
-fn untagged<'a>(word: &'a [u8], rest: &'a [u8]) -> Head<'a> {
+fn untagged<'a>(word: &'a [u8], rest: &'a [u8]) -> ReplyHead<'a> {
     if word.eq_ignore_ascii_case(b"CAPABILITY") || word.eq_ignore_ascii_case(b"ENABLED") {
-        Head::Names(word, rest)
+        ReplyHead::Names(word, rest)
     } else if word.eq_ignore_ascii_case(b"LIST") {
-        Head::List(rest)
+        ReplyHead::List(rest)
     } else if word.eq_ignore_ascii_case(b"FLAGS") {
-        Head::Flags(rest)
+        ReplyHead::Flags(rest)
     } else if is_number(word) {
-        let (event, behind) = split_word(behind_space(rest));
-        Head::Numbered(word, event, behind)
+        let (event, following) = split_word(after_space(rest));
+        ReplyHead::Numbered(word, event, following)
     } else {
-        Head::Other
+        ReplyHead::Other
     }
 }
 
@@ -81,7 +81,7 @@ fn split_word(bytes: &[u8]) -> (&[u8], &[u8]) {
 }
 
 /// The bytes after a space, if one stands at the front.
-pub(crate) fn behind_space(bytes: &[u8]) -> &[u8] {
+pub(crate) fn after_space(bytes: &[u8]) -> &[u8] {
     bytes.strip_prefix(b" ").unwrap_or(bytes)
 }
 

@@ -3,7 +3,7 @@
 ghost use Rattle.std.specs.Prelude.{◌≡◌, ◌≤◌, ◌++◌, [], drop, length, take, IfOk, OnOk, OnErr};
 ghost use Rattle.link_face.specs.Extents.{IsWithin};
 
-use crate::extent::{Extent, Search};
+use crate::extent::{Extent, ReplyExtent};
 use std::alloc::{AllocError, Global};
 use std::marker::Model;
 use std::mem;
@@ -14,7 +14,7 @@ pub(crate) struct Incoming {
     bytes: Vec<u8>,
     /// How many of them were taken out: they go once more come, so that what follows them is not moved for each reply.
     taken: usize,
-    search: Search,
+    search: ReplyExtent,
 }
 
 impl Model for Incoming {
@@ -35,7 +35,7 @@ impl Incoming {
         Incoming {
             bytes: Vec::new(alloc),
             taken: 0,
-            search: Search::new(),
+            search: ReplyExtent::new(),
         }
     }
 
@@ -52,7 +52,7 @@ impl Incoming {
     {
         self.bytes.clear();
         self.taken = 0;
-        self.search = Search::new();
+        self.search = ReplyExtent::new();
     }
 
     /// These bytes came. `AllocError`: memory ran out, and they are lost.
@@ -97,7 +97,7 @@ impl Incoming {
             return self.take_most(len);
         }
         let front = Vec::from_slice(*self.bytes.allocator(), self.front(len))?;
-        self.search = Search::new();
+        self.search = ReplyExtent::new();
         self.taken += len;
         Ok(front)
     }
@@ -114,7 +114,7 @@ impl Incoming {
         let rest = Vec::from_slice(*self.bytes.allocator(), &self.bytes[len..])?;
         let mut front = mem::replace(&mut self.bytes, rest);
         front.truncate(len);
-        self.search = Search::new();
+        self.search = ReplyExtent::new();
         Ok(front)
     }
 }

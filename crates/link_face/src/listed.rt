@@ -3,7 +3,7 @@
 ghost use Rattle.std.specs.Prelude.{IfOk, IfSome};
 ghost use Rattle.link_face.specs.Listing.{IsNearName};
 
-use crate::head::behind_space;
+use crate::head::after_space;
 use crate::names::to_near;
 use crate::token::{Token, read_list, read_token};
 use mailcore::mailbox_name::is_mailbox_name;
@@ -29,9 +29,9 @@ pub(crate) struct Listed<'a> {
 impl<'a> Listed<'a> {
     /// Reads what follows LIST; extended data after the name is skipped (RFC 9051, section 6.3.9.1).
     pub(crate) fn read(bytes: &'a [u8]) -> Option<Listed<'a>> {
-        let (attributes, rest) = read_list(behind_space(bytes))?;
-        let (delimiter, rest) = read_token(behind_space(rest))?;
-        let (name, _) = read_token(behind_space(rest))?;
+        let (attributes, rest) = read_list(after_space(bytes))?;
+        let (delimiter, rest) = read_token(after_space(rest))?;
+        let (name, _) = read_token(after_space(rest))?;
         Some(Listed {
             attributes,
             delimiter,

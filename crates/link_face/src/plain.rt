@@ -1,7 +1,7 @@
 //! Replies of names, of flags and of numbers alone, written anew (RFC 9051, sections 7.2, 7.3.5 and 7.4).
 
 use crate::flag_words::append_flags;
-use crate::head::behind_space;
+use crate::head::after_space;
 use crate::token::read_list;
 use std::alloc::{AllocError, Global};
 use wire_tokens::appending::append;
@@ -28,7 +28,7 @@ pub(crate) fn names_line(alloc: Global, word: &[u8], rest: &[u8]) -> Result<Vec<
 ///
 /// `AllocError`: memory ran out.
 pub(crate) fn flags_line(alloc: Global, rest: &[u8]) -> Result<Option<Vec<u8>>, AllocError> {
-    let Some((words, _)) = read_list(behind_space(rest)) else {
+    let Some((words, _)) = read_list(after_space(rest)) else {
         return Ok(None);
     };
     let mut out = Vec::new(alloc);

@@ -4,8 +4,8 @@ ghost use Rattle.std.specs.Prelude.{◌≡◌, ◌+◌, ◌<◌, true, false, If
 ghost use Rattle.imap_link.specs.UsedReplies.{is_of_opening, is_used};
 ghost use Rattle.link_face.specs.Rooms.{whole_room, every_use, is_numbered, part_of, Counts, CountsReply};
 
-use crate::head::{Head, head_of};
-use crate::row::Row;
+use crate::head::{ReplyHead, head_of};
+use crate::row::FetchRow;
 use crate::turning::reply_of;
 use imap_replies::reply::Reply;
 use imap_replies::response::{Code, ResponseText};
@@ -123,8 +123,8 @@ fn is_numbered(raw: &[u8]) -> bool
 /// Whether a reply with a number is a FETCH reply with a whole message.
 fn has_message(raw: &[u8]) -> bool {
     match head_of(raw) {
-        Head::Numbered(_, event, rest) if event.eq_ignore_ascii_case(b"FETCH") => {
-            Row::read(rest).is_some_and(|row| row.has_message())
+        ReplyHead::Numbered(_, event, rest) if event.eq_ignore_ascii_case(b"FETCH") => {
+            FetchRow::read(rest).is_some_and(|row| row.has_message())
         }
         _ => false,
     }

@@ -1,18 +1,18 @@
 //! FETCH replies (RFC 9051, section 7.5.2), written anew.
 
 use crate::flag_words::append_flags;
-use crate::head::behind_space;
+use crate::head::after_space;
 use crate::token::{Token, number_of, read_list, read_token, skip_value};
 use memchr::memchr;
 use std::alloc::{AllocError, Global};
-use wire_strings::octets::Octets;
+use wire_strings::octets::LentOctets;
 use wire_strings::string_writing::write_literal;
 use wire_tokens::appending::append;
 use wire_tokens::number::write_number;
 
 /// The items of a FETCH reply that commands ask for, each from its value on. Of two of a name the first counts.
 #[derive(Clone, Copy)]
-pub(crate) struct Row<'a> {
+pub(crate) struct FetchRow<'a> {
     uid: Option<&'a [u8]>,
     flags: Option<&'a [u8]>,
     size: Option<&'a [u8]>,
@@ -20,11 +20,11 @@ pub(crate) struct Row<'a> {
     head: Option<&'a [u8]>,
 }
 
-impl<'a> Row<'a> {
+impl<'a> FetchRow<'a> {
     /// The items that follow FETCH. None: these are none of RFC 9051.
-    pub(crate) fn read(bytes: &'a [u8]) -> Option<Row<'a>> {
+    pub(crate) fn read(bytes: &'a [u8]) -> Option<FetchRow<'a>> {
         let items = bytes.strip_prefix(b" (")?;
-        let mut row = Row {
+        let mut row = FetchRow {
             uid: None,
             flags: None,
             size: None,
@@ -36,7 +36,7 @@ impl<'a> Row<'a> {
             if rest.starts_with(b")") {
                 return Some(row);
             }
-            let (name, value) = read_name(behind_space(rest))?;
+            let (name, value) = read_name(after_space(rest))?;
             row.take(name, value);
             rest = skip_value(value)?;
         }
@@ -142,8 +142,8 @@ fn name_length(bytes: &[u8]) -> Option<usize> {
         return Some(end);
     }
     let section = memchr(b']', &bytes[end..])?;
-    let behind = memchr(b' ', &bytes[end + section..])?;
-    Some(end + section + behind)
+    let following = memchr(b' ', &bytes[end + section..])?;
+    Some(end + section + following)
 }
 
 /// Appends the string at the front as a literal; NIL where there is none, or it has an octet that is 0 (RFC 9051, section 4.3.1).
@@ -155,7 +155,7 @@ fn append_octets(alloc: Global, bytes: &[u8], out: &mut Vec<u8>) -> Result<(), A
         return append(b"NIL", out);
     }
     let value = token.value(alloc)?;
-    match Octets::read(&value) {
+    match LentOctets::read(&value) {
         Some(octets) => write_literal(&octets, out),
         None => append(b"NIL", out),
     }

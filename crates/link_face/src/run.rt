@@ -5,7 +5,7 @@ ghost use Rattle.std.specs.Result.{result_ok};
 ghost use Rattle.std.specs.String.{string_bytes};
 ghost use Rattle.base64.specs.Engines.{standard_no_pad};
 ghost use Rattle.base64.specs.GeneralPurpose.{decode_of};
-ghost use Rattle.link_face.specs.Names.{swapped, utf16_octets, run_text, units_behind, text_of, run_value};
+ghost use Rattle.link_face.specs.Names.{swapped, utf16_octets, run_text, units_after, text_of, run_value};
 ghost use Rattle.link_face.specs.Reading.{units_with};
 
 use base64::DecodeAllocError;
@@ -75,7 +75,7 @@ fn octets_of(alloc: Global, run: &[u8]) -> Result<Option<Vec<u8>>, AllocError>
 
 /// The units of UTF-16 of these octets. None: the last has one octet.
 fn units_of(alloc: Global, octets: &[u8]) -> Result<Option<Vec<u16>>, AllocError>
-    ensures { IfOk result (λ found. MatchOption found (units_behind None octets.now ≡ None) (λ units. units_behind None octets.now ≡ Some units.items)) }
+    ensures { IfOk result (λ found. MatchOption found (units_after None octets.now ≡ None) (λ units. units_after None octets.now ≡ Some units.items)) }
 {
     let mut units = Units::new(alloc);
     for octet in octets {

@@ -36,8 +36,8 @@ impl Sent {
         ensures { self.new.scanner ≡ scanned self.old.scanner bytes.now }
     {
         let mut rest = bytes;
-        while let Some(behind) = self.pass_place(rest) {
-            rest = behind;
+        while let Some(following) = self.pass_place(rest) {
+            rest = following;
         }
     }
 
@@ -55,7 +55,7 @@ impl Sent {
     #[tactic(auto, using(crate::proofs::SentLemmas::within_place, crate::proofs::SentLemmas::shorter, crate::proofs::SentLemmas::scanned_on))]
     fn pass_place<'b>(&mut self, bytes: &'b [u8]) -> Option<&'b [u8]>
         ensures { MatchOption result (self.new.scanner ≡ scanned self.old.scanner bytes.now)
-            (λ behind. (scanned self.new.scanner behind.now ≡ scanned self.old.scanner bytes.now) × (length behind.now < length bytes.now)) }
+            (λ following. (scanned self.new.scanner following.now ≡ scanned self.old.scanner bytes.now) × (length following.now < length bytes.now)) }
     {
         let count = self.scanner.advance(bytes)?;
         Some(&bytes[count..])

@@ -1,7 +1,7 @@
 //! Status responses (RFC 9051, section 7.1), written anew.
 
 use crate::flag_words::append_permanent_flags;
-use crate::head::{Status, behind_space};
+use crate::head::{StatusLine, after_space};
 use crate::token::read_list;
 use memchr::memchr;
 use std::alloc::{AllocError, Global};
@@ -15,7 +15,7 @@ struct Coded<'a> {
     text: &'a [u8],
 }
 
-impl<'a> Status<'a> {
+impl<'a> StatusLine<'a> {
     /// The response with its code, if it has one, and a text of bytes that may stand there.
     ///
     /// `AllocError`: memory ran out.
@@ -72,7 +72,7 @@ fn split_code(text: &[u8]) -> Option<Coded<'_>> {
 fn permanent_flags(text: &[u8]) -> Option<(&[u8], &[u8])> {
     let (word, rest) = text.split_at_checked(b"[PERMANENTFLAGS".len())?;
     if word.eq_ignore_ascii_case(b"[PERMANENTFLAGS") {
-        read_list(behind_space(rest))
+        read_list(after_space(rest))
     } else {
         None
     }

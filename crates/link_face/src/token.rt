@@ -59,14 +59,14 @@ pub(crate) fn skip_value(bytes: &[u8]) -> Option<&[u8]> {
     let mut depth = 0u32;
     let mut rest = bytes;
     for _ in 0..bytes.len() {
-        let (token, behind) = read_token(rest)?;
+        let (token, following) = read_token(rest)?;
         match token {
             Token::Open => depth = depth.saturating_add(1),
             Token::Close | Token::Space if depth == 0 => return Some(rest),
             Token::Close => depth = depth.saturating_sub(1),
             Token::Space | Token::Word(_) | Token::Quoted(_) | Token::Literal(_) => {}
         }
-        rest = behind;
+        rest = following;
     }
     None
 }
@@ -94,14 +94,14 @@ fn ends_word(b: u8) -> bool {
 
 /// Reads a quoted string after its first quote.
 fn read_quoted(bytes: &[u8]) -> Option<(Token<'_>, &[u8])> {
-    let mut behind_slash = false;
+    let mut after_slash = false;
     for (i, b) in bytes.iter().enumerate() {
-        if behind_slash {
-            behind_slash = false;
+        if after_slash {
+            after_slash = false;
         } else if *b == b'"' {
             return Some((Token::Quoted(&bytes[..i]), &bytes[i + 1..]));
         } else {
-            behind_slash = *b == b'\\';
+            after_slash = *b == b'\\';
         }
     }
     None
@@ -134,13 +134,13 @@ fn with_digit(number: u32, digit: u8) -> u32 {
 /// The bytes without the backslashes that quote the byte after them.
 fn unescaped(alloc: Global, raw: &[u8]) -> Result<Vec<u8>, AllocError> {
     let mut value = Vec::with_capacity(alloc, raw.len())?;
-    let mut behind_slash = false;
+    let mut after_slash = false;
     for b in raw {
-        if !behind_slash && *b == b'\\' {
-            behind_slash = true;
+        if !after_slash && *b == b'\\' {
+            after_slash = true;
         } else {
             value.push(*b)?;
-            behind_slash = false;
+            after_slash = false;
         }
     }
     Ok(value)

@@ -9,11 +9,11 @@ ghost use Rattle.link_face.specs.Faces.{IsSpelled, Turns, IsHeard};
 ghost use Rattle.wire_reader.specs.declared.answer.WireFault.TheVariants.{NoMemory};
 ghost use Rattle.link_face.specs.Hearing.{IsPassed, whole_in};
 
-use crate::head::{Head, Status, head_of};
+use crate::head::{ReplyHead, StatusLine, head_of};
 use crate::heard::is_heard;
 use crate::listed::Listed;
 use crate::plain::{counted, flags_line, names_line};
-use crate::row::Row;
+use crate::row::FetchRow;
 use imap_replies::reading::read_reply;
 use imap_replies::reply::Reply;
 use std::alloc::{AllocError, Global};
@@ -96,23 +96,23 @@ fn rewritten(alloc: Global, raw: &[u8]) -> Result<Turn, AllocError>
     ensures { IfOk result IsHeard }
 {
     let text = match head_of(raw) {
-        Head::Continue => Some(Vec::from_slice(alloc, b"+ go\r\n")?),
-        Head::Status(status) => return with_status(alloc, status),
-        Head::Names(word, rest) => Some(names_line(alloc, word, rest)?),
-        Head::List(rest) => match Listed::read(rest) {
+        ReplyHead::Continue => Some(Vec::from_slice(alloc, b"+ go\r\n")?),
+        ReplyHead::Status(status) => return with_status(alloc, status),
+        ReplyHead::Names(word, rest) => Some(names_line(alloc, word, rest)?),
+        ReplyHead::List(rest) => match Listed::read(rest) {
             Some(listed) => listed.written(alloc)?,
             None => None,
         },
-        Head::Flags(rest) => flags_line(alloc, rest)?,
-        Head::Numbered(number, event, rest) => return numbered(alloc, number, event, rest),
-        Head::Other => None,
-        Head::NoReply => return Ok(Turn::Stop),
+        ReplyHead::Flags(rest) => flags_line(alloc, rest)?,
+        ReplyHead::Numbered(number, event, rest) => return numbered(alloc, number, event, rest),
+        ReplyHead::Other => None,
+        ReplyHead::NoReply => return Ok(Turn::Stop),
     };
     replaced(alloc, text)
 }
 
 /// What a client hears of a status response: with its code, if that can be.
-fn with_status(alloc: Global, status: Status<'_>) -> Result<Turn, AllocError>
+fn with_status(alloc: Global, status: StatusLine<'_>) -> Result<Turn, AllocError>
     ensures { IfOk result IsHeard }
 {
     match replaced(alloc, Some(status.with_code(alloc)?))? {
@@ -128,14 +128,14 @@ fn numbered(alloc: Global, number: &[u8], event: &[u8], rest: &[u8]) -> Result<T
     if !event.eq_ignore_ascii_case(b"FETCH") {
         return replaced(alloc, counted(alloc, number, event, rest)?);
     }
-    match Row::read(rest) {
-        Some(row) => told(alloc, row.written(alloc, number)?),
+    match FetchRow::read(rest) {
+        Some(row) => reported(alloc, row.written(alloc, number)?),
         None => Ok(Turn::Stop),
     }
 }
 
 /// What a client hears of this text, which is about a message. A text that is no reply is never left out: the connection is given up.
-fn told(alloc: Global, text: Option<Vec<u8>>) -> Result<Turn, AllocError>
+fn reported(alloc: Global, text: Option<Vec<u8>>) -> Result<Turn, AllocError>
     ensures { IfOk result IsHeard }
 {
     let Some(bytes) = text else {

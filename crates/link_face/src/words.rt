@@ -1,6 +1,6 @@
 //! What a server says to people (RFC 9051, sections 7.1.2 to 7.1.5, and the code ALERT of section 7.1).
 
-use crate::head::{Head, Status, head_of};
+use crate::head::{ReplyHead, StatusLine, head_of};
 use crate::listed::Listed;
 use std::alloc::{AllocError, Global};
 use std::cell::Cell;
@@ -74,8 +74,8 @@ impl Words {
     /// Notes what a reply says to people, if it does. If memory runs out, it is not noted.
     pub(crate) fn note(&self, raw: &[u8]) {
         let _ = match head_of(raw) {
-            Head::Status(status) => self.note_status(status),
-            Head::List(rest) => self.note_listed(rest),
+            ReplyHead::Status(status) => self.note_status(status),
+            ReplyHead::List(rest) => self.note_listed(rest),
             _ => Ok(()),
         };
     }
@@ -110,7 +110,7 @@ impl Words {
         noted
     }
 
-    fn note_status(&self, status: Status<'_>) -> Result<(), AllocError> {
+    fn note_status(&self, status: StatusLine<'_>) -> Result<(), AllocError> {
         let text = status.text.trim_ascii();
         if let Some(alert) = alert_in(text) {
             self.note_alert(Vec::from_slice(self.alloc, front(alert.trim_ascii()))?)?;

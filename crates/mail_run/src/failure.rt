@@ -9,7 +9,7 @@ use thiserror::Error;
 
 /// Why a run ends before the first channel.
 #[derive(Debug, Drop, Error)]
-pub(crate) enum Failure {
+pub(crate) enum StartFailure {
     /// The file of this name cannot be opened, or not be read to its end.
     #[error("cannot open {0}\n  {1}")]
     CannotOpen(String, &'static str),
@@ -39,26 +39,31 @@ pub(crate) enum Failure {
     NoMemory,
 }
 
-impl Failure {
+impl StartFailure {
     /// What an error of the system at the file of this name means.
-    pub(crate) fn at(alloc: Global, name: &str, error: &io::Error) -> Failure {
+    pub(crate) fn at(alloc: Global, name: &str, error: &io::Error) -> StartFailure {
         match error.kind() {
-            ErrorKind::OutOfMemory => Failure::NoMemory,
-            kind => Failure::cannot_open(alloc, name, reason_of(kind)),
+            ErrorKind::OutOfMemory => StartFailure::NoMemory,
+            kind => StartFailure::cannot_open(alloc, name, reason_of(kind)),
         }
     }
 
     /// The file of this name cannot be opened, for this reason.
-    pub(crate) fn cannot_open(alloc: Global, name: &str, reason: &'static str) -> Failure {
+    pub(crate) fn cannot_open(alloc: Global, name: &str, reason: &'static str) -> StartFailure {
         match String::from_str(alloc, name) {
-            Ok(name) => Failure::CannotOpen(name, reason),
-            Err(AllocError) => Failure::NoMemory,
+            Ok(name) => StartFailure::CannotOpen(name, reason),
+            Err(AllocError) => StartFailure::NoMemory,
         }
     }
 
     /// The configuration that has this text and stands in this file has this fault.
-    pub(crate) fn config(alloc: Global, file: &str, text: &[u8], fault: ConfigFault) -> Failure {
-        Failure::Config {
+    pub(crate) fn config(
+        alloc: Global,
+        file: &str,
+        text: &[u8],
+        fault: ConfigFault,
+    ) -> StartFailure {
+        StartFailure::Config {
             line: fault.line,
             number: fault.kind.number(),
             advice: advice(alloc, file, text, fault).unwrap_or(String::new(alloc)),
@@ -76,14 +81,14 @@ fn reason_of(kind: ErrorKind) -> &'static str {
     }
 }
 
-impl From<AllocError> for Failure {
-    fn from(_fault: AllocError) -> Failure {
-        Failure::NoMemory
+impl From<AllocError> for StartFailure {
+    fn from(_fault: AllocError) -> StartFailure {
+        StartFailure::NoMemory
     }
 }
 
-impl<T: Drop> From<AllocFailed<T>> for Failure {
-    fn from(_fault: AllocFailed<T>) -> Failure {
-        Failure::NoMemory
+impl<T: Drop> From<AllocFailed<T>> for StartFailure {
+    fn from(_fault: AllocFailed<T>) -> StartFailure {
+        StartFailure::NoMemory
     }
 }

@@ -5,7 +5,7 @@ ghost use Rattle.std.specs.List.{find};
 ghost use Rattle.mail_run.specs.NamedBoxes.{names_own_part};
 
 use crate::boxes::{refused_channel, refused_name};
-use crate::failure::Failure;
+use crate::failure::StartFailure;
 use crate::screen::{Screen, Wiping};
 use crate::shown_stores::ShownStores;
 use crate::sources::{open_config, read_fresh, read_home, read_seed};
@@ -13,9 +13,9 @@ use chacha_generator::generator;
 use channels::run::run_config;
 use channels::stores::Stores;
 use config::config::Config;
-use config::request::{Chosen, Request};
+use config::request::{Chosen, RunRequest};
 use mail_stores::mail_stores::MailStores;
-use mail_stores::notes::Notes;
+use mail_stores::notes::ServerNotes;
 use near_places::home::Home;
 use std::alloc::Global;
 use std::fs::File;
@@ -31,14 +31,14 @@ struct Start {
     home: Home,
     seed: [u8; 32],
     fresh: NonZeroU32,
-    notes: Notes,
+    notes: ServerNotes,
 }
 
 /// Reads what a run needs: HOME, the configuration, 32 random bytes and the clock, in this order.
 fn start_of<R: Files + Env + Clock + AllocGlobal>(
     rt: &R,
-    request: &Request,
-) -> Result<Start, Failure> {
+    request: &RunRequest,
+) -> Result<Start, StartFailure> {
     let home = read_home(rt)?;
     let config = open_config(rt, request.file.as_deref(), home.as_deref())?;
     refuse_boxes(rt.alloc(), &config)?;
@@ -47,19 +47,19 @@ fn start_of<R: Files + Env + Clock + AllocGlobal>(
         home: Home::new(home),
         seed: read_seed(rt)?,
         fresh: read_fresh(rt)?,
-        notes: Notes::new(rt.alloc())?,
+        notes: ServerNotes::new(rt.alloc())?,
     })
 }
 
 /// Refuses a configuration that names a mailbox which no Maildir store can have, before anything is made.
-fn refuse_boxes(alloc: Global, config: &Config) -> Result<(), Failure>
+fn refuse_boxes(alloc: Global, config: &Config) -> Result<(), StartFailure>
     ensures { OnOk result (find (λ channel. names_own_part channel.boxes) config.now.channels.items ≡ None) }
 {
     let Some(channel) = refused_channel(config) else {
         return Ok(());
     };
     let mailbox = refused_name(channel).unwrap_or("");
-    Err(Failure::Mailbox {
+    Err(StartFailure::Mailbox {
         channel: String::from_str(alloc, channel.name.as_str())?,
         mailbox: String::from_str(alloc, mailbox)?,
     })
@@ -77,7 +77,7 @@ pub fn run_mail<
     T: Write + Copy,
     O: Write,
     E: Write,
->(rt: R, request: &Request, terminal: Option<T>, out: &mut O, err: &mut E) -> u8 {
+>(rt: R, request: &RunRequest, terminal: Option<T>, out: &mut O, err: &mut E) -> u8 {
     match start_of(&rt, request) {
         Ok(start) => {
             say_none(&start.config, request, err);
@@ -92,7 +92,7 @@ pub fn run_mail<
 }
 
 /// Says on `err` that the configuration has no channel, if all are asked for. It is no fault: the exit status stays.
-fn say_none<E: Write>(config: &Config, request: &Request, err: &mut E) {
+fn say_none<E: Write>(config: &Config, request: &RunRequest, err: &mut E) {
     if config.channels.is_empty() && matches!(request.chosen, Chosen::All) {
         let _ = writeln!(
             err,
@@ -107,7 +107,7 @@ fn run_start<
     T: Write + Copy,
     O: Write,
     E: Write,
->(rt: R, request: &Request, start: Start, screen: &Screen<T>, out: &mut O, err: &mut E) -> u8 {
+>(rt: R, request: &RunRequest, start: Start, screen: &Screen<T>, out: &mut O, err: &mut E) -> u8 {
     let Start {
         config,
         home,
@@ -115,7 +115,7 @@ fn run_start<
         fresh,
         notes,
     } = start;
-    let work = Work {
+    let work = RunWork {
         alloc: rt.alloc(),
         config: &config,
         request,
@@ -127,16 +127,16 @@ fn run_start<
 
 /// What is run, whatever the stores are.
 #[derive(Clone, Copy)]
-struct Work<'a> {
+struct RunWork<'a> {
     alloc: Global,
     config: &'a Config,
-    request: &'a Request,
+    request: &'a RunRequest,
     seed: [u8; 32],
 }
 
 /// Runs the channels over these stores.
 fn run_over<S: Stores + Drop, T: Write + Copy, O: Write, E: Write>(
-    work: Work<'_>,
+    work: RunWork<'_>,
     stores: S,
     screen: &Screen<T>,
     out: &mut O,

@@ -68,8 +68,8 @@ impl<T: Write + Copy> Screen<T> {
     }
 
     /// Shows how far the run over this mailbox is, and what mbsync waits for.
-    pub(crate) fn steps(&self) -> Steps<T> {
-        Steps {
+    pub(crate) fn steps(&self) -> ProgressLine<T> {
+        ProgressLine {
             terminal: self.terminal,
         }
     }
@@ -87,13 +87,13 @@ impl<T: Write + Copy> Screen<T> {
 /// The end of the line: how far the run over this mailbox is, or what mbsync waits for. It is written only while nothing is printed: a
 /// run and a server print nothing before they have ended or answered.
 #[derive(Clone, Copy)]
-pub(crate) struct Steps<T: Write + Copy> {
+pub(crate) struct ProgressLine<T: Write + Copy> {
     terminal: Option<T>,
 }
 
-impl<T: Write + Copy> Progress for Steps<T> {
+impl<T: Write + Copy> Progress for ProgressLine<T> {
     /// Shows after the name of the mailbox how many steps are logged. Where there is nothing to do, the name stands alone.
-    fn tell(&self, logged: usize, steps: usize) {
+    fn report(&self, logged: usize, steps: usize) {
         if steps == 0 {
             return;
         }
@@ -103,7 +103,7 @@ impl<T: Write + Copy> Progress for Steps<T> {
     }
 }
 
-impl<T: Write + Copy> Waits for Steps<T> {
+impl<T: Write + Copy> Waits for ProgressLine<T> {
     /// Shows after the name what mbsync waits for.
     fn wait(&self, wait: Wait) {
         let text = text_of(wait);

@@ -90,7 +90,7 @@ fn has_word(text: &[u8], word: &[u8]) -> bool {
 fn stands_at(text: &[u8], start: usize, word: &[u8]) -> bool {
     let (before, rest) = text.split_at_checked(start).unwrap_or((text, b""));
     match rest.strip_prefix(word) {
-        Some(behind) => !ends_inside(before.last()) && !ends_inside(behind.first()),
+        Some(following) => !ends_inside(before.last()) && !ends_inside(following.first()),
         None => false,
     }
 }

@@ -11,7 +11,7 @@ use imap_link::link::Link;
 use mailcore::keywords::Keywords;
 use maildir::folder::Folder;
 use near_places::lock::Lock;
-use run_both::sides::Sides;
+use run_both::sides::BothSides;
 use runner::progress::Progress;
 use std::alloc::Global;
 use std::num::NonZeroU32;
@@ -19,7 +19,7 @@ use std::num::NonZeroU32;
 /// Both sides of a mailbox, with the guard of the runs over them.
 #[derive(Drop)]
 pub(crate) struct GuardedSides<L: Link, F: Folder, S: Shelf, G> {
-    pub(crate) sides: Sides<L, F, S>,
+    pub(crate) sides: BothSides<L, F, S>,
     pub(crate) guard: G,
 }
 
@@ -44,14 +44,14 @@ impl<L: Link + Drop, F: Folder + Drop, S: Shelf + Drop, G: Guard + Drop> Guarded
         let mut outside = GuardedOutside::new(both, guard);
         let answer = work.over(&mut outside, progress);
         let (both, guard) = outside.into_parts();
-        let sides = Sides::of(both);
+        let sides = BothSides::of(both);
         (GuardedSides { sides, guard }, answer)
     }
 
     /// Gives the session of the far side, if its user has logged in and it goes on.
     pub(crate) fn into_session(self) -> Option<LoggedIn<L>> {
         let GuardedSides { sides, .. } = self;
-        let Sides { far, .. } = sides;
+        let BothSides { far, .. } = sides;
         far.into_session()
     }
 }

@@ -1,6 +1,6 @@
 //! What is known of the mailbox that was open last: what stopped the run over it, and which files were left out.
 
-use crate::notes::Notes;
+use crate::notes::ServerNotes;
 use book::disk_shelf::ShelfStop;
 use channels::stop_cause::StopCause;
 use guarded::objection::Objection;
@@ -30,7 +30,7 @@ impl LastBox {
 
 /// Where a mailbox is.
 #[derive(Clone, Copy)]
-pub(crate) struct BoxPlace<'a> {
+pub(crate) struct BoxLocation<'a> {
     /// The name of its IMAP store.
     pub(crate) store: &'a str,
     /// The path of its folder.
@@ -40,11 +40,11 @@ pub(crate) struct BoxPlace<'a> {
 /// What stopped a run: the first of what was refused, where the folder stopped, and where the shelf did; or else the server.
 pub(crate) fn cause_of(
     alloc: Global,
-    place: BoxPlace<'_>,
+    place: BoxLocation<'_>,
     refused: Option<Objection>,
     folder: Option<&DiskStop>,
     shelf: Option<ShelfStop>,
-    notes: &Notes,
+    notes: &ServerNotes,
 ) -> Result<StopCause, AllocError> {
     if let Some(objection) = refused {
         return refused_text(alloc, place, objection);
@@ -64,7 +64,7 @@ pub(crate) fn cause_of(
 /// What was refused.
 fn refused_text(
     alloc: Global,
-    place: BoxPlace<'_>,
+    place: BoxLocation<'_>,
     objection: Objection,
 ) -> Result<StopCause, AllocError> {
     match objection {

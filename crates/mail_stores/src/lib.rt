@@ -11,7 +11,7 @@ mod noted_link;
 pub mod notes;
 mod notices;
 mod reach;
+mod reported;
 mod server;
 mod sessions;
-mod told;
 pub mod waits;

@@ -4,14 +4,14 @@ ghost use Rattle.std.specs.Prelude.{◌≡◌, IfOk};
 
 use crate::asked::Asked;
 use crate::guarded_work::GuardedSides;
-use crate::last_box::{BoxPlace, LastBox, cause_of, path_texts};
+use crate::last_box::{BoxLocation, LastBox, cause_of, path_texts};
 use crate::names::{FarNames, is_servable};
-use crate::notes::Notes;
+use crate::notes::ServerNotes;
 use crate::notices::Notices;
 use crate::reach::{NearParts, Reach, RealSides};
+use crate::reported::{list_fault, lock_fault, make_fault, ordered, unlisted, unreached};
 use crate::server::{AskFault, RealLink, is_word};
 use crate::sessions::Sessions;
-use crate::told::{list_fault, lock_fault, make_fault, ordered, unlisted, unreached};
 use crate::waits::Waits;
 use channels::channel_box::{ChannelBox, ChannelStores};
 use channels::notice::Notice;
@@ -28,8 +28,8 @@ use mailcore::mailbox_name::MailboxName;
 use mailcore::side::Side;
 use near_places::home::Home;
 use near_places::lock::{Lock, LockFault};
-use near_places::refusal::Refusal;
-use run_both::sides::Sides;
+use near_places::refusal::PlaceRefusal;
+use run_both::sides::BothSides;
 use runner::progress::Progress;
 use std::alloc::{AllocError, Global};
 use std::fs::File;
@@ -63,7 +63,7 @@ impl<
 > MailStores<R, P> {
     /// The stores of a user with this home folder. Near mailboxes that have no UIDVALIDITY yet get this one. `progress` shows how far
     /// the run over a mailbox is, and what mbsync waits for.
-    pub fn new(rt: R, home: Home, fresh: NonZeroU32, notes: Notes, progress: P) -> Self {
+    pub fn new(rt: R, home: Home, fresh: NonZeroU32, notes: ServerNotes, progress: P) -> Self {
         let alloc = rt.alloc();
         MailStores {
             reach: Reach {
@@ -221,7 +221,7 @@ impl<
         &mut self,
         place: ChannelBox<'_>,
         keywords: &Keywords,
-    ) -> Result<FarSide<RealLink<R, P>>, Refusal>
+    ) -> Result<FarSide<RealLink<R, P>>, PlaceRefusal>
         ensures map { IfOk result (λ far. far.far.keywords ≡ keywords.now) }
     {
         let alloc = self.reach.rt.alloc();
@@ -245,7 +245,7 @@ impl<
         let (near, shelf) = (sides.folder.stop(), sides.shelf.stop());
         let notes = &self.reach.notes;
         let store = place.of.far_store.name.as_str();
-        let place = BoxPlace { store, folder };
+        let place = BoxLocation { store, folder };
         self.last = LastBox {
             cause: cause_of(alloc, place, refused, near, shelf, notes).ok(),
             left_out: path_texts(alloc, folder, sides.folder.left_out()),
@@ -276,7 +276,7 @@ fn sides_of<R: Net + Files<File = File> + Clock + AllocGlobal + Clone + Drop, P:
         look,
     } = near;
     GuardedSides {
-        sides: Sides { far, folder, shelf },
+        sides: BothSides { far, folder, shelf },
         guard: look,
     }
 }

@@ -51,7 +51,7 @@ impl<L: Link, W: Waits> Link for NotedLink<L, W> {
     ghost sound = { λ noted kept. L.sound noted.link kept };
 
     fn send(&mut self, bytes: &[u8]) -> Result<(), LinkFault> {
-        if let Some(wait) = Wait::behind(bytes) {
+        if let Some(wait) = Wait::following(bytes) {
             self.waits.wait(wait);
         }
         let answer = self.link.send(bytes);

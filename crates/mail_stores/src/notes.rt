@@ -2,7 +2,7 @@
 
 use crate::noted_link::{LinkEnd, NotedEnd};
 use crate::server::AskFault;
-use channels::store_fault::ServerFault;
+use channels::store_fault::ConnectFault;
 use imap_client::tcp_link::Unreached;
 use imap_link::fault::FarFault;
 use link_face::words::Words;
@@ -12,7 +12,7 @@ use std::rc::Rc;
 
 /// What is noted of servers while they are asked. What is asked notes it, and the stores report it.
 #[derive(Drop)]
-pub struct Notes {
+pub struct ServerNotes {
     /// How the connection came to its end.
     pub(crate) end: NotedEnd,
     /// What a server says to people.
@@ -21,10 +21,10 @@ pub struct Notes {
     pub(crate) unreached: Unreached,
 }
 
-impl Notes {
+impl ServerNotes {
     /// Nothing was asked.
     pub fn new(alloc: Global) -> Result<Self, AllocError> {
-        Ok(Notes {
+        Ok(ServerNotes {
             end: Rc::new(alloc, Cell::new(None))?,
             words: Rc::new(alloc, Words::new(alloc))?,
             unreached: Rc::new(alloc, Cell::new(None))?,
@@ -40,25 +40,25 @@ impl Notes {
     }
 
     /// Why a server does not do what it is asked. None: memory ran out.
-    pub(crate) fn server_fault(&self, fault: AskFault) -> Option<ServerFault> {
+    pub(crate) fn server_fault(&self, fault: AskFault) -> Option<ConnectFault> {
         match fault {
-            AskFault::Unsendable => Some(ServerFault::Unsendable),
-            AskFault::LoginRefused => Some(ServerFault::LoginRefused),
+            AskFault::Unsendable => Some(ConnectFault::Unsendable),
+            AskFault::LoginRefused => Some(ConnectFault::LoginRefused),
             AskFault::Far(FarFault::Stopped) => Some(self.take_end()),
-            AskFault::Far(FarFault::Refused | FarFault::ReadOnly) => Some(ServerFault::Refused),
-            AskFault::Far(FarFault::Protocol | FarFault::TooLong) => Some(ServerFault::NoAnswer),
-            AskFault::Far(FarFault::NoRev2) => Some(ServerFault::NoRev2),
+            AskFault::Far(FarFault::Refused | FarFault::ReadOnly) => Some(ConnectFault::Refused),
+            AskFault::Far(FarFault::Protocol | FarFault::TooLong) => Some(ConnectFault::NoAnswer),
+            AskFault::Far(FarFault::NoRev2) => Some(ConnectFault::NoRev2),
             AskFault::Far(FarFault::NoMemory) => None,
         }
     }
 
     /// Takes out how the connection came to its end. Where nothing was noted, the server ended the session.
-    pub(crate) fn take_end(&self) -> ServerFault {
+    pub(crate) fn take_end(&self) -> ConnectFault {
         match self.end.take() {
-            Some(LinkEnd::Unreached) => ServerFault::Unreached(self.unreached.take()),
-            _ if self.words.is_unread() => ServerFault::NoAnswer,
-            Some(LinkEnd::Ended) => ServerFault::Ended,
-            None => ServerFault::Dismissed,
+            Some(LinkEnd::Unreached) => ConnectFault::Unreached(self.unreached.take()),
+            _ if self.words.is_unread() => ConnectFault::NoAnswer,
+            Some(LinkEnd::Ended) => ConnectFault::Ended,
+            None => ConnectFault::Dismissed,
         }
     }
 }

@@ -46,15 +46,15 @@ impl Notices {
         ensures { All (IsFor (joined_of of.entry)) result.items }
     {
         self.turn_to(of.channel.name.as_str());
-        let mut told = Vec::new(self.alloc);
+        let mut reported = Vec::new(self.alloc);
         for notice in mem::replace(&mut self.coming, Vec::new(self.alloc)) {
             if is_for(of, &notice) {
-                let _ = told.push(notice);
+                let _ = reported.push(notice);
             } else {
                 let _ = self.waiting.push(notice);
             }
         }
-        told
+        reported
     }
 
     /// What waits comes again, if the channel of this name is another one than that which took some out last.

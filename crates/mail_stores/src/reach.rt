@@ -2,7 +2,7 @@
 
 use crate::account::account_of;
 use crate::guarded_work::GuardedSides;
-use crate::notes::Notes;
+use crate::notes::ServerNotes;
 use crate::server::{AskFault, RealLink, link_to, log_in};
 use crate::waits::Waits;
 use book::disk_shelf::{DiskShelf, name_of};
@@ -18,7 +18,7 @@ use near_places::boxes::{NearBoxes, near_boxes, near_folder};
 use near_places::home::Home;
 use near_places::lock::LockFault;
 use near_places::names::has_own_part;
-use near_places::refusal::{OWN_PART, Refusal};
+use near_places::refusal::{OWN_PART, PlaceRefusal};
 use std::alloc::AllocError;
 use std::fs;
 use std::fs::File;
@@ -62,7 +62,7 @@ pub(crate) struct Reach<R: Net + Files<File = File> + AllocGlobal + Clone + Drop
     /// The UIDVALIDITY of near mailboxes that have none yet.
     pub(crate) fresh: NonZeroU32,
     /// What is noted while servers and folders are asked.
-    pub(crate) notes: Notes,
+    pub(crate) notes: ServerNotes,
     /// Shows what mbsync waits for.
     pub(crate) waits: W,
 }
@@ -77,7 +77,7 @@ impl<R: Net + Files<File = File> + Clock + AllocGlobal + Clone + Drop, W: Waits 
     }
 
     /// The mailboxes in the folders of a store.
-    pub(crate) fn near_boxes(&self, store: &MaildirStore) -> Result<NearBoxes, Refusal> {
+    pub(crate) fn near_boxes(&self, store: &MaildirStore) -> Result<NearBoxes, PlaceRefusal> {
         near_boxes(&self.rt, &self.home, store)
     }
 
@@ -86,20 +86,20 @@ impl<R: Net + Files<File = File> + Clock + AllocGlobal + Clone + Drop, W: Waits 
     pub(crate) fn has_state(&self, place: ChannelBox<'_>) -> Result<bool, LockFault> {
         let folder = self.folder_of(place)?;
         Ok(
-            self.has_file(folder.as_str(), shelf::File::State)?
-                || self.has_file(folder.as_str(), shelf::File::Journal)?,
+            self.has_file(folder.as_str(), shelf::ShelfFile::State)?
+                || self.has_file(folder.as_str(), shelf::ShelfFile::Journal)?,
         )
     }
 
     /// Whether a file of a book is in a folder.
-    fn has_file(&self, folder: &str, file: shelf::File) -> Result<bool, LockFault> {
+    fn has_file(&self, folder: &str, file: shelf::ShelfFile) -> Result<bool, LockFault> {
         let alloc = self.rt.alloc();
         let name = name_of(file);
         let path = format!(in alloc; "{folder}/{name}")?;
         match fs::symlink_metadata(&self.rt, path.as_str()) {
             Ok(_) => Ok(true),
             Err(error) if error.kind() == ErrorKind::NotFound => Ok(false),
-            Err(error) => Err(LockFault::Refused(Refusal::at(alloc, path.as_str(), &error))),
+            Err(error) => Err(LockFault::Refused(PlaceRefusal::at(alloc, path.as_str(), &error))),
         }
     }
 
@@ -109,9 +109,9 @@ impl<R: Net + Files<File = File> + Clock + AllocGlobal + Clone + Drop, W: Waits 
         let path = folder.as_str();
         match DiskFolder::create(self.rt.clone()?, path) {
             Ok(_) => Ok(()),
-            Err(DeviceFault::NoMemory) => Err(LockFault::Refused(Refusal::NoMemory)),
+            Err(DeviceFault::NoMemory) => Err(LockFault::Refused(PlaceRefusal::NoMemory)),
             Err(DeviceFault::Stopped) => {
-                let refusal = Refusal::cannot_open(self.rt.alloc(), path, NOT_MADE);
+                let refusal = PlaceRefusal::cannot_open(self.rt.alloc(), path, NOT_MADE);
                 Err(LockFault::Refused(refusal))
             }
         }
@@ -121,7 +121,7 @@ impl<R: Net + Files<File = File> + Clock + AllocGlobal + Clone + Drop, W: Waits 
     /// can be no near mailbox of its name (`near_folder`).
     pub(crate) fn folder_of(&self, place: ChannelBox<'_>) -> Result<String, LockFault> {
         if has_own_part(place.far.as_str()) {
-            let refusal = Refusal::cannot_open(self.rt.alloc(), place.far.as_str(), OWN_PART);
+            let refusal = PlaceRefusal::cannot_open(self.rt.alloc(), place.far.as_str(), OWN_PART);
             return Err(LockFault::Refused(refusal));
         }
         near_folder(&self.rt, &self.home, place.of.near_store, place.near).map_err(
@@ -135,17 +135,17 @@ impl<R: Net + Files<File = File> + Clock + AllocGlobal + Clone + Drop, W: Waits 
     }
 
     /// Who logs in for the far side of a mailbox.
-    pub(crate) fn account(&self, place: ChannelBox<'_>) -> Result<Account, Refusal> {
+    pub(crate) fn account(&self, place: ChannelBox<'_>) -> Result<Account, PlaceRefusal> {
         let alloc = self.rt.alloc();
         let store = place.of.far_store;
         match account_of(alloc, store, place.far)? {
             Some(account) => Ok(account),
-            None => Err(Refusal::cannot_open(alloc, store.name.as_str(), UNSENDABLE)),
+            None => Err(PlaceRefusal::cannot_open(alloc, store.name.as_str(), UNSENDABLE)),
         }
     }
 
     /// The near side of a mailbox: nothing of it is read yet.
-    pub(crate) fn near_parts(&self, folder: &str) -> Result<NearParts<R>, Refusal> {
+    pub(crate) fn near_parts(&self, folder: &str) -> Result<NearParts<R>, PlaceRefusal> {
         let look = NearLook::new(self.rt.clone()?, String::from_str(self.rt.alloc(), folder)?);
         let shelf = DiskShelf::new(self.rt.clone()?, folder)?;
         let folder = DiskFolder::new(self.rt.clone()?, folder)?;

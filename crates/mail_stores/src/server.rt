@@ -4,7 +4,7 @@ ghost use Rattle.std.specs.Prelude.{◌↔◌, IsTrue};
 ghost use Rattle.imap_client.specs.Requests.{IsWord};
 
 use crate::noted_link::NotedLink;
-use crate::notes::Notes;
+use crate::notes::ServerNotes;
 use crate::waits::Waits;
 use config::config::ImapStore;
 use far_side::logged_in::LoggedIn;
@@ -37,7 +37,7 @@ pub(crate) type RealLink<R, W> = NotedLink<FaceLink<TcpLink<R>>, W>;
 pub(crate) fn link_to<R: Net + AllocGlobal + Clone + Drop, W: Waits + Copy>(
     rt: &R,
     store: &ImapStore,
-    notes: &Notes,
+    notes: &ServerNotes,
     waits: W,
 ) -> Result<RealLink<R, W>, AllocError> {
     let alloc = rt.alloc();
@@ -61,7 +61,7 @@ fn address_of(alloc: Global, store: &ImapStore) -> Result<String, AllocError> {
 pub(crate) fn log_in<R: Net + AllocGlobal + Clone + Drop, W: Waits + Copy>(
     rt: &R,
     store: &ImapStore,
-    notes: &Notes,
+    notes: &ServerNotes,
     waits: W,
 ) -> Result<LoggedIn<RealLink<R, W>>, AskFault> {
     let (user, password) = (store.user.as_bytes(), store.pass.as_bytes());

@@ -37,7 +37,7 @@ impl Waits for () {
 impl Wait {
     /// What the server is waited for that is sent this: for the answer to a command that comes a few times in a session. None: it is another
     /// one, or a part of one.
-    pub(crate) fn behind(sent: &[u8]) -> Option<Wait> {
+    pub(crate) fn following(sent: &[u8]) -> Option<Wait> {
         let mut words = sent.split(|b| b.is_ascii_whitespace());
         let _tag = words.next()?;
         match words.next()? {
@@ -46,13 +46,13 @@ impl Wait {
             b"SELECT" => Some(Wait::Mailbox),
             b"CREATE" => Some(Wait::Creation),
             b"LOGOUT" => Some(Wait::Logout),
-            b"UID" => Wait::behind_uid(words.next()?, words.next()?),
+            b"UID" => Wait::after_uid(words.next()?, words.next()?),
             _ => None,
         }
     }
 
     /// The same of a command over messages of these UIDs: for that over all.
-    fn behind_uid(command: &[u8], uids: &[u8]) -> Option<Wait> {
+    fn after_uid(command: &[u8], uids: &[u8]) -> Option<Wait> {
         match (command, uids) {
             (b"FETCH", b"1:*") => Some(Wait::Messages),
             _ => None,

@@ -22,7 +22,7 @@ pub trait Mailbox {
     ghost use Rattle.mailcore.specs.Operations.{flags_added, flags_removed};
     ghost use Rattle.mailcore.specs.CopyPieces.{text_left};
     ghost use Rattle.mailcore.specs.Spared.{spares};
-    ghost use Rattle.mailbox.specs.Operations.{removed, Admits, AdmitsPart, Answers, Appends, AppendsPart, Finds, HasNumbers, IsCopyText, Lists, ListsWithin, Loads, NoRoom, TellsValidity, Turns};
+    ghost use Rattle.mailbox.specs.Operations.{removed, Admits, AdmitsPart, Answers, Appends, AppendsPart, Finds, HasNumbers, IsCopyText, Lists, ListsWithin, Loads, NoRoom, ReportsValidity, Turns};
     ghost use Rattle.mailbox.specs.declared.fault.BoxFault.{BoxFault};
     ghost use Rattle.mailbox.specs.Arrivals.{Arrives};
     ghost use Rattle.mailbox.specs.Calls.{Call, IsPlain, Never, Seen};
@@ -68,7 +68,7 @@ pub trait Mailbox {
         ensures keywords { keywords self.new ≡ keywords self.old }
         ensures open { OnOk result (is_open self.new ≡ true) }
         ensures call { Call (honest self.new) (ended self.old self.new) (Arrives side ours alone) (λ fault _. unfit self.old fault)
-            (Answers TellsValidity) Nothing (seen self.old) (seen self.new) result };
+            (Answers ReportsValidity) Nothing (seen self.old) (seen self.new) result };
 
     /// What it lists. Near messages that are spared are said to be fit, and are not read.
     fn list(&mut self, spared: &Spared) -> Result<Listing, BoxFault>
@@ -169,7 +169,7 @@ pub trait Mailbox {
         ensures keywords { keywords self.new ≡ keywords self.old }
         ensures open { is_open self.new ≡ is_open self.old }
         ensures synced { OnOk result (is_open self.old ≡ true → is_synced self.new ≡ true) }
-        ensures told { IfErr result IsPlain }
+        ensures reported { IfErr result IsPlain }
         ensures call { Call {T = Unit {0}} (honest self.new) (ended self.old self.new) (Arrives side ours alone) Never
             (λ _ b b'. b' ≡ b) Nothing (seen self.old) (seen self.new) result };
 

@@ -55,10 +55,10 @@ crlf_after-none cr (b ∷ t) free =
 -- ---- lists of lines as a message has them
 
 -- a line, with those after it: only a last line lacks LF, and it has a text
-pub record IsLine (line : TextLine) (behind : List TextLine) : Type 0 where
+pub record IsLine (line : TextLine) (following : List TextLine) : Type 0 where
   pub no_lf : HasNoLf line.text
   pub no_cr : line.ended ≡ true → ends_in_cr false line.text ≡ false
-  pub is_last : line.ended ≡ false → behind ≡ []
+  pub is_last : line.ended ≡ false → following ≡ []
   pub has_text : line.ended ≡ false → 0 < length line.text
 
 abbrev pub AreLines : List TextLine → Type 0

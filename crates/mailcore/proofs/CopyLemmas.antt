@@ -98,8 +98,8 @@ content-copy_text mark bs end is = ap content (copy_text-lines mark bs end) ∙ 
 -- ---- marks
 
 -- a text and what follows it
-cut_behind : (n : ℕ) (t more : List ℕ) → length t ≡ n → (take n (t ++ more) ≡ t) × (drop n (t ++ more) ≡ more)
-cut_behind n t more is = (
+cut_after : (n : ℕ) (t more : List ℕ) → length t ≡ n → (take n (t ++ more) ≡ t) × (drop n (t ++ more) ≡ more)
+cut_after n t more is = (
   ap (λ k. take k (t ++ more)) (sym is) ∙ take-append_seam t more,
   ap (λ k. drop k (t ++ more)) (sym is) ∙ drop-append_seam t more,
 )
@@ -111,7 +111,7 @@ begins_with_line_end-bytes CrLf more = refl
 mark_of-line : (mark more : List ℕ) (end : LineEnd) → is_mark mark ≡ true → mark_of ((codes "X-TUID: " ++ mark) ++ (line_end_bytes end ++ more)) ≡ Some mark
 unfolding mark_of
 mark_of-line mark more end is =
-    let cut = cut_behind 12 mark (line_end_bytes end ++ more) (eqb-true _ _ (and_parts _ _ is).0) in
+    let cut = cut_after 12 mark (line_end_bytes end ++ more) (eqb-true _ _ (and_parts _ _ is).0) in
     rw (cut.0, cut.1, is, begins_with_line_end-bytes end more)
 
 pub copy_text-bytes : (mark bs : List ℕ) (end : LineEnd) → is_mark mark ≡ true → copy_text mark bs end ≡ flat_map (line_bytes end) (marked mark ∷ content_lines bs)

@@ -16,8 +16,8 @@ begins letter [] = false
 begins letter (x ∷ xs) = eqb x letter
 
 -- the text after its first letter if that has been taken
-abbrev pub behind : Bool → List ℕ → List ℕ
-behind taken text = cond taken (drop 1 text) text
+abbrev pub following : Bool → List ℕ → List ℕ
+following taken text = cond taken (drop 1 text) text
 
 -- the first letter, if there is one, is above this one
 abbrev pub IsAbove : ℕ → List ℕ → Type 0
@@ -51,7 +51,7 @@ begins-above x [] h = refl
 begins-above x (y ∷ text) h = different y x (omega arith)
 
 -- a letter that is there or not, before later letters
-first_letter : (b : Bool) (x : ℕ) (later : List ℕ) → begins x later ≡ false → (begins x (cond b (x ∷ later) later) ≡ b) × (behind b (cond b (x ∷ later) later) ≡ later)
+first_letter : (b : Bool) (x : ℕ) (later : List ℕ) → begins x later ≡ false → (begins x (cond b (x ∷ later) later) ≡ b) × (following b (cond b (x ∷ later) later) ≡ later)
 first_letter true x later h = (eq-eqb x x refl, refl)
 first_letter false x later h = (h, refl)
 
@@ -60,9 +60,9 @@ pub begins-letters : (x i : ℕ) (xs : List ℕ) (flags : ℕ) → Rise (x ∷ x
 begins-letters x i xs flags h = (first_letter (has flags i) x (letters_from (suc i) xs flags) (begins-above x _ (IsAbove-letters x (suc i) xs flags h.0 h.1))).0
 
 -- the rest of its letters are those of the other flags
-pub behind-letters : (x i : ℕ) (xs : List ℕ) (flags : ℕ) → Rise (x ∷ xs) → behind (begins x (letters_from i (x ∷ xs) flags)) (letters_from i (x ∷ xs) flags) ≡ letters_from (suc i) xs flags
-behind-letters x i xs flags h =
-    ap (λ b. behind b (letters_from i (x ∷ xs) flags)) (begins-letters x i xs flags h)
+pub following-letters : (x i : ℕ) (xs : List ℕ) (flags : ℕ) → Rise (x ∷ xs) → following (begins x (letters_from i (x ∷ xs) flags)) (letters_from i (x ∷ xs) flags) ≡ letters_from (suc i) xs flags
+following-letters x i xs flags h =
+    ap (λ b. following b (letters_from i (x ∷ xs) flags)) (begins-letters x i xs flags h)
     ∙ (first_letter (has flags i) x (letters_from (suc i) xs flags) (begins-above x _ (IsAbove-letters x (suc i) xs flags h.0 h.1))).1
 
 -- ---- reading letters, place after place
@@ -162,7 +162,7 @@ letters-front i before taken h none =
     ∙ ap (λ t. letters_from 0 (take i LETTERS) before ++ cond t (letter_at i ∷ []) []) (has-with_same taken before i h none)
 
 -- a text is its first letter, if that is taken, and what follows
-taken_text : (x : ℕ) (front rest : List ℕ) (taken : Bool) → begins x rest ≡ taken → (front ++ cond taken (x ∷ []) []) ++ behind taken rest ≡ front ++ rest
+taken_text : (x : ℕ) (front rest : List ℕ) (taken : Bool) → begins x rest ≡ taken → (front ++ cond taken (x ∷ []) []) ++ following taken rest ≡ front ++ rest
 taken_text x front rest false is = ap (λ f. f ++ rest) (append-nil front)
 taken_text x front [] true is = cc
 taken_text x front (y ∷ rest) true is =
@@ -197,22 +197,22 @@ with-lt true flags i h = union-lt flags (2 ^ i)
 with-lt false flags i h = h
 
 -- one more flag is read
-pub turn : (i found : ℕ) (rest letters : List ℕ) (taken : Bool) → i < FLAGS → IsRead i found rest letters → begins (letter_at i) rest ≡ taken → IsRead (i + 1) (with taken found i) (behind taken rest) letters
+pub turn : (i found : ℕ) (rest letters : List ℕ) (taken : Bool) → i < FLAGS → IsRead i found rest letters → begins (letter_at i) rest ≡ taken → IsRead (i + 1) (with taken found i) (following taken rest) letters
 turn i found rest letters taken h was is =
     let none : has found i ≡ false = was.none_above i (omega arith) h in
     let x : ℕ = letter_at i in
     rw add-one (record {
       set = with-lt taken found i was.set;
       read =
-          ap (λ front. front ++ behind taken rest) (letters-front i found taken h none)
+          ap (λ front. front ++ following taken rest) (letters-front i found taken h none)
           ∙ taken_text x (letters_from 0 (take i LETTERS) found) rest taken is
           ∙ was.read;
       none_above = λ k low within. has-with_other taken found i k within (omega arith) ∙ was.none_above k (omega arith) within;
       unread = λ flags q.
           let e : letters_from i (letter_at i ∷ drop (suc i) LETTERS) flags ≡ rest = rw (drop-cons LETTERS i 0 h) at (was.unread flags q) in
-          sym (behind-letters (letter_at i) i (drop (suc i) LETTERS) flags (rises_from i h))
-          ∙ ap (λ text. behind (begins x text) text) e
-          ∙ ap (λ b. behind b rest) is;
+          sym (following-letters (letter_at i) i (drop (suc i) LETTERS) flags (rises_from i h))
+          ∙ ap (λ text. following (begins x text) text) e
+          ∙ ap (λ b. following b rest) is;
     })
 
 -- once all flags are read, the letters are those of the set that was found if nothing is left to read
@@ -236,7 +236,7 @@ same_flags : (i : ℕ) (xs : List ℕ) (a b : ℕ) → Rise xs → letters_from 
 same_flags i [] a b h e = tt
 same_flags i (x ∷ xs) a b h e = (
   sym (begins-letters x i xs a h) ∙ ap (λ text. begins x text) e ∙ begins-letters x i xs b h,
-  same_flags (suc i) xs a b h.1 (sym (behind-letters x i xs a h) ∙ ap (λ text. behind (begins x text) text) e ∙ behind-letters x i xs b h),
+  same_flags (suc i) xs a b h.1 (sym (following-letters x i xs a h) ∙ ap (λ text. following (begins x text) text) e ∙ following-letters x i xs b h),
 )
 
 same_at : (from : ℕ) (xs : List ℕ) (a b k : ℕ) → Same from xs a b → from ≤ k → k < length xs + from → has a k ≡ has b k

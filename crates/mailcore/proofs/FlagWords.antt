@@ -71,8 +71,8 @@ no_dash from (x ∷ xs) flags none e =
 
     by_test : (b : Bool) → (x == 45) ≡ false → letters_from (suc from) xs flags ≢ codes "-"
         → cond b (x ∷ letters_from (suc from) xs flags) (letters_from (suc from) xs flags) ≢ codes "-"
-    by_test true other behind is = false≢true (sym other ∙ eq-eqb x 45 (ap (λ (l : List ℕ). get_or l 0 0) is))
-    by_test false other behind is = behind is
+    by_test true other following is = false≢true (sym other ∙ eq-eqb x 45 (ap (λ (l : List ℕ). get_or l 0 0) is))
+    by_test false other following is = following is
 
 letters-no_dash : (flags : ℕ) → letters_of flags ≢ codes "-"
 unfolding letters_of

@@ -25,9 +25,9 @@ one_more n = omega arith
 pub stands : (k : Keyword) (xs : List Keyword) → insert xs (position_or_len (above k) xs) k ≡ with_keyword k xs
 stands k [] = refl
 stands k (x ∷ xs) =
-    let behind = stands k xs in
+    let following = stands k xs in
     elim (nat_lt k.letter x.letter) as (λ b. insert (x ∷ xs) (cond (not b) (1 + position_or_len (above k) xs) 0) k ≡ cond b (k ∷ x ∷ xs) (x ∷ with_keyword k xs))
-    [ true ↦ refl | false ↦ ap (λ (i : ℕ). insert (x ∷ xs) i k) (one_more (position_or_len (above k) xs)) ∙ ap (λ (l : List Keyword). x ∷ l) behind ]
+    [ true ↦ refl | false ↦ ap (λ (i : ℕ). insert (x ∷ xs) i k) (one_more (position_or_len (above k) xs)) ∙ ap (λ (l : List Keyword). x ∷ l) following ]
 
 -- a search for the first letter above finds where
 found_at : (b : Bool) (n i : ℕ) → cond b (Some n) None ≡ Some i → n ≡ i
@@ -54,9 +54,9 @@ stands_last letter xs none k same =
 All-with : (P : Keyword → Type 0) (k : Keyword) (xs : List Keyword) → P k → All P xs → All P (with_keyword k xs)
 All-with P k [] here h = All-cons P k [] here h
 All-with P k (x ∷ xs) here h =
-    let behind = All-with P k xs here (All-tail P x xs h) in
+    let following = All-with P k xs here (All-tail P x xs h) in
     elim (nat_lt k.letter x.letter) as (λ b. All P (cond b (k ∷ x ∷ xs) (x ∷ with_keyword k xs)))
-    [ true ↦ All-cons P k (x ∷ xs) here h | false ↦ All-cons P x (with_keyword k xs) (All-head P x xs h) behind ]
+    [ true ↦ All-cons P k (x ∷ xs) here h | false ↦ All-cons P x (with_keyword k xs) (All-head P x xs h) following ]
 
 weaker : (P Q : Keyword → Type 0) → ((x : Keyword) → P x → Q x) → (xs : List Keyword) → All P xs → All Q xs
 weaker P Q f [] h = All-nil Q
@@ -66,13 +66,13 @@ weaker P Q f (x ∷ xs) h = All-cons Q x xs (f x (All-head P x xs h)) (weaker P 
 Pairs-with : (R : Keyword → Keyword → Type 0) (k : Keyword) (xs : List Keyword)
     → All (λ x. nat_lt k.letter x.letter ≡ true → R k x) xs → All (λ x. nat_lt k.letter x.letter ≡ false → R x k) xs
     → AllPairs (λ a b. a.letter < b.letter) xs → AllPairs R xs → AllPairs R (with_keyword k xs)
-Pairs-with R k [] before behind up h = AllPairs-cons R k [] (All-nil (R k)) h
-Pairs-with R k (x ∷ xs) before behind up h =
+Pairs-with R k [] before following up h = AllPairs-cons R k [] (All-nil (R k)) h
+Pairs-with R k (x ∷ xs) before following up h =
     let Before : Keyword → Type 0 = λ y. nat_lt k.letter y.letter ≡ true → R k y in
-    let Behind : Keyword → Type 0 = λ y. nat_lt k.letter y.letter ≡ false → R y k in
+    let Following : Keyword → Type 0 = λ y. nat_lt k.letter y.letter ≡ false → R y k in
     let Up : Keyword → Keyword → Type 0 = λ a b. a.letter < b.letter in
     let later : All (Up x) xs = pairs_head Up x xs up in
-    let rest = Pairs-with R k xs (All-tail Before x xs before) (All-tail Behind x xs behind) (pairs_tail Up x xs up) (pairs_tail R x xs h) in
+    let rest = Pairs-with R k xs (All-tail Before x xs before) (All-tail Following x xs following) (pairs_tail Up x xs up) (pairs_tail R x xs h) in
     elim (cases_Bool (nat_lt k.letter x.letter)) [
       | inl below ↦
           let all_below : All (λ y. nat_lt k.letter y.letter ≡ true) (x ∷ xs) =
@@ -80,7 +80,7 @@ Pairs-with R k (x ∷ xs) before behind up h =
           in
           rw below (AllPairs-cons R k (x ∷ xs) (both Before (λ (y : Keyword). nat_lt k.letter y.letter ≡ true) (R k) (λ y f b. f b) (x ∷ xs) before all_below) h)
       | inr none ↦
-          rw none (AllPairs-cons R x (with_keyword k xs) (All-with (R x) k xs (All-head Behind x xs behind none) (pairs_head R x xs h)) rest)
+          rw none (AllPairs-cons R x (with_keyword k xs) (All-with (R x) k xs (All-head Following x xs following none) (pairs_head R x xs h)) rest)
     ]
   where
     still_below : (a b c : ℕ) → nat_lt a b ≡ true → b < c → nat_lt a c ≡ true

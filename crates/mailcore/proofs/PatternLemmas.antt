@@ -4,7 +4,7 @@ use Rattle.std.specs.Prelude.{All, IsTrue, MatchBool, slice_index_or}
 use Rattle.std.specs.List.{list_any, concat}
 use Rattle.std.proofs.lemmas.Bool.{cases_Bool, or_cases, or_left, or_right, eqb-true, eqb-false, ne_eqb, eq-eqb, false≢true}
 use Rattle.std.proofs.lemmas.List.Elements.{All-nil, All-cons, All-head, All-tail}
-use Rattle.mailcore.specs.MailboxPatterns.{StandForEach, IsMatched, matches, behind_any, behind_level, behind_same}
+use Rattle.mailcore.specs.MailboxPatterns.{StandForEach, IsMatched, matches, after_any, after_level, after_same}
 use Rattle.mailcore.specs.PatternRows.{IsRow}
 use Rattle.mailcore.proofs.PatternRowLemmas.{first_of_row}
 
@@ -21,28 +21,28 @@ or_false : (b : Bool) → (b || false) ≡ true → b ≡ true
 or_false true h = refl
 or_false false h = h
 
-any_found : (f : List ℕ → Bool) (name : List ℕ) → list_any f (behind_any name) ≡ true → Parts (λ part. Unit {0}) f name
+any_found : (f : List ℕ → Bool) (name : List ℕ) → list_any f (after_any name) ≡ true → Parts (λ part. Unit {0}) f name
 any_found f [] h = record { part = []; rest = []; whole = refl; stands = tt; passes = or_false (f []) h }
-any_found f (c ∷ cs) h = elim (or_cases (f (c ∷ cs)) (list_any f (behind_any cs)) h) [
+any_found f (c ∷ cs) h = elim (or_cases (f (c ∷ cs)) (list_any f (after_any cs)) h) [
   | inl here ↦ record { part = []; rest = c ∷ cs; whole = refl; stands = tt; passes = here }
   | inr there ↦
       let found = any_found f cs there in
       record { part = c ∷ found.part; rest = found.rest; whole = ap (λ (l : List ℕ). c ∷ l) found.whole; stands = tt; passes = found.passes }
 ]
 
-any_there : (f : List ℕ → Bool) (part rest : List ℕ) → f rest ≡ true → list_any f (behind_any (part ++ rest)) ≡ true
+any_there : (f : List ℕ → Bool) (part rest : List ℕ) → f rest ≡ true → list_any f (after_any (part ++ rest)) ≡ true
 any_there f [] [] h = or_left (f []) false h
-any_there f [] (c ∷ cs) h = or_left (f (c ∷ cs)) (list_any f (behind_any cs)) h
-any_there f (c ∷ part) rest h = or_right (f (c ∷ (part ++ rest))) (list_any f (behind_any (part ++ rest))) (any_there f part rest h)
+any_there f [] (c ∷ cs) h = or_left (f (c ∷ cs)) (list_any f (after_any cs)) h
+any_there f (c ∷ part) rest h = or_right (f (c ∷ (part ++ rest))) (list_any f (after_any (part ++ rest))) (any_there f part rest h)
 
-level_found : (f : List ℕ → Bool) (name : List ℕ) → list_any f (behind_level name) ≡ true → Parts (λ part. All (λ c. c ≢ 47) part) f name
+level_found : (f : List ℕ → Bool) (name : List ℕ) → list_any f (after_level name) ≡ true → Parts (λ part. All (λ c. c ≢ 47) part) f name
 level_found f [] h = record { part = []; rest = []; whole = refl; stands = All-nil (λ (c : ℕ). c ≢ 47); passes = or_false (f []) h }
-level_found f (c ∷ cs) h = elim (or_cases (f (c ∷ cs)) (list_any f (cond (eqb c 47) [] (behind_level cs))) h) [
+level_found f (c ∷ cs) h = elim (or_cases (f (c ∷ cs)) (list_any f (cond (eqb c 47) [] (after_level cs))) h) [
   | inl here ↦ record { part = []; rest = c ∷ cs; whole = refl; stands = All-nil (λ (c : ℕ). c ≢ 47); passes = here }
   | inr there ↦ elim (cases_Bool (eqb c 47)) [
-    | inl slash ↦ absurd (false≢true (subst (λ (b : Bool). list_any f (cond b [] (behind_level cs)) ≡ true) slash there))
+    | inl slash ↦ absurd (false≢true (subst (λ (b : Bool). list_any f (cond b [] (after_level cs)) ≡ true) slash there))
     | inr other ↦
-        let found = level_found f cs (subst (λ (b : Bool). list_any f (cond b [] (behind_level cs)) ≡ true) other there) in
+        let found = level_found f cs (subst (λ (b : Bool). list_any f (cond b [] (after_level cs)) ≡ true) other there) in
         record {
           part = c ∷ found.part;
           rest = found.rest;
@@ -53,16 +53,16 @@ level_found f (c ∷ cs) h = elim (or_cases (f (c ∷ cs)) (list_any f (cond (eq
   ]
 ]
 
-level_there : (f : List ℕ → Bool) (part rest : List ℕ) → All (λ c. c ≢ 47) part → f rest ≡ true → list_any f (behind_level (part ++ rest)) ≡ true
+level_there : (f : List ℕ → Bool) (part rest : List ℕ) → All (λ c. c ≢ 47) part → f rest ≡ true → list_any f (after_level (part ++ rest)) ≡ true
 level_there f [] [] none h = or_left (f []) false h
-level_there f [] (c ∷ cs) none h = or_left (f (c ∷ cs)) (list_any f (cond (eqb c 47) [] (behind_level cs))) h
+level_there f [] (c ∷ cs) none h = or_left (f (c ∷ cs)) (list_any f (cond (eqb c 47) [] (after_level cs))) h
 level_there f (c ∷ part) rest none h =
     let other : eqb c 47 ≡ false = ne_eqb c 47 (All-head (λ (c : ℕ). c ≢ 47) c part none) in
-    let more : list_any f (behind_level (part ++ rest)) ≡ true = level_there f part rest (All-tail (λ (c : ℕ). c ≢ 47) c part none) h in
-    or_right (f (c ∷ (part ++ rest))) (list_any f (cond (eqb c 47) [] (behind_level (part ++ rest))))
-    (subst (λ (b : Bool). list_any f (cond b [] (behind_level (part ++ rest))) ≡ true) (sym other) more)
+    let more : list_any f (after_level (part ++ rest)) ≡ true = level_there f part rest (All-tail (λ (c : ℕ). c ≢ 47) c part none) h in
+    or_right (f (c ∷ (part ++ rest))) (list_any f (cond (eqb c 47) [] (after_level (part ++ rest))))
+    (subst (λ (b : Bool). list_any f (cond b [] (after_level (part ++ rest))) ≡ true) (sym other) more)
 
-same_found : (f : List ℕ → Bool) (p : ℕ) (name : List ℕ) → list_any f (behind_same p name) ≡ true → Parts (λ part. part ≡ p ∷ []) f name
+same_found : (f : List ℕ → Bool) (p : ℕ) (name : List ℕ) → list_any f (after_same p name) ≡ true → Parts (λ part. part ≡ p ∷ []) f name
 same_found f p [] h = absurd (false≢true h)
 same_found f p (c ∷ cs) h = elim (cases_Bool (eqb c p)) [
   | inl same ↦ record {
@@ -75,27 +75,27 @@ same_found f p (c ∷ cs) h = elim (cases_Bool (eqb c p)) [
   | inr other ↦ absurd (false≢true (subst (λ (b : Bool). list_any f (cond b (cs ∷ []) []) ≡ true) other h))
 ]
 
-same_there : (f : List ℕ → Bool) (p : ℕ) (rest : List ℕ) → f rest ≡ true → list_any f (behind_same p (p ∷ rest)) ≡ true
+same_there : (f : List ℕ → Bool) (p : ℕ) (rest : List ℕ) → f rest ≡ true → list_any f (after_same p (p ∷ rest)) ≡ true
 same_there f p rest h =
     subst (λ (b : Bool). list_any f (cond b (rest ∷ []) []) ≡ true) (sym (eq-eqb p p refl)) (or_left (f rest) false h)
 
 -- ---- by the kind of the character
 
-abbrev behind_by : (star percent : Bool) (p : ℕ) (name : List ℕ) → List (List ℕ)
-behind_by star percent p name = cond star (behind_any name) (cond percent (behind_level name) (behind_same p name))
+abbrev after_by : (star percent : Bool) (p : ℕ) (name : List ℕ) → List (List ℕ)
+after_by star percent p name = cond star (after_any name) (cond percent (after_level name) (after_same p name))
 
-found_by : (star percent : Bool) (f : List ℕ → Bool) (p : ℕ) (name : List ℕ) → list_any f (behind_by star percent p name) ≡ true
+found_by : (star percent : Bool) (f : List ℕ → Bool) (p : ℕ) (name : List ℕ) → list_any f (after_by star percent p name) ≡ true
     → Parts (λ part. MatchBool star (Unit {0}) (MatchBool percent (All (λ c. c ≢ 47) part) (part ≡ p ∷ []))) f name
 found_by true percent f p name h = any_found f name h
 found_by false true f p name h = level_found f name h
 found_by false false f p name h = same_found f p name h
 
 there_by : (star percent : Bool) (f : List ℕ → Bool) (p : ℕ) (part rest : List ℕ)
-    → MatchBool star (Unit {0}) (MatchBool percent (All (λ c. c ≢ 47) part) (part ≡ p ∷ [])) → f rest ≡ true → list_any f (behind_by star percent p (part ++ rest)) ≡ true
+    → MatchBool star (Unit {0}) (MatchBool percent (All (λ c. c ≢ 47) part) (part ≡ p ∷ [])) → f rest ≡ true → list_any f (after_by star percent p (part ++ rest)) ≡ true
 there_by true percent f p part rest stands h = any_there f part rest h
 there_by false true f p part rest stands h = level_there f part rest stands h
 there_by false false f p part rest stands h =
-    subst (λ (l : List ℕ). list_any f (behind_same p (l ++ rest)) ≡ true) (sym stands) (same_there f p rest h)
+    subst (λ (l : List ℕ). list_any f (after_same p (l ++ rest)) ≡ true) (sym stands) (same_there f p rest h)
 
 -- ---- the whole pattern
 

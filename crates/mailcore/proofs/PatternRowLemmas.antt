@@ -5,13 +5,13 @@ use Rattle.std.specs.List.{list_any}
 use Rattle.std.proofs.lemmas.Bool.{cases_Bool}
 use Rattle.std.proofs.lemmas.Bool.Decides.{nat_tests}
 use Rattle.std.proofs.lemmas.List.{at_drop_more, get_or-set_same, get_or-set_other, length-set}
-use Rattle.mailcore.specs.MailboxPatterns.{matches, behind_any, behind_level, behind_same}
+use Rattle.mailcore.specs.MailboxPatterns.{matches, after_any, after_level, after_same}
 use Rattle.mailcore.specs.PatternRows.{IsRow, reaches, reaches_end}
 
 -- ---- one character more, at a character of the name and after the name
 
-abbrev behind_by : (star percent : Bool) (p : ℕ) (name : List ℕ) → List (List ℕ)
-behind_by star percent p name = cond star (behind_any name) (cond percent (behind_level name) (behind_same p name))
+abbrev after_by : (star percent : Bool) (p : ℕ) (name : List ℕ) → List (List ℕ)
+after_by star percent p name = cond star (after_any name) (cond percent (after_level name) (after_same p name))
 
 abbrev reaches_by : (star percent : Bool) (p c : ℕ) (here after next : Bool) → Bool
 reaches_by star percent p c here after next = cond star (here || next) (cond percent (here || not (eqb c 47) && next) (eqb c p && after))
@@ -21,12 +21,12 @@ or_false true = refl
 or_false false = refl
 
 by_tests : (star percent : Bool) (p c : ℕ) (ps cs : List ℕ)
-    → list_any (λ rest. matches ps rest) (behind_by star percent p (c ∷ cs))
-    ≡ reaches_by star percent p c (matches ps (c ∷ cs)) (matches ps cs) (list_any (λ rest. matches ps rest) (behind_by star percent p cs))
+    → list_any (λ rest. matches ps rest) (after_by star percent p (c ∷ cs))
+    ≡ reaches_by star percent p c (matches ps (c ∷ cs)) (matches ps cs) (list_any (λ rest. matches ps rest) (after_by star percent p cs))
 by_tests true percent p c ps cs = refl
 by_tests false true p c ps cs =
-    elim (eqb c 47) as (λ b. (matches ps (c ∷ cs) || list_any (λ rest. matches ps rest) (cond b [] (behind_level cs)))
-    ≡ (matches ps (c ∷ cs) || not b && list_any (λ rest. matches ps rest) (behind_level cs)))
+    elim (eqb c 47) as (λ b. (matches ps (c ∷ cs) || list_any (λ rest. matches ps rest) (cond b [] (after_level cs)))
+    ≡ (matches ps (c ∷ cs) || not b && list_any (λ rest. matches ps rest) (after_level cs)))
     [ true ↦ refl | false ↦ refl ]
 by_tests false false p c ps cs =
     elim (eqb c p) as (λ b. list_any (λ rest. matches ps rest) (cond b (cs ∷ []) []) ≡ (b && matches ps cs))
@@ -35,7 +35,7 @@ by_tests false false p c ps cs =
 char_reaches : (p c : ℕ) (ps cs : List ℕ) → matches (p ∷ ps) (c ∷ cs) ≡ reaches p c (matches ps (c ∷ cs)) (matches ps cs) (matches (p ∷ ps) cs)
 char_reaches p c ps cs = by_tests (eqb p 42) (eqb p 37) p c ps cs
 
-end_by_tests : (star percent : Bool) (p : ℕ) (ps : List ℕ) → list_any (λ rest. matches ps rest) (behind_by star percent p []) ≡ ((star || percent) && matches ps [])
+end_by_tests : (star percent : Bool) (p : ℕ) (ps : List ℕ) → list_any (λ rest. matches ps rest) (after_by star percent p []) ≡ ((star || percent) && matches ps [])
 end_by_tests true percent p ps = or_false (matches ps [])
 end_by_tests false true p ps = or_false (matches ps [])
 end_by_tests false false p ps = refl

@@ -35,6 +35,6 @@ text_length mark bs end is =
     let e : ℕ = length (line_end_bytes end) in
     let f : List ℕ = flat_map (line_bytes end) (content_lines bs) in
     let head : length (codes "X-TUID: " ++ mark) ≡ 8 + length mark = length-append (codes "X-TUID: ") mark in
-    let behind : length (line_end_bytes end ++ f) ≡ e + length f = length-append (line_end_bytes end) f in
+    let following : length (line_end_bytes end ++ f) ≡ e + length f = length-append (line_end_bytes end) f in
     let both : length ((codes "X-TUID: " ++ mark) ++ (line_end_bytes end ++ f)) ≡ length (codes "X-TUID: " ++ mark) + length (line_end_bytes end ++ f) = length-append (codes "X-TUID: " ++ mark) (line_end_bytes end ++ f) in
-    ap (λ (l : List ℕ). length l) parts ∙ omega (arith, twelve, ends, head, behind, both)
+    ap (λ (l : List ℕ). length l) parts ∙ omega (arith, twelve, ends, head, following, both)

@@ -27,7 +27,7 @@ found_where_it_stands xs x (Ok i) up search_result =
 found_where_it_stands xs x (Err i) up search_result =
     let parts = searched xs x (Err i) search_result (λ i j low high. up i j 0 low high) in
     sym (list_any_none (λ u. eqb u x) xs (λ k d below. rw (get_or_default xs k d 0 below)
-    (⊎_elim (λ before. less_number (get_or xs k 0) x (parts.1 k before)) (λ behind. greater_number (get_or xs k 0) x (parts.2 k behind below)) (cases_lt k i))))
+    (⊎_elim (λ before. less_number (get_or xs k 0) x (parts.1 k before)) (λ following. greater_number (get_or xs k 0) x (parts.2 k following below)) (cases_lt k i))))
 
 -- a number above a bound is spared where it is found among the others
 pub spared_above : (up_to x b : ℕ) (xs l : List ℕ) (r : Result ℕ ℕ) → b ≡ x → l ≡ xs → up_to < b → IsNonDecreasing xs

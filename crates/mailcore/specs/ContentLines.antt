@@ -1,8 +1,8 @@
 -- What the iterators over a message's lines have left to give.
 use Rattle.std.specs.Prelude.{ℕ, ◌&&◌, ◌==◌, List, [], ◌∷◌, if◌then◌else◌}
 use Rattle.std.specs.List.{list_all}
-use Rattle.mailcore.specs.declared.content_lines.Line.{Line}
-use Rattle.mailcore.specs.declared.content_lines.Lines.{Lines}
+use Rattle.mailcore.specs.declared.content_lines.ContentLine.{ContentLine}
+use Rattle.mailcore.specs.declared.content_lines.LineCursor.{LineCursor}
 use Rattle.mailcore.specs.declared.content_lines.ContentLines.{ContentLines}
 use Rattle.mailcore.specs.Content.{CR, TextLine, lf, lines_of, without_marks}
 
@@ -13,11 +13,11 @@ without_last_crs (b ∷ bs) =
     if b == CR && list_all (λ c. c == CR) bs then [] else b ∷ without_last_crs bs
 
 -- a line without its place in the message
-abbrev pub text_line : Line → TextLine
+abbrev pub text_line : ContentLine → TextLine
 text_line line = record { text = line.text.now; ended = line.ended }
 
 -- the lines that are left
-abbrev pub lines_left : Lines → List TextLine
+abbrev pub lines_left : LineCursor → List TextLine
 lines_left it = lines_of (lf it.rest.now)
 
 -- the lines of the content that are left

@@ -5,8 +5,8 @@ use Rattle.mailcore.specs.Content.{TextLine, line_end_bytes}
 use Rattle.mailcore.specs.ContentLines.{content_lines_left}
 use Rattle.mailcore.specs.declared.side.LineEnd.{LineEnd}
 use Rattle.mailcore.specs.declared.copy_pieces.CopyPieces.{CopyPieces}
-use Rattle.mailcore.specs.declared.copy_pieces.Due.{Due}
-use Rattle.mailcore.specs.declared.copy_pieces.Due.TheVariants.{Whole, Field, Mark, End, Line}
+use Rattle.mailcore.specs.declared.copy_pieces.DuePart.{DuePart}
+use Rattle.mailcore.specs.declared.copy_pieces.DuePart.TheVariants.{Whole, Field, Mark, End, Line}
 
 abbrev pub join : List (List ℕ) → List ℕ
 join pieces = flat_map (λ piece. piece) pieces
@@ -16,7 +16,7 @@ abbrev pub line_pieces : LineEnd → TextLine → List (List ℕ)
 line_pieces end line = if line.ended then line.text ∷ line_end_bytes end ∷ [] else line.text ∷ []
 
 -- what comes before the next line
-abbrev pub due_pieces : LineEnd → Due → List (List ℕ)
+abbrev pub due_pieces : LineEnd → DuePart → List (List ℕ)
 due_pieces end (Whole octets) = octets.now ∷ []
 due_pieces end (Field mark) = codes "X-TUID: " ∷ mark.now ∷ line_end_bytes end ∷ []
 due_pieces end (Mark mark) = mark.now ∷ line_end_bytes end ∷ []

@@ -22,22 +22,22 @@ pub record IsMatched (pattern name : List ℕ) : Type 0 where
 -- ---- the same, computed
 
 -- what may be left of a name after the part that a character of the pattern stands for
-abbrev pub behind_any : List ℕ → List (List ℕ)
-behind_any [] = [] ∷ []
-behind_any (c ∷ cs) = (c ∷ cs) ∷ behind_any cs
+abbrev pub after_any : List ℕ → List (List ℕ)
+after_any [] = [] ∷ []
+after_any (c ∷ cs) = (c ∷ cs) ∷ after_any cs
 
-abbrev pub behind_level : List ℕ → List (List ℕ)
-behind_level [] = [] ∷ []
-behind_level (c ∷ cs) = (c ∷ cs) ∷ (if c == 47 then [] else behind_level cs)
+abbrev pub after_level : List ℕ → List (List ℕ)
+after_level [] = [] ∷ []
+after_level (c ∷ cs) = (c ∷ cs) ∷ (if c == 47 then [] else after_level cs)
 
-abbrev pub behind_same : ℕ → List ℕ → List (List ℕ)
-behind_same p [] = []
-behind_same p (c ∷ cs) = if c == p then cs ∷ [] else []
+abbrev pub after_same : ℕ → List ℕ → List (List ℕ)
+after_same p [] = []
+after_same p (c ∷ cs) = if c == p then cs ∷ [] else []
 
-abbrev pub behind : ℕ → List ℕ → List (List ℕ)
-behind p name = if p == 42 then behind_any name else (if p == 37 then behind_level name else behind_same p name)
+abbrev pub following : ℕ → List ℕ → List (List ℕ)
+following p name = if p == 42 then after_any name else (if p == 37 then after_level name else after_same p name)
 
 abbrev pub matches : (pattern name : List ℕ) → Bool
 matches [] [] = true
 matches [] (c ∷ cs) = false
-matches (p ∷ ps) name = list_any (λ rest. matches ps rest) (behind p name)
+matches (p ∷ ps) name = list_any (λ rest. matches ps rest) (following p name)

@@ -10,13 +10,13 @@ const MARK_FIELD: &[u8; 7] = b"X-TUID:";
 
 /// A line of a message: its text, without the CRs that stand directly before the LF.
 #[derive(Clone, Copy)]
-pub struct Line<'a> {
+pub struct ContentLine<'a> {
     pub text: &'a [u8],
     /// Whether an LF ends the line. Only a last line can be without.
     pub ended: bool,
 }
 
-impl Line<'_> {
+impl ContentLine<'_> {
     ghost use Rattle.mailcore.specs.ContentLines.{text_line};
 
     // Whether this line ends a header that it stands in.
@@ -47,21 +47,21 @@ fn without_last_crs(mut text: &[u8]) -> &[u8]
 
 // The lines of a message.
 #[derive(Clone, Copy)]
-struct Lines<'a> {
+struct LineCursor<'a> {
     rest: &'a [u8],
 }
 
-impl<'a> Iterator for Lines<'a> {
+impl<'a> Iterator for LineCursor<'a> {
     ghost use Rattle.std.specs.Iterator.{YieldsFirstBy, item_count};
     ghost use Rattle.mailcore.specs.ContentLines.{text_line, lines_left};
 
-    type Item = Line<'a>;
+    type Item = ContentLine<'a>;
 
     ghost next_gives = { YieldsFirstBy text_line lines_left };
 
     ghost remaining = { item_count lines_left };
 
-    fn next(&mut self) -> Option<Line<'a>> {
+    fn next(&mut self) -> Option<ContentLine<'a>> {
         if self.rest.is_empty() {
             return None;
         }
@@ -69,12 +69,12 @@ impl<'a> Iterator for Lines<'a> {
             Some(end) => {
                 let text = without_last_crs(&self.rest[..end]);
                 self.rest = &self.rest[end + 1..];
-                Some(Line { text, ended: true })
+                Some(ContentLine { text, ended: true })
             }
             None => {
                 let text = self.rest;
                 self.rest = &[];
-                Some(Line { text, ended: false })
+                Some(ContentLine { text, ended: false })
             }
         }
     }
@@ -84,7 +84,7 @@ impl<'a> Iterator for Lines<'a> {
 /// takes no memory.
 #[derive(Clone, Copy)]
 pub struct ContentLines<'a> {
-    lines: Lines<'a>,
+    lines: LineCursor<'a>,
     in_header: bool,
 }
 
@@ -96,7 +96,7 @@ impl<'a> ContentLines<'a> {
         ensures { content_lines_left result ≡ spec.content_lines message.now }
     {
         ContentLines {
-            lines: Lines { rest: message },
+            lines: LineCursor { rest: message },
             in_header: true,
         }
     }
@@ -106,14 +106,14 @@ impl<'a> Iterator for ContentLines<'a> {
     ghost use Rattle.std.specs.Iterator.{YieldsFirstBy, item_count};
     ghost use Rattle.mailcore.specs.ContentLines.{text_line, content_lines_left};
 
-    type Item = Line<'a>;
+    type Item = ContentLine<'a>;
 
     ghost next_gives = { YieldsFirstBy text_line content_lines_left };
 
     ghost remaining = { item_count content_lines_left };
 
     #[tactic(auto, using(crate::proofs::LineLemmas::header_lines))]
-    fn next(&mut self) -> Option<Line<'a>> {
+    fn next(&mut self) -> Option<ContentLine<'a>> {
         while let Some(line) = self.lines.next() {
             if !self.in_header {
                 return Some(line);

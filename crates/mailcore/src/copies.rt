@@ -45,8 +45,8 @@ pub fn copy_len(message: &[u8], end: LineEnd) -> u64
 pub fn mark_of(message: &[u8]) -> Option<Tuid>
     ensures { result ≡ spec.mark_of message.now }
 {
-    let behind = message.strip_prefix(MARK_FIELD)?;
-    let (text, rest) = behind.split_at_checked(TUID_LENGTH)?;
+    let following = message.strip_prefix(MARK_FIELD)?;
+    let (text, rest) = following.split_at_checked(TUID_LENGTH)?;
     if ends_line(rest) {
         Tuid::read(text)
     } else {

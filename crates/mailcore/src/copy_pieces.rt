@@ -33,7 +33,7 @@ impl CopyHead {
 
 /// What comes before the next line.
 #[derive(Clone, Copy)]
-enum Due<'a> {
+enum DuePart<'a> {
     /// These octets.
     Whole(&'a [u8]),
     /// The name of the mark's field, then this mark and its line end.
@@ -49,7 +49,7 @@ enum Due<'a> {
 /// An iterator over the pieces of a copy's text. Joined they are the text. It takes no memory.
 #[derive(Clone, Copy)]
 pub struct CopyPieces<'a> {
-    due: Due<'a>,
+    due: DuePart<'a>,
     lines: ContentLines<'a>,
     end: LineEnd,
 }
@@ -63,7 +63,7 @@ impl<'a> CopyPieces<'a> {
         ensures { text_left result ≡ spec.copy_text head.now.mark message.now head.now.end }
     {
         CopyPieces {
-            due: Due::Field(&head.mark),
+            due: DuePart::Field(&head.mark),
             lines: ContentLines::new(message),
             end: head.end,
         }
@@ -74,7 +74,7 @@ impl<'a> CopyPieces<'a> {
         ensures { text_left result ≡ message.now }
     {
         CopyPieces {
-            due: Due::Whole(message),
+            due: DuePart::Whole(message),
             lines: ContentLines::new(&[]),
             end: LineEnd::Lf,
         }
@@ -114,26 +114,26 @@ impl<'a> Iterator for CopyPieces<'a> {
 
     fn next(&mut self) -> Option<&'a [u8]> {
         match self.due {
-            Due::Whole(octets) => {
-                self.due = Due::Line;
+            DuePart::Whole(octets) => {
+                self.due = DuePart::Line;
                 Some(octets)
             }
-            Due::Field(mark) => {
-                self.due = Due::Mark(mark);
+            DuePart::Field(mark) => {
+                self.due = DuePart::Mark(mark);
                 Some(MARK_FIELD)
             }
-            Due::Mark(mark) => {
-                self.due = Due::End;
+            DuePart::Mark(mark) => {
+                self.due = DuePart::End;
                 Some(mark)
             }
-            Due::End => {
-                self.due = Due::Line;
+            DuePart::End => {
+                self.due = DuePart::Line;
                 Some(line_end_bytes(self.end))
             }
-            Due::Line => {
+            DuePart::Line => {
                 let line = self.lines.next()?;
                 if line.ended {
-                    self.due = Due::End;
+                    self.due = DuePart::End;
                 }
                 Some(line.text)
             }

@@ -206,7 +206,8 @@ fn are_same(keywords: &[Keyword], others: &[Keyword]) -> bool
 {
     match (keywords, others) {
         ([], []) => true,
-        ([one, rest @ ..], [other, behind @ ..]) => one.is_same(other) && are_same(rest, behind),
+        ([one, rest @ ..], [other, following @ ..]) => one.is_same(other)
+            && are_same(rest, following),
         _ => false,
     }
 }

@@ -107,7 +107,7 @@ fn is_above(messages: &[Message], uid: Uid) -> bool
 
 /// A mailbox: each of its UIDs is below the next one that it gives (RFC 9051, section 2.3.1.1).
 #[derive(Drop)]
-pub struct Mailbox {
+pub struct StoredMailbox {
     /// Its name.
     pub name: MailboxName,
     /// Its UIDVALIDITY, 1 to 4294967295.
@@ -119,12 +119,12 @@ pub struct Mailbox {
     ghost below_next: { AreBelow messages next },
 }
 
-impl Mailbox {
+impl StoredMailbox {
     /// An empty mailbox.
     pub fn new(alloc: Global, name: MailboxName, validity: u32, next: u32) -> Self
         ensures { (result.name ≡ name) × (result.validity ≡ validity) × (result.next ≡ next) × (result.messages ≡ []) }
     {
-        Mailbox {
+        StoredMailbox {
             name,
             validity,
             next,

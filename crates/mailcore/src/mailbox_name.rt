@@ -42,7 +42,7 @@ impl MailboxName {
     ///
     /// `AllocError`: memory ran out.
     pub fn from_bytes(alloc: Global, name: &[u8]) -> Result<Option<Self>, AllocError>
-        ensures { IfOk result (λ told. told ≡ within_limits name.now) }
+        ensures { IfOk result (λ reported. reported ≡ within_limits name.now) }
     {
         if !is_mailbox_name(name) {
             return Ok(None);

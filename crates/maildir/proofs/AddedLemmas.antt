@@ -12,19 +12,19 @@ use Rattle.maildir.specs.VisitedFolders.{AddsAlone}
 use Rattle.maildir.proofs.GainLemmas.{adds_more, adds_none}
 
 -- a reading before which nobody has added files
-pub read_anew : {T : Type 0} (v : Visitors) (tells : T → Stored → Type 0) (old new : Seen Stored) (result : Result T DeviceFault) → Read true tells old new result → ReadAnew true v tells old new result
-read_anew v tells old new (Ok answer) went = record {
+pub read_anew : {T : Type 0} (v : Visitors) (states : T → Stored → Type 0) (old new : Seen Stored) (result : Result T DeviceFault) → Read true states old new result → ReadAnew true v states old new result
+read_anew v states old new (Ok answer) went = record {
   was_whole = went.was_whole;
   is_whole = went.is_whole;
   stops = went.stops;
-  effect = λ honest. record { mid = old.stored; before = adds_none v old.stored; behind = went.effect honest };
+  effect = λ honest. record { mid = old.stored; before = adds_none v old.stored; following = went.effect honest };
 }
-read_anew v tells old new (Err fault) halted = record {
+read_anew v states old new (Err fault) halted = record {
   is_broken = halted.is_broken;
   counted = halted.counted;
   no_less = halted.no_less;
   stuck = halted.stuck;
-  left = λ honest. record { mid = old.stored; before = adds_none v old.stored; behind = halted.left honest };
+  left = λ honest. record { mid = old.stored; before = adds_none v old.stored; following = halted.left honest };
 }
 
 pub alone_none : (v : Visitors) (s : Seen Stored) → AddsAlone v s s
@@ -43,28 +43,28 @@ alone_more v s m n g h = (
 )
 
 -- a reading of a whole folder before which others have added files
-pub read_behind : {T : Type 0} (v : Visitors) (tells : T → Stored → Type 0) (old mid new : Seen Stored) (result : Result T DeviceFault) → old.is_broken ≡ false → AddsAlone v old mid → Read true tells mid new result → ReadAnew true v tells old new result
-read_behind v tells old mid new (Ok answer) whole adds went = record {
+pub read_after : {T : Type 0} (v : Visitors) (states : T → Stored → Type 0) (old mid new : Seen Stored) (result : Result T DeviceFault) → old.is_broken ≡ false → AddsAlone v old mid → Read true states mid new result → ReadAnew true v states old new result
+read_after v states old mid new (Ok answer) whole adds went = record {
   was_whole = whole;
   is_whole = went.is_whole;
   stops = went.stops ∙ ap (λ (x : Seen Stored). x.stops) adds.1;
-  effect = λ honest. record { mid = mid.stored; before = adds.0; behind = went.effect honest };
+  effect = λ honest. record { mid = mid.stored; before = adds.0; following = went.effect honest };
 }
-read_behind v tells old mid new (Err fault) whole adds halted = record {
+read_after v states old mid new (Err fault) whole adds halted = record {
   is_broken = halted.is_broken;
   counted = λ is_stop. subst (λ (x : Seen Stored). (x.is_broken ≡ true) ⊎ (x.stops < new.stops)) adds.1 (halted.counted is_stop);
   no_less = subst (λ (n : ℕ). n ≤ new.stops) (ap (λ (x : Seen Stored). x.stops) adds.1) halted.no_less;
   stuck = λ broken. absurd (false≢true (sym whole ∙ broken));
-  left = λ honest. record { mid = mid.stored; before = adds.0; behind = halted.left honest };
+  left = λ honest. record { mid = mid.stored; before = adds.0; following = halted.left honest };
 }
 
 -- memory ran out before the names were read
-pub lacks_behind : {T : Type 0} (v : Visitors) (tells : T → Stored → Type 0) (old mid new : Seen Stored) → old.is_broken ≡ false → AddsAlone v old mid → new ≡ record mid { is_broken = true }
-    → ReadAnew {T = T} true v tells old new (Err NoMemory)
-lacks_behind v tells old mid new whole adds is = record {
+pub lacks_after : {T : Type 0} (v : Visitors) (states : T → Stored → Type 0) (old mid new : Seen Stored) → old.is_broken ≡ false → AddsAlone v old mid → new ≡ record mid { is_broken = true }
+    → ReadAnew {T = T} true v states old new (Err NoMemory)
+lacks_after v states old mid new whole adds is = record {
   is_broken = ap (λ (x : Seen Stored). x.is_broken) is;
   counted = λ is_stop. absurd (cc);
   no_less = omega (arith, ap (λ (x : Seen Stored). x.stops) is, ap (λ (x : Seen Stored). x.stops) adds.1);
   stuck = λ broken. absurd (false≢true (sym whole ∙ broken));
-  left = λ honest. record { mid = mid.stored; before = adds.0; behind = ap (λ (x : Seen Stored). x.stored) is };
+  left = λ honest. record { mid = mid.stored; before = adds.0; following = ap (λ (x : Seen Stored). x.stored) is };
 }

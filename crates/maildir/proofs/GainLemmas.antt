@@ -24,9 +24,9 @@ all_front : {X : Type 0} (P : X → Type 0) (xs ys : List X) → All P (xs ++ ys
 all_front P [] ys h = All-nil P
 all_front P (x ∷ xs) ys h = All-cons P x xs (All-head P x (xs ++ ys) h) (all_front P xs ys (All-tail P x (xs ++ ys) h))
 
-all_behind : {X : Type 0} (P : X → Type 0) (xs ys : List X) → All P (xs ++ ys) → All P ys
-all_behind P [] ys h = h
-all_behind P (x ∷ xs) ys h = all_behind P xs ys (All-tail P x (xs ++ ys) h)
+all_after : {X : Type 0} (P : X → Type 0) (xs ys : List X) → All P (xs ++ ys) → All P ys
+all_after P [] ys h = h
+all_after P (x ∷ xs) ys h = all_after P xs ys (All-tail P x (xs ++ ys) h)
 
 filter_stays : {X : Type 0} (p : X → Bool) (xs : List X) → All (λ x. p x ≡ true) xs → filter p xs ≡ xs
 filter_stays p [] h = refl
@@ -97,8 +97,8 @@ module _ (v : Visitors) (s m : Stored) (g : Gains v s m) where
 
   -- ---- calls
 
-  pub removed_behind : (at : FileName) → list_any (is_at at.place at.name) s.files ≡ true → Gains v (removed_file at s) (removed_file at m)
-  removed_behind at there = record {
+  pub removed_after : (at : FileName) → list_any (is_at at.place at.name) s.files ≡ true → Gains v (removed_file at s) (removed_file at m)
+  removed_after at there = record {
     more = g.more;
     files = without_gained at (none_there at there);
     arrivals = All-weaker arrives (IsArrival v.ours (without at.place at.name s.files)) (still at) g.more g.arrivals;
@@ -109,23 +109,23 @@ module _ (v : Visitors) (s m : Stored) (g : Gains v s m) where
     nobody = λ alone. ap (removed_file at) (g.nobody alone);
   }
 
-  put_behind : (to : FileName) (bytes : List ℕ) → is_waiting to.name ≡ false → s.copy ≡ Some bytes → Gains v (placed to s) (placed to m)
-  put_behind to bytes named is =
+  put_after : (to : FileName) (bytes : List ℕ) → is_waiting to.name ≡ false → s.copy ≡ Some bytes → Gains v (placed to s) (placed to m)
+  put_after to bytes named is =
       let file : File = record { place = to.place; name = to.name; bytes = bytes } in
       let one : List File = file ∷ [] in
       let front : List File = without to.place to.name s.files in
-      let behind : List File = without to.place to.name m.files in
+      let following : List File = without to.place to.name m.files in
       let none : IsNone to = none_named to named in
       let turned : IsPermutation ((front ++ one) ++ g.more) ((front ++ g.more) ++ one) =
       subst (λ (l : List File). IsPermutation l ((front ++ g.more) ++ one)) (sym (append_assoc front one g.more))
       (subst (λ (l : List File). IsPermutation (front ++ (one ++ g.more)) l) (sym (append_assoc front g.more one))
       (IsPermutation-append_right front (one ++ g.more) (g.more ++ one) (IsPermutation-append_comm one g.more))) in
       let copied : placed to s ≡ record s { files = front ++ one; copy = None } = rw is refl in
-      let copied_too : placed to m ≡ record m { files = behind ++ one; copy = None } = rw (g.copy, is) refl in
+      let copied_too : placed to m ≡ record m { files = following ++ one; copy = None } = rw (g.copy, is) refl in
       subst (λ (x : Stored). Gains v x (placed to m)) (sym copied) (subst (λ (x : Stored). Gains v (record s { files = front ++ one; copy = None }) x) (sym copied_too) (record {
         more = g.more;
-        files = IsPermutation-trans ((front ++ one) ++ g.more) ((front ++ g.more) ++ one) (behind ++ one) turned
-            (IsPermutation-append_left one (front ++ g.more) behind (without_gained to none));
+        files = IsPermutation-trans ((front ++ one) ++ g.more) ((front ++ g.more) ++ one) (following ++ one) turned
+            (IsPermutation-append_left one (front ++ g.more) following (without_gained to none));
         arrivals = All-weaker arrives (IsArrival v.ours (front ++ one)) (λ y a. record {
           waits = a.waits;
           own = All-append (λ f. name_of_file f ≢ name_of_file y) front one (still to y a).own
@@ -140,11 +140,11 @@ module _ (v : Visitors) (s m : Stored) (g : Gains v s m) where
         nobody = λ alone. sym copied_too ∙ ap (placed to) (g.nobody alone) ∙ copied;
       }))
 
-  pub placed_behind : (to : FileName) → is_waiting to.name ≡ false → Gains v (placed to s) (placed to m)
-  placed_behind to named = by_copy s.copy refl
+  pub placed_after : (to : FileName) → is_waiting to.name ≡ false → Gains v (placed to s) (placed to m)
+  placed_after to named = by_copy s.copy refl
     where
       by_copy : (copy : Option (List ℕ)) → s.copy ≡ copy → Gains v (placed to s) (placed to m)
-      by_copy (Some bytes) is = put_behind to bytes named is
+      by_copy (Some bytes) is = put_after to bytes named is
       by_copy None is =
           let same : placed to s ≡ record s { copy = None } = rw is refl in
           let same_too : placed to m ≡ record m { copy = None } = rw (g.copy, is) refl in
@@ -159,9 +159,9 @@ module _ (v : Visitors) (s m : Stored) (g : Gains v s m) where
             nobody = λ alone. sym same_too ∙ ap (placed to) (g.nobody alone) ∙ same;
           }))
 
-  pub renamed_behind : (from to : FileName) → list_any (is_at from.place from.name) s.files ≡ true → is_waiting to.name ≡ false
+  pub renamed_after : (from to : FileName) → list_any (is_at from.place from.name) s.files ≡ true → is_waiting to.name ≡ false
       → Gains v (renamed_file from to s) (renamed_file from to m)
-  renamed_behind from to there named =
+  renamed_after from to there named =
       let p : File → Bool = is_left (Some from) to.place to.name in
       let mv : File → File = moved from to in
       let off_from : IsNone from = none_there from there in
@@ -195,11 +195,11 @@ module _ (v : Visitors) (s m : Stored) (g : Gains v s m) where
       apart_moved : (y : File) → name_of_file y ≢ to → (x : File) → name_of_file x ≢ name_of_file y → name_of_file (moved from to x) ≢ name_of_file y
       apart_moved y off x other = elim (is_at from.place from.name x) as (λ b. name_of_file (cond b (record { place = to.place; name = to.name; bytes = x.bytes }) x) ≢ name_of_file y) [ true ↦ (λ e. off (sym e)) | false ↦ other ]
 
-  pub meta_behind : (text : List ℕ) → Gains v (with_meta text s) (with_meta text m)
-  meta_behind text = record { more = g.more; files = g.files; arrivals = g.arrivals; apart = g.apart; is_there = g.is_there; copy = g.copy; meta = refl; nobody = λ alone. ap (with_meta text) (g.nobody alone) }
+  pub meta_after : (text : List ℕ) → Gains v (with_meta text s) (with_meta text m)
+  meta_after text = record { more = g.more; files = g.files; arrivals = g.arrivals; apart = g.apart; is_there = g.is_there; copy = g.copy; meta = refl; nobody = λ alone. ap (with_meta text) (g.nobody alone) }
 
-  pub copy_behind : (bytes : List ℕ) → Gains v (with_copy bytes s) (with_copy bytes m)
-  copy_behind bytes = record { more = g.more; files = g.files; arrivals = g.arrivals; apart = g.apart; is_there = g.is_there; copy = refl; meta = g.meta; nobody = λ alone. ap (with_copy bytes) (g.nobody alone) }
+  pub copy_after : (bytes : List ℕ) → Gains v (with_copy bytes s) (with_copy bytes m)
+  copy_after bytes = record { more = g.more; files = g.files; arrivals = g.arrivals; apart = g.apart; is_there = g.is_there; copy = refl; meta = g.meta; nobody = λ alone. ap (with_copy bytes) (g.nobody alone) }
 
   -- ---- the files stay apart
 
@@ -225,7 +225,7 @@ gains_none v s = record {
 
 pub adds_none : (v : Visitors) (s : Stored) → Adds v s s
 unfolding gains_none
-adds_none v s = record { gains = gains_none v s; behind = sym (append-nil s.files) }
+adds_none v s = record { gains = gains_none v s; following = sym (append-nil s.files) }
 
 pub gains_more : (v : Visitors) (s m n : Stored) → Gains v s m → Gains v m n → Gains v s n
 gains_more v s m n g h =
@@ -244,7 +244,7 @@ gains_more v s m n g h =
           }) h.more h.arrivals);
       apart = pairs_append (λ a b. name_of_file a ≡ name_of_file b → ⊥) g.more h.more g.apart h.apart
           (All-weaker (IsArrival v.ours m.files) (λ y. All (λ x. name_of_file x ≢ name_of_file y) g.more)
-          (λ y a. all_behind (λ f. name_of_file f ≢ name_of_file y) s.files g.more (at_first y a)) h.more h.arrivals);
+          (λ y a. all_after (λ f. name_of_file f ≢ name_of_file y) s.files g.more (at_first y a)) h.more h.arrivals);
       is_there = h.is_there ∙ g.is_there;
       copy = h.copy ∙ g.copy;
       meta = h.meta ∙ g.meta;
@@ -255,7 +255,7 @@ pub adds_more : (v : Visitors) (s m n : Stored) → Adds v s m → Adds v m n �
 unfolding gains_more
 adds_more v s m n g h = record {
   gains = gains_more v s m n g.gains h.gains;
-  behind = h.behind ∙ ap (λ (l : List File). l ++ h.gains.more) g.behind ∙ append_assoc s.files g.gains.more h.gains.more;
+  following = h.following ∙ ap (λ (l : List File). l ++ h.gains.more) g.following ∙ append_assoc s.files g.gains.more h.gains.more;
 }
 
 -- ---- a file arrives
@@ -265,8 +265,8 @@ none_has : (at : FileName) (files : List File) → list_any (is_at at.place at.n
 none_has at files none = λ k d below same. false≢true (sym none ∙ list_any_at (is_at at.place at.name) files k d below (at_from_name at (get_or files k d) same))
 
 -- a file under a name that none has takes no other's place
-pub put_behind_all : (s : Stored) (file : File) → list_any (is_at file.place file.name) s.files ≡ false → with_file file s ≡ with_arrival file s
-put_behind_all s file none =
+pub put_after_all : (s : Stored) (file : File) → list_any (is_at file.place file.name) s.files ≡ false → with_file file s ≡ with_arrival file s
+put_after_all s file none =
     let others : without file.place file.name s.files ≡ s.files = filter_stays (is_left None file.place file.name) s.files
     (All-weaker (λ f. name_of_file f ≢ name_of_file file) (λ f. is_left None file.place file.name f ≡ true) (λ f other. ap not (not_at (name_of_file file) f other)) s.files (none_has (name_of_file file) s.files none)) in
     rw others refl
@@ -287,4 +287,4 @@ one_arrives v s file others waits octets foreign none = record {
 pub one_added : (v : Visitors) (s : Stored) (file : File) → v.alone ≡ false → is_waiting file.name ≡ true → AreOctets file.bytes → IsForeign v.ours (mark_of file.bytes)
     → list_any (is_at file.place file.name) s.files ≡ false → Adds v s (with_arrival file s)
 unfolding one_arrives
-one_added v s file others waits octets foreign none = record { gains = one_arrives v s file others waits octets foreign none; behind = refl }
+one_added v s file others waits octets foreign none = record { gains = one_arrives v s file others waits octets foreign none; following = refl }

@@ -292,16 +292,16 @@ unfolding six_at six_letter
 six_by_letters k within = agree_below_at six_at (λ n. six_letter (letter_at n)) 32 k refl within
 
 -- a letter is one of the six, or 91 above its place
-letter_behind : (k : ℕ) → k < FLAGS → (six_letter (letter_at k) || eqb (letter_at k) (k + 91)) ≡ true
+letter_after : (k : ℕ) → k < FLAGS → (six_letter (letter_at k) || eqb (letter_at k) (k + 91)) ≡ true
 unfolding six_letter
-letter_behind k within = agree_below_at (λ n. six_letter (letter_at n) || eqb (letter_at n) (n + 91)) (λ n. true) 32 k refl within
+letter_after k within = agree_below_at (λ n. six_letter (letter_at n) || eqb (letter_at n) (n + 91)) (λ n. true) 32 k refl within
 
 named_letter : (k l : ℕ) → k < FLAGS → six_letter (letter_at k) ≡ false → eqb k (place_of l) ≡ true → eqb l (letter_at k) ≡ true
 unfolding six_letter
 named_letter zero l within other same = absurd (false≢true (sym other))
 named_letter (suc n) l within other same =
-    let behind : eqb (letter_at (suc n)) (suc n + 91) ≡ true = subst (λ (t : Bool). (t || eqb (letter_at (suc n)) (suc n + 91)) ≡ true) other (letter_behind (suc n) within) in
-    let at : letter_at (suc n) ≡ suc n + 91 = eqb-true (letter_at (suc n)) (suc n + 91) behind in
+    let following : eqb (letter_at (suc n)) (suc n + 91) ≡ true = subst (λ (t : Bool). (t || eqb (letter_at (suc n)) (suc n + 91)) ≡ true) other (letter_after (suc n) within) in
+    let at : letter_at (suc n) ≡ suc n + 91 = eqb-true (letter_at (suc n)) (suc n + 91) following in
     let place : suc n ≡ place_of l = eqb-true (suc n) (place_of l) same in
     let is : l ≡ suc n + 91 = omega (arith, place) in
     eq-eqb l (letter_at (suc n)) (is ∙ sym at)

@@ -8,4 +8,4 @@ pub mod NameLemmas
 pub mod PermutedLemmas
 pub mod PlaceLemmas
 pub mod SlotLemmas
-pub mod ToldLemmas
+pub mod ReportedLemmas

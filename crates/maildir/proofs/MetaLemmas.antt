@@ -4,7 +4,7 @@ use Rattle.std.specs.Prelude.{decimal}
 use Rattle.std.proofs.lemmas.Bool.{lt-ltb}
 use Rattle.std.proofs.lemmas.Bool.Decides.{nat_tests}
 use Rattle.texts.specs.Cut.{Sides, cut_first}
-use Rattle.maildir.specs.Metas.{MetaText, is_meta, meta_of_numbers, meta_of_lines, meta_behind, meta_of, u32_of}
+use Rattle.maildir.specs.Metas.{MetaText, is_meta, meta_of_numbers, meta_of_lines, meta_after, meta_of, u32_of}
 use Rattle.maildir.specs.declared.meta.Meta.{Meta}
 use Rattle.texts.proofs.CutLemmas.{Joins, cut_first-joins, cut_first-append}
 use Rattle.maildir.proofs.NameLemmas.{decimal_lacks}
@@ -30,11 +30,11 @@ meta_numbers first second (Some v) (Some h) is_v is_h meta read = by_test (ltb 0
 
 meta_lines : (first rest : List ℕ) (cut : Option Sides) → Joins 10 rest cut → (meta : Meta) → meta_of_lines first cut ≡ Some meta → MetaText meta (first ++ 10 ∷ rest)
 meta_lines first rest None joins meta read = cc
-meta_lines first rest (Some (second, b ∷ behind)) joins meta read = cc
+meta_lines first rest (Some (second, b ∷ following)) joins meta read = cc
 meta_lines first rest (Some (second, [])) joins meta read =
     subst (λ (r : List ℕ). MetaText meta (first ++ 10 ∷ r)) (sym joins.0) (meta_numbers first second (u32_of first) (u32_of second) refl refl meta read)
 
-meta_cut : (text : List ℕ) (cut : Option Sides) → Joins 10 text cut → (meta : Meta) → meta_behind cut ≡ Some meta → MetaText meta text
+meta_cut : (text : List ℕ) (cut : Option Sides) → Joins 10 text cut → (meta : Meta) → meta_after cut ≡ Some meta → MetaText meta text
 meta_cut text None joins meta read = cc
 meta_cut text (Some (first, rest)) joins meta read =
     subst (λ (t : List ℕ). MetaText meta t) (sym joins.0) (meta_lines first rest (cut_first 10 rest) (cut_first-joins 10 rest) meta read)
@@ -52,7 +52,7 @@ spelled_meta_is_read meta text spelled =
     let n : ℕ = meta.next in
     let bounds : (0 < v) × (v < 2 ^ 32) × (0 < n) × (n < 2 ^ 32) = bounds_of meta spelled.is in
     let back : n - 1 + 1 ≡ n = omega arith in
-    ap (λ t. meta_behind (cut_first 10 t)) spelled.parts
+    ap (λ t. meta_after (cut_first 10 t)) spelled.parts
     ∙ rw (cut_first-append 10 (decimal v) (decimal (n - 1) ++ 10 ∷ []) (decimal_lacks 10 v (inl (lit< tt)) (omega arith)), cut_first-append 10 (decimal (n - 1)) [] (decimal_lacks 10 (n - 1) (inl (lit< tt)) (omega arith)), number_of-decimal 4294967295 v (decimal v) (lit< tt) (omega (arith, bounds.1)) refl, number_of-decimal 4294967295 (n - 1) (decimal (n - 1)) (lit< tt) (omega arith) refl, back) (tests v n bounds)
   where
     bounds_of : (meta : Meta) → is_meta meta ≡ true → (0 < meta.validity) × (meta.validity < 2 ^ 32) × (0 < meta.next) × (meta.next < 2 ^ 32)

@@ -13,7 +13,7 @@ use Rattle.std.proofs.lemmas.Grind.{common_steps}
 use Rattle.std.proofs.lemmas.List.{take-append-drop}
 use Rattle.std.proofs.lemmas.List.Elements.{All-nil, All-cons, All-append}
 use Rattle.texts.specs.Cut.{Sides, cut_first, cut_last}
-use Rattle.maildir.specs.Names.{NameParts, NameText, EndsInUid, IsUidOf, has_letters, letters_text, uid_text, is_uid, is_base, are_letters, uid_of, uid_behind, uid_at_end, with_letters, if_base, name_before, letters_behind, letters_at_end, name_of_parts, name_of, is_base_byte, COLON, COMMA}
+use Rattle.maildir.specs.Names.{NameParts, NameText, EndsInUid, IsUidOf, has_letters, letters_text, uid_text, is_uid, is_base, are_letters, uid_of, uid_after, uid_at_end, with_letters, if_base, name_before, letters_after, letters_at_end, name_of_parts, name_of, is_base_byte, COLON, COMMA}
 use Rattle.texts.proofs.CutLemmas.{Lacks, Joins, JoinsLast, cut_first-joins, cut_last-joins, cut_first-lacks, cut_first-append, cut_last-append}
 
 -- ---- UIDs
@@ -93,7 +93,7 @@ pub record UidCut (text front : List ℕ) (n : ℕ) : Type 0 where
   pub some : 0 < length front
   pub is : is_uid n ≡ true
 
-uid_cut : (text : List ℕ) (cut : Option Sides) → JoinsLast COMMA text cut → (front : List ℕ) (n : ℕ) → uid_behind cut ≡ Some (front, n) → UidCut text front n
+uid_cut : (text : List ℕ) (cut : Option Sides) → JoinsLast COMMA text cut → (front : List ℕ) (n : ℕ) → uid_after cut ≡ Some (front, n) → UidCut text front n
 uid_cut text None joins front n read = cc
 uid_cut text (Some ([], rest)) joins front n read = cc
 uid_cut text (Some (b ∷ bs, rest)) joins front n read = by_test (starts_with nat_eq rest (codes "U=")) refl read
@@ -163,7 +163,7 @@ spelled_before front letters (Some (base, n)) cut are name read = by_test (is_ba
           letters = are;
         })
 
-spelled_by_cut : (text : List ℕ) (cut : Option Sides) → Joins COLON text cut → (name : NameParts) → name_of_parts (letters_behind text cut) ≡ Some name → NameText name text
+spelled_by_cut : (text : List ℕ) (cut : Option Sides) → Joins COLON text cut → (name : NameParts) → name_of_parts (letters_after text cut) ≡ Some name → NameText name text
 spelled_by_cut text None joins name read =
     subst (λ (t : List ℕ). NameText name t) (append-nil text) (spelled_before text None (uid_at_end text) refl refl name read)
 spelled_by_cut text (Some (front, rest)) joins name read = by_test (starts_with nat_eq rest (codes "2,") && are_letters (drop 2 rest)) refl read
@@ -210,7 +210,7 @@ read_before base (Some n) letters is uid =
     base_some (b ∷ bs) is = omega arith
 
 read_letters : (front : List ℕ) (letters : Option (List ℕ)) → Lacks COLON front → IsTrue (has_letters letters)
-    → letters_behind (front ++ letters_text letters) (cut_first COLON (front ++ letters_text letters)) ≡ Some (front, letters)
+    → letters_after (front ++ letters_text letters) (cut_first COLON (front ++ letters_text letters)) ≡ Some (front, letters)
 read_letters front None lacks are = rw (append-nil front, cut_first-lacks COLON front lacks) refl
 read_letters front (Some letters) lacks are = rw (cut_first-append COLON front (codes "2," ++ letters) lacks, are) refl
 

@@ -7,5 +7,5 @@ use Rattle.maildir.specs.Folders.{Stored}
 use Rattle.maildir.specs.Gains.{Adds}
 
 -- others add files, and then the call changes nothing and answers what is so
-abbrev pub ReadAnew : {T : Type 0} → Bool → Visitors → (tells : T → Stored → Type 0) → Seen Stored → Seen Stored → Result T DeviceFault → Type 0
-ReadAnew is_honest visitors tells = Acts (is_honest ≡ true) IsStop (Between (Adds visitors)) (Answers tells) (λ fault. Stays)
+abbrev pub ReadAnew : {T : Type 0} → Bool → Visitors → (states : T → Stored → Type 0) → Seen Stored → Seen Stored → Result T DeviceFault → Type 0
+ReadAnew is_honest visitors states = Acts (is_honest ≡ true) IsStop (Between (Adds visitors)) (Answers states) (λ fault. Stays)

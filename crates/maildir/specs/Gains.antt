@@ -28,7 +28,7 @@ pub record Gains (visitors : Visitors) (old new : Stored) : Type 0 where
 -- others add files, which follow those that were there
 pub record Adds (visitors : Visitors) (old new : Stored) : Type 0 where
   pub gains : Gains visitors old new
-  pub behind : new.files ≡ old.files ++ gains.more
+  pub following : new.files ≡ old.files ++ gains.more
 
 -- nobody else adds files
 abbrev pub nobody : Visitors

@@ -37,10 +37,10 @@ meta_of_lines first None = None
 meta_of_lines first (Some (second, [])) = meta_of_numbers (u32_of first) (u32_of second)
 meta_of_lines first (Some (second, b ∷ rest)) = None
 
-abbrev pub meta_behind : Option Sides → Option Meta
-meta_behind None = None
-meta_behind (Some (first, rest)) = meta_of_lines first (cut_first 10 rest)
+abbrev pub meta_after : Option Sides → Option Meta
+meta_after None = None
+meta_after (Some (first, rest)) = meta_of_lines first (cut_first 10 rest)
 
 -- the meta file that a text spells, or none
 unfoldable pub meta_of : List ℕ → Option Meta
-meta_of text = meta_behind (cut_first 10 text)
+meta_of text = meta_after (cut_first 10 text)

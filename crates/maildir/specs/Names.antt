@@ -95,15 +95,15 @@ uid_of digits =
     then Some (digits_value 10 digits) else None
 
 -- the UID after a comma, with what stands before the comma
-abbrev pub uid_behind : Option Sides → Option (List ℕ × ℕ)
-uid_behind None = None
-uid_behind (Some ([], rest)) = None
-uid_behind (Some (b ∷ front, rest)) =
+abbrev pub uid_after : Option Sides → Option (List ℕ × ℕ)
+uid_after None = None
+uid_after (Some ([], rest)) = None
+uid_after (Some (b ∷ front, rest)) =
     if starts_with nat_eq rest (codes "U=") then option_map (λ uid. (b ∷ front, uid)) (uid_of (drop 2 rest)) else None
 
 -- the UID at the end of a text, with what stands before it
 abbrev pub uid_at_end : List ℕ → Option (List ℕ × ℕ)
-uid_at_end text = uid_behind (cut_last COMMA text)
+uid_at_end text = uid_after (cut_last COMMA text)
 
 abbrev pub with_letters : List ℕ → Option (List ℕ) → Option (List ℕ × ℕ) → NameParts
 with_letters front letters None = record { base = front; uid = None; letters = letters }
@@ -116,13 +116,13 @@ abbrev pub name_before : List ℕ → Option (List ℕ) → Option NameParts
 name_before front letters = if_base (with_letters front letters (uid_at_end front))
 
 -- a text without the letters after its first colon, and these letters
-abbrev pub letters_behind : List ℕ → Option Sides → Option (List ℕ × Option (List ℕ))
-letters_behind text None = Some (text, None)
-letters_behind text (Some (front, rest)) =
+abbrev pub letters_after : List ℕ → Option Sides → Option (List ℕ × Option (List ℕ))
+letters_after text None = Some (text, None)
+letters_after text (Some (front, rest)) =
     if starts_with nat_eq rest (codes "2,") && are_letters (drop 2 rest) then Some (front, Some (drop 2 rest)) else None
 
 abbrev pub letters_at_end : List ℕ → Option (List ℕ × Option (List ℕ))
-letters_at_end text = letters_behind text (cut_first COLON text)
+letters_at_end text = letters_after text (cut_first COLON text)
 
 abbrev pub name_of_parts : Option (List ℕ × Option (List ℕ)) → Option NameParts
 name_of_parts None = None

@@ -20,8 +20,8 @@ holds place name None = false
 holds place name (Some file) = is_at place name file
 
 -- the index says in which slot each name is
-abbrev pub Tells : NameIndex → List (Option File) → Type 0
-Tells index slots = (place : Place) (name : List ℕ) → found_at place name index ≡ position (holds place name) slots
+abbrev pub Reports : NameIndex → List (Option File) → Type 0
+Reports index slots = (place : Place) (name : List ℕ) → found_at place name index ≡ position (holds place name) slots
 
 -- the index knows the names of these files, and no other
 abbrev pub IsOf : NameIndex → List (Option File) → Type 0

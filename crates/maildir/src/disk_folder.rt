@@ -90,7 +90,7 @@ impl<R: Files + AllocGlobal + Clone + Drop> DiskFolder<R> {
     {
         let mut folder = DiskFolder::new(rt, path)?;
         let answer = folder.make();
-        folder.disk.tell(answer)?;
+        folder.disk.report(answer)?;
         Ok(folder)
     }
 
@@ -315,7 +315,7 @@ impl<R: Files + Clock + AllocGlobal + Clone + Drop> Folder for DiskFolder<R> {
             Ok(None) => Ok(None),
             Err(error) => Err(error),
         };
-        let answer = self.disk.tell(answer);
+        let answer = self.disk.report(answer);
         self.note(Part::Whole);
         answer
     }
@@ -323,7 +323,7 @@ impl<R: Files + Clock + AllocGlobal + Clone + Drop> Folder for DiskFolder<R> {
     fn read(&mut self, file: Source<'_>) -> Result<Option<Vec<u8>>, DeviceFault> {
         self.disk.check()?;
         let answer = self.bytes_of(file);
-        let answer = self.disk.tell(answer);
+        let answer = self.disk.report(answer);
         match file {
             Source::Meta => self.note(Part::Own(META)),
             Source::Mail(file) if matches!(answer, Ok(None)) => self.note_gone(file),
@@ -335,7 +335,7 @@ impl<R: Files + Clock + AllocGlobal + Clone + Drop> Folder for DiskFolder<R> {
     fn write_tmp(&mut self, copy: CopyPieces<'_>) -> Result<(), DeviceFault> {
         self.disk.check()?;
         let answer = self.write_copy(copy);
-        let answer = self.disk.tell(answer);
+        let answer = self.disk.report(answer);
         self.note(Part::Own(COPY));
         answer
     }
@@ -343,7 +343,7 @@ impl<R: Files + Clock + AllocGlobal + Clone + Drop> Folder for DiskFolder<R> {
     fn rename(&mut self, from: Origin<'_>, to: Location<'_>) -> Result<(), DeviceFault> {
         self.disk.check()?;
         let answer = self.give_name(from, to);
-        let answer = self.disk.tell(answer);
+        let answer = self.disk.report(answer);
         match from {
             Origin::Tmp => self.note_mail(to),
             Origin::Delivered(file) => self.note_mail(file),
@@ -354,7 +354,7 @@ impl<R: Files + Clock + AllocGlobal + Clone + Drop> Folder for DiskFolder<R> {
     fn remove(&mut self, file: Location<'_>) -> Result<(), DeviceFault> {
         self.disk.check()?;
         let answer = self.take_out(file);
-        let answer = self.disk.tell(answer);
+        let answer = self.disk.report(answer);
         self.note_mail(file);
         answer
     }
@@ -362,7 +362,7 @@ impl<R: Files + Clock + AllocGlobal + Clone + Drop> Folder for DiskFolder<R> {
     fn replace_meta(&mut self, text: &[u8]) -> Result<(), DeviceFault> {
         self.disk.check()?;
         let answer = self.disk.replace(META, NEXT_META, text);
-        let answer = self.disk.tell(answer);
+        let answer = self.disk.report(answer);
         self.note(Part::Own(NEXT_META));
         answer
     }
@@ -370,7 +370,7 @@ impl<R: Files + Clock + AllocGlobal + Clone + Drop> Folder for DiskFolder<R> {
     fn sync(&mut self) -> Result<(), DeviceFault> {
         self.disk.check()?;
         let answer = self.sync_names();
-        let answer = self.disk.tell(answer);
+        let answer = self.disk.report(answer);
         self.note(Part::Whole);
         answer
     }

@@ -45,8 +45,8 @@ impl<'a> Iterator for FileList<'a> {
     ghost remaining = { item_count files_left };
 
     fn next(&mut self) -> Option<&'a File> {
-        while let Some((slot, behind)) = self.slots.split_first() {
-            self.slots = behind;
+        while let Some((slot, following)) = self.slots.split_first() {
+            self.slots = following;
             if let Some(file) = slot {
                 self.count -= 1;
                 return Some(file);

@@ -79,7 +79,7 @@ pub enum Origin<'a> {
 ///
 /// Others may add files at any time. They count as stored from the next reading of the names on: until then no call meets them, since a
 /// file that comes waits under a name of its own, and a call is asked of a name that was read, or gives one that does not wait. What
-/// others add before a call they could as well have added after it (`laws::others_could_come_behind`).
+/// others add before a call they could as well have added after it (`laws::others_could_come_after`).
 pub trait Folder {
     ghost use Rattle.device.specs.Calls.{Seen, Call, Read, Rest, Nothing, Reopens};
     ghost use Rattle.mailcore.specs.CopyPieces.{text_left};

@@ -31,7 +31,7 @@ pub(crate) struct FoundNames {
 
 /// How a name is taken.
 #[derive(Clone, Copy)]
-enum Taken {
+enum TakenName {
     /// As that of a message, or of a file that waits for a UID.
     Listed,
     /// As that of a file that waits for a UID, and can get none.
@@ -72,13 +72,13 @@ impl FoundNames {
         }
     }
 
-    fn add(&mut self, taken: Taken, file: FileName) -> io::Result<()> {
+    fn add(&mut self, taken: TakenName, file: FileName) -> io::Result<()> {
         match taken {
-            Taken::Listed => self.names.push(file)?,
-            Taken::LeftOut => self.left_out.push(file)?,
-            Taken::Unspelled => self.unspelled.push(file)?,
-            Taken::Unreached => self.unreached = Some(file),
-            Taken::Passed => {}
+            TakenName::Listed => self.names.push(file)?,
+            TakenName::LeftOut => self.left_out.push(file)?,
+            TakenName::Unspelled => self.unspelled.push(file)?,
+            TakenName::Unreached => self.unreached = Some(file),
+            TakenName::Passed => {}
         }
         Ok(())
     }
@@ -90,38 +90,38 @@ fn how_taken<R: Files + AllocGlobal + Clone + Drop>(
     asks_all: bool,
     folder: &str,
     bytes: &[u8],
-) -> io::Result<Taken> {
+) -> io::Result<TakenName> {
     let taken = by_name(bytes);
     let has_uid = has_uid(bytes);
     let Ok(name) = str::from_utf8(bytes) else {
         return Ok(unread(has_uid, taken));
     };
-    if matches!(taken, Taken::Passed) || has_uid && !asks_all {
+    if matches!(taken, TakenName::Passed) || has_uid && !asks_all {
         return Ok(taken);
     }
     let path = format!(in disk.rt().alloc(); "{folder}{name}")?;
     if is_file(disk.rt(), Path::new(path.as_str()))? {
         Ok(taken)
     } else {
-        Ok(Taken::Passed)
+        Ok(TakenName::Passed)
     }
 }
 
 /// How the name of a file is taken.
-fn by_name(name: &[u8]) -> Taken {
+fn by_name(name: &[u8]) -> TakenName {
     match read_name(name) {
-        Some(parts) if parts.uid.is_none() && name.len() > WAITING_MAX => Taken::LeftOut,
-        Some(_) => Taken::Listed,
-        None if name.first() == Some(&b'.') => Taken::Passed,
-        None => Taken::Unspelled,
+        Some(parts) if parts.uid.is_none() && name.len() > WAITING_MAX => TakenName::LeftOut,
+        Some(_) => TakenName::Listed,
+        None if name.first() == Some(&b'.') => TakenName::Passed,
+        None => TakenName::Unspelled,
     }
 }
 
 /// How a name that is no UTF-8 is taken, which would be taken so otherwise. What it names cannot be asked.
-fn unread(has_uid: bool, taken: Taken) -> Taken {
+fn unread(has_uid: bool, taken: TakenName) -> TakenName {
     match taken {
-        Taken::Listed if has_uid => Taken::Unreached,
-        Taken::Listed => Taken::LeftOut,
+        TakenName::Listed if has_uid => TakenName::Unreached,
+        TakenName::Listed => TakenName::LeftOut,
         taken => taken,
     }
 }

@@ -57,7 +57,7 @@ pub fn names_by_their_flags()
 
 /// What others add before a call of the folder, they could as well have added after it: what the call does is not touched by that. A
 /// file that is renamed or removed was there before, and a name that a file gets is not that of one that waits for its UID.
-pub fn others_could_come_behind()
+pub fn others_could_come_after()
     ensures renamed { (v : Visitors) (s m : Stored) (from to : FileName) → list_any (is_at from.place from.name) s.files ≡ true
         → is_waiting to.name ≡ false → Gains v s m → Gains v (renamed_file from to s) (renamed_file from to m) }
     ensures placed { (v : Visitors) (s m : Stored) (to : FileName) → is_waiting to.name ≡ false → Gains v s m → Gains v (placed to s) (placed to m) }
@@ -72,6 +72,6 @@ pub fn others_add_in_turn()
     ensures nothing { (v : Visitors) (s : Stored) → Gains v s s }
     ensures more { (v : Visitors) (s m n : Stored) → Gains v s m → Gains v m n → Gains v s n }
     ensures apart { (v : Visitors) (s m : Stored) → Gains v s m → AreApart s.files → AreApart m.files }
-    ensures nothing_behind { (v : Visitors) (s : Stored) → Adds v s s }
-    ensures more_behind { (v : Visitors) (s m n : Stored) → Adds v s m → Adds v m n → Adds v s n }
+    ensures nothing_after { (v : Visitors) (s : Stored) → Adds v s s }
+    ensures more_after { (v : Visitors) (s m n : Stored) → Adds v s m → Adds v m n → Adds v s n }
 {}

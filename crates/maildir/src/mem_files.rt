@@ -5,7 +5,7 @@ ghost use Rattle.std.specs.List.{list_any};
 ghost use Rattle.std.specs.Option.{option_map};
 ghost use Rattle.maildir.specs.Folders.{AreApart, is_at, left, moved, name_at, without};
 ghost use Rattle.maildir.specs.NameIndexes.{KeepsRoom};
-ghost use Rattle.maildir.specs.Slots.{files_in, holds, IsOf, Tells, under};
+ghost use Rattle.maildir.specs.Slots.{files_in, holds, IsOf, Reports, under};
 
 use crate::file_list::FileList;
 use crate::folder::{File, FileName, Location};
@@ -22,7 +22,7 @@ pub(crate) struct MemFiles {
     pub(crate) count: usize,
     pub(crate) index: NameIndex,
     pub(crate) ghost apart: { AreApart (files_in slots.items) },
-    pub(crate) ghost told: { Tells index slots.items },
+    pub(crate) ghost reported: { Reports index slots.items },
     pub(crate) ghost counted: { count ≡ length (files_in slots.items) },
 }
 
@@ -163,7 +163,7 @@ impl MemFiles {
 fn renumber(index: &mut NameIndex, slots: &[Option<File>])
     requires apart { AreApart (files_in slots.now) }
     requires known { IsOf index.old slots.now }
-    ensures told { Tells index.new slots.now }
+    ensures reported { Reports index.new slots.now }
     ensures room { KeepsRoom index.old index.new }
 {
     for (spot, slot) in slots.iter().enumerate() {

@@ -12,7 +12,7 @@ use crate::folder::{File, FileName, Folder, Location, Origin, Place, Source};
 use crate::mem_files::MemFiles;
 use device::DeviceFault;
 use device::history::History;
-use device::schedule::{Moment, Scheduled, Stop};
+use device::schedule::{CallStop, Moment, Scheduled};
 use mailcore::copy_pieces::CopyPieces;
 use mailcore::octets::Octets;
 use std::alloc::{AllocError, Global};
@@ -61,7 +61,7 @@ impl MemFolder {
     ghost use Rattle.maildir.specs.Names.{is_waiting};
 
     /// A folder that is there, without a file and without a meta file, whose calls stop as the schedule says.
-    pub fn new(alloc: Global, schedule: Vec<Stop<FolderCall>>) -> Self
+    pub fn new(alloc: Global, schedule: Vec<CallStop<FolderCall>>) -> Self
         ensures { seen_of result ≡ record { stored = empty; is_broken = false; stops = 0 } }
     {
         MemFolder {

@@ -24,8 +24,8 @@ impl Meta {
         ensures next { IfSome result (λ meta. 0 < meta.next) }
     {
         let (first, rest) = cut(text, b'\n')?;
-        let (second, behind) = cut(rest, b'\n')?;
-        if behind.is_empty() {
+        let (second, following) = cut(rest, b'\n')?;
+        if following.is_empty() {
             Meta::of_lines(first, second)
         } else {
             None

@@ -69,7 +69,7 @@ fn split_letters(text: &[u8]) -> Option<(&[u8], Option<&[u8]>)>
     ensures { option_map (λ parts. (parts.0.now, option_copied parts.1)) result ≡ letters_at_end text.now }
 {
     match cut(text, b':') {
-        Some((front, behind)) => match read_letters(behind) {
+        Some((front, following)) => match read_letters(following) {
             Some(letters) => Some((front, Some(letters))),
             None => None,
         },

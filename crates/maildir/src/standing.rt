@@ -73,10 +73,10 @@ impl<'a> Look<'a> {
     /// Takes one name more. Some: it shows that a message is not as it was counted.
     fn meet(&mut self, file: FileName) -> Result<Option<Stale>, AllocError> {
         let name = file.name.as_slice();
-        if let Some(uid) = told_among(name, self.sought.gone) {
+        if let Some(uid) = reported_among(name, self.sought.gone) {
             return Ok(Some(Stale::There(uid, file)));
         }
-        let Some(uid) = told_among(name, self.sought.marked) else {
+        let Some(uid) = reported_among(name, self.sought.marked) else {
             return Ok(None);
         };
         match (is_spelled(name), is_marked(name)) {
@@ -106,12 +106,12 @@ impl<'a> Look<'a> {
 }
 
 /// The first UID in a name that is one of these, which rise.
-fn told_among(name: &[u8], uids: &[Uid]) -> Option<Uid> {
+fn reported_among(name: &[u8], uids: &[Uid]) -> Option<Uid> {
     if uids.is_empty() {
         return None;
     }
     for piece in name.split(|byte| *byte == b',').skip(1) {
-        if let Some(uid) = told_uid(piece) {
+        if let Some(uid) = reported_uid(piece) {
             if is_among(uid, uids) {
                 return Some(uid);
             }
@@ -121,9 +121,9 @@ fn told_among(name: &[u8], uids: &[Uid]) -> Option<Uid> {
 }
 
 /// The UID after `U=` at the head of this piece of a name, whatever comes after its digits.
-fn told_uid(piece: &[u8]) -> Option<Uid> {
-    let behind = piece.strip_prefix(b"U=")?;
-    let digits = behind.split(|byte| !byte.is_ascii_digit()).next()?;
+fn reported_uid(piece: &[u8]) -> Option<Uid> {
+    let following = piece.strip_prefix(b"U=")?;
+    let digits = following.split(|byte| !byte.is_ascii_digit()).next()?;
     read_uid(digits)
 }
 

@@ -30,11 +30,11 @@ pub(crate) fn sure_names<R: Files + Clock + AllocGlobal + Clone + Drop>(
     let alloc = disk.rt().alloc();
     let mut shown = Vec::new(alloc);
     for _ in 0..READINGS {
-        let Reading {
+        let NameReading {
             found,
             is_sure,
             grain,
-        } = Reading::make(disk, asks_all)?;
+        } = NameReading::make(disk, asks_all)?;
         if is_sure {
             if are_all_among(alloc, &shown, &found.names)? {
                 return Ok(found);
@@ -51,7 +51,7 @@ pub(crate) fn sure_names<R: Files + Clock + AllocGlobal + Clone + Drop>(
 
 /// One reading of the names.
 #[derive(Drop)]
-struct Reading {
+struct NameReading {
     found: FoundNames,
     /// Whether no name changed meanwhile.
     is_sure: bool,
@@ -59,7 +59,7 @@ struct Reading {
     grain: Duration,
 }
 
-impl Reading {
+impl NameReading {
     fn make<R: Files + Clock + AllocGlobal + Clone + Drop>(
         disk: &Disk<R>,
         asks_all: bool,
@@ -68,7 +68,7 @@ impl Reading {
         let before = Changes::of(disk)?;
         let found = FoundNames::read(disk, asks_all)?;
         let after = Changes::of(disk)?;
-        Ok(Reading {
+        Ok(NameReading {
             found,
             is_sure: before.would_show_another(begun) && before == after,
             grain: after.grain(),

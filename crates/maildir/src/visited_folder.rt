@@ -16,7 +16,7 @@ use std::alloc::Global;
 
 /// A file that others add to `cur`.
 #[derive(Drop)]
-pub struct Arrival {
+pub struct ArrivingFile {
     /// Before which call it comes, whether that call stops or not.
     pub call: FolderCall,
     /// Before which of the calls of this name, counted from 1 over the folder's life. At 0 it has come.
@@ -34,9 +34,9 @@ pub struct VisitedFolder<const MARKS: u32> {
     alloc: Global,
     folder: MemFolder,
     // Those that come, and those that have come since the names were read last.
-    arrivals: Vec<Arrival>,
+    arrivals: Vec<ArrivingFile>,
     is_broken: bool,
-    pub ghost is_told: { is_broken ≡ folder.stopping.is_broken },
+    pub ghost is_reported: { is_broken ≡ folder.stopping.is_broken },
 }
 
 impl<const MARKS: u32> VisitedFolder<MARKS> {
@@ -47,7 +47,7 @@ impl<const MARKS: u32> VisitedFolder<MARKS> {
     ghost use Rattle.maildir.specs.VisitedFolders.{AddsAlone};
 
     /// This folder, of which no call has stopped, and what others add to it.
-    pub fn new(alloc: Global, folder: MemFolder, arrivals: Vec<Arrival>) -> Self
+    pub fn new(alloc: Global, folder: MemFolder, arrivals: Vec<ArrivingFile>) -> Self
         requires whole { (seen_of folder).is_broken ≡ false }
         ensures folder { result.folder ≡ folder }
         ensures arrivals { result.arrivals ≡ arrivals }
@@ -109,7 +109,7 @@ impl<const MARKS: u32> VisitedFolder<MARKS> {
     }
 
     // Puts a file into the folder, if it is one that others may add.
-    fn add(&mut self, arrival: Arrival) -> Result<(), DeviceFault>
+    fn add(&mut self, arrival: ArrivingFile) -> Result<(), DeviceFault>
         ensures adds { AddsAlone (others_with MARKS) (seen_of self.old.folder) (seen_of self.new.folder) }
         ensures broken { self.new.is_broken ≡ self.old.is_broken }
         ensures synced { self.new.folder.is_synced ≡ self.old.folder.is_synced }

@@ -32,7 +32,7 @@ pub use command_line::fault::UsageFault;
 /// Reads the words of a command line.
 pub use command_line::read::read_words;
 /// What a command line asks for.
-pub use config::request::{Chosen, Request};
+pub use config::request::{Chosen, RunRequest};
 
 // ---- Stores and runs
 
@@ -66,7 +66,7 @@ pub use reports::performed::PerformedLine;
 // ---- The programs
 
 /// `mbplan`: lists what a run would do.
-pub use run_plan::run::{Arguments, run_plan};
+pub use run_plan::run::{PlanArguments, run_plan};
 /// `mbtrial`: makes a run in memory, with stops.
 pub use run_trial::run::run_trial;
 /// `trial-imapd`: serves one connection.

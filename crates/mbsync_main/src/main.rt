@@ -2,7 +2,7 @@
 #![tactic(auto)]
 
 use command_line::read::read_words;
-use command_line::tell::tell;
+use command_line::report::report;
 use mail_run::run::run_mail;
 use std::fs::File;
 use std::io::{IsTerminal, Stderr, Write};
@@ -18,7 +18,7 @@ fn words(rt: &HostRuntime) -> io::Result<Vec<String>> {
 }
 
 /// Reports that the words cannot be read, since memory ran out or one is no UTF-8, and gives the exit status.
-fn tell_unread(fault: &io::Error, err: &mut Stderr) -> u8 {
+fn report_unread(fault: &io::Error, err: &mut Stderr) -> u8 {
     if fault.kind() == io::ErrorKind::OutOfMemory {
         let _ = writeln!(err, "mbsync: no memory");
         1
@@ -49,14 +49,14 @@ fn run(rt: HostRuntime) -> u8 {
     let (mut out, mut err) = (rt.stdout(), rt.stderr());
     let words = match words(&rt) {
         Ok(words) => words,
-        Err(fault) => return tell_unread(&fault, &mut err),
+        Err(fault) => return report_unread(&fault, &mut err),
     };
     match read_words(rt.alloc(), &words) {
         Ok(request) => {
             let terminal = terminal(&rt);
             run_mail(rt, &request, terminal, &mut out, &mut err)
         }
-        Err(fault) => tell(&fault, &mut out, &mut err),
+        Err(fault) => report(&fault, &mut out, &mut err),
     }
 }
 

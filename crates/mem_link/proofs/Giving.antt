@@ -49,7 +49,7 @@ sends_all old new bytes out unread after f e = record { said = f.said; out = out
 -- ---- a part of it
 
 pub some_none : (end : End) (bytes : List ℕ) → FeedsSome end bytes end.server
-some_none end bytes = record { from = λ text told is. record { replies = []; rest = text ++ bytes; runs = no_portion end.server (text ++ bytes) } }
+some_none end bytes = record { from = λ text reported is. record { replies = []; rest = text ++ bytes; runs = no_portion end.server (text ++ bytes) } }
 
 -- there was no connection
 pub some_of_closed : {T : Type 0} (old new : Host) (bytes : List ℕ) (r : Result T ServerFault) (fault : ServerFault) (server : Server) → r ≡ Err fault → fault ≡ Closed
@@ -60,8 +60,8 @@ some_of_closed old new bytes r fault server is closed same at =
 
 some_longer : (old : End) (new : Server) (front more : List ℕ) → FeedsSome old front new → FeedsSome old (front ++ more) new
 some_longer old new front more f = record {
-  from = λ text told is.
-      let s = f.from text told is in
+  from = λ text reported is.
+      let s = f.from text reported is in
       record {
         replies = s.replies;
         rest = s.rest ++ more;

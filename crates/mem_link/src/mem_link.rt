@@ -16,7 +16,7 @@ ghost use Rattle.std.proofs.Props.{props};
 use crate::command::Nth;
 use crate::muting::muted;
 use crate::schedule::Schedule;
-use crate::unread::Unread;
+use crate::unread::UnreadReplies;
 use device::stop_count::StopCount;
 use imap_link::link::{Link, LinkFault};
 use imap_server::server::{Server, ServerFault};
@@ -35,7 +35,7 @@ pub(crate) const PIECE_BYTES: usize = 4096;
 pub struct MemLink {
     alloc: Global,
     server: Server,
-    unread: Unread,
+    unread: UnreadReplies,
     schedule: Schedule,
     /// At most so many bytes are received at once.
     piece: usize,
@@ -59,7 +59,7 @@ impl MemLink {
         MemLink {
             alloc,
             server,
-            unread: Unread::new(alloc),
+            unread: UnreadReplies::new(alloc),
             schedule,
             piece: PIECE_BYTES,
             is_open: false,

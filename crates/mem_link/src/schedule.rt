@@ -3,7 +3,7 @@
 ghost use Rattle.std.specs.Prelude.{◌≡◌, ◌<◌, ◌≤◌, [], None, false, length, IfSome};
 
 use crate::command::{CommandName, Nth};
-use crate::sending::{Sending, Sent};
+use crate::sending::{Sending, SentCommands};
 use memchr::memrchr;
 
 /// Where a link stops. From there on nothing is sent or received, and each call answers `Stopped`, until `reconnect`.
@@ -86,7 +86,7 @@ pub struct Schedule {
     mutes: Option<Vec<u64>>,
     /// Whether the answer to what was sent last comes without APPENDUID.
     is_muted: bool,
-    sent: Sent,
+    sent: SentCommands,
     received: usize,
     /// How many bytes of the tagged reply come, where the answer to what was sent last is cut.
     cut: Option<usize>,
@@ -105,7 +105,7 @@ impl Schedule {
             stops,
             mutes: None,
             is_muted: false,
-            sent: Sent::new(),
+            sent: SentCommands::new(),
             received: 0,
             cut: None,
             room: None,

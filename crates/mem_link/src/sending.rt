@@ -14,12 +14,12 @@ pub(crate) struct Sending {
     /// The command that ends.
     pub(crate) ends: Option<Nth>,
     /// The octets of a literal.
-    pub(crate) octets: Option<Octets>,
+    pub(crate) octets: Option<LiteralOctets>,
 }
 
 /// Octets of the literal of an APPEND.
 #[derive(Clone, Copy)]
-pub(crate) struct Octets {
+pub(crate) struct LiteralOctets {
     /// Which APPEND it is.
     pub(crate) append: u64,
     /// How many octets were sent before.
@@ -31,24 +31,24 @@ pub(crate) struct Octets {
 /// What was sent over a link: whole commands, and APPENDs in two calls or more, the first of which ends where the literal is
 /// asked for. What comes in other pieces is not taken for the command that it is.
 #[derive(Drop)]
-pub(crate) struct Sent {
+pub(crate) struct SentCommands {
     bytes: usize,
     counts: Counts,
     /// The literal that goes on with the next call.
-    literal: Option<Octets>,
+    literal: Option<LiteralOctets>,
 }
 
-impl Octets {
+impl LiteralOctets {
     /// Whether a call with so many bytes ends the command, too.
     pub(crate) fn ends_in(&self, len: usize) -> bool {
         len > self.total.saturating_sub(self.before)
     }
 }
 
-impl Sent {
+impl SentCommands {
     /// Nothing was sent.
-    pub(crate) fn new() -> Sent {
-        Sent {
+    pub(crate) fn new() -> SentCommands {
+        SentCommands {
             bytes: 0,
             counts: Counts::new(),
             literal: None,
@@ -92,7 +92,7 @@ impl Sent {
         {
             if let Some(total) = octets_asked(bytes) {
                 sending.ends = None;
-                self.literal = Some(Octets {
+                self.literal = Some(LiteralOctets {
                     append: number,
                     before: 0,
                     total,
@@ -103,10 +103,10 @@ impl Sent {
     }
 
     /// A literal goes on, and its command ends if something follows it.
-    fn go_on(&mut self, before: usize, len: usize, octets: Octets) -> Sending {
+    fn go_on(&mut self, before: usize, len: usize, octets: LiteralOctets) -> Sending {
         let ends = octets.ends_in(len);
         if !ends {
-            self.literal = Some(Octets {
+            self.literal = Some(LiteralOctets {
                 before: octets.before.saturating_add(len),
                 ..octets
             });

@@ -7,14 +7,14 @@ use std::marker::Model;
 
 /// What a server has said on a connection and was not received: what is left of its greeting, and of its replies.
 #[derive(Drop)]
-pub(crate) struct Unread {
+pub(crate) struct UnreadReplies {
     greeting: &'static [u8],
     replies: Vec<u8>,
     /// How many bytes of the replies were received.
     received: usize,
 }
 
-impl Model for Unread {
+impl Model for UnreadReplies {
     ghost use Rattle.std.specs.Prelude.{ℕ, List, ◌≤◌, ◌++◌, drop, length};
 
     ghost Value = { List ℕ };
@@ -24,12 +24,12 @@ impl Model for Unread {
     ghost invariant = { λ u. u.received ≤ length u.replies.items };
 }
 
-impl Unread {
+impl UnreadReplies {
     /// Nothing.
-    pub(crate) fn new(alloc: Global) -> Unread
+    pub(crate) fn new(alloc: Global) -> UnreadReplies
         ensures { result ≡ [] }
     {
-        Unread {
+        UnreadReplies {
             greeting: b"",
             replies: Vec::new(alloc),
             received: 0,

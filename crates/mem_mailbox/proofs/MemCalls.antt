@@ -25,7 +25,7 @@ use Rattle.mem_mailbox.specs.declared.mem_store.MemStore.{MemStore}
 -- ---- nobody else acts
 
 alone : (of : Side) {b b' : Mailbox} (does : Effect Mailbox) → does b b' → Follows (Arrives of every true) does b b'
-alone of {b} does h = record { mid = b; before = quiet of every true b; behind = h }
+alone of {b} does h = record { mid = b; before = quiet of every true b; following = h }
 
 -- ---- exits with a fault
 

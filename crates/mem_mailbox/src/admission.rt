@@ -10,20 +10,20 @@ use mailcore::mailbox::Message;
 use mailcore::uid::Uid;
 use std::alloc::AllocError;
 
-/// Gives the waiting files the UIDs from the next one on. `behind` is the one after theirs.
+/// Gives the waiting files the UIDs from the next one on. `following` is the one after theirs.
 pub(crate) fn admit(
     store: &mut MemStore,
     waiting: &mut Vec<Message>,
-    behind: u32,
+    following: u32,
 ) -> Result<(), AllocError>
-    requires behind { behind ≡ store.old.next + length waiting.old.items }
+    requires following { following ≡ store.old.next + length waiting.old.items }
     ensures ok { OnOk result (near_of store.new waiting.new.items ≡ all_admitted (near_of store.old waiting.old.items)) }
     ensures unsynced { OnOk result (store.new.is_synced ≡ false) }
     ensures err { OnErr result (near_of store.new waiting.new.items ≡ near_of store.old waiting.old.items) }
 {
     number_files(waiting, store.next);
     store.messages.append(waiting)?;
-    store.next = behind;
+    store.next = following;
     store.is_synced = false;
     Ok(())
 }

@@ -4,7 +4,7 @@ ghost use Rattle.std.specs.Prelude.{◌≡◌, ◌<◌, ◌^◌, false, OnOk, If
 ghost use Rattle.mem_mailbox.specs.BoxConditions.{Ends, Fails, Stops, out_of_memory, untouched};
 
 use device::DeviceFault;
-use device::schedule::{Moment, Scheduled, Stop};
+use device::schedule::{CallStop, Moment, Scheduled};
 use mailbox::fault::BoxFault;
 use std::marker::Model;
 
@@ -54,7 +54,7 @@ impl Model for BoxCondition {
 impl BoxCondition {
     /// Of a mailbox of which no call was made: these calls stop, and these are refused, at whatever moment. Of a call that is in both,
     /// the refusal acts. `sync` is not refused.
-    pub fn new(stops: Vec<Stop<BoxCall>>, refusals: Vec<Stop<BoxCall>>) -> Self
+    pub fn new(stops: Vec<CallStop<BoxCall>>, refusals: Vec<CallStop<BoxCall>>) -> Self
         ensures { result ≡ untouched }
     {
         BoxCondition {

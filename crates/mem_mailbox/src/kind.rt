@@ -5,7 +5,7 @@ ghost use Rattle.std.specs.Prelude.{◌≡◌};
 use mailcore::side::Side;
 
 /// Which mailbox of a pair a mailbox in memory is. It is the same for all values of a type.
-pub trait Kind {
+pub trait BoxKind {
     ghost use Rattle.mailcore.specs.declared.side.Side.{Side};
 
     /// Its side.
@@ -24,7 +24,7 @@ pub struct OfFar;
 #[derive(Drop)]
 pub struct OfNear;
 
-impl Kind for OfFar {
+impl BoxKind for OfFar {
     ghost use Rattle.mailcore.specs.declared.side.Side.TheVariants.{Far};
 
     ghost of = { Far };
@@ -34,7 +34,7 @@ impl Kind for OfFar {
     }
 }
 
-impl Kind for OfNear {
+impl BoxKind for OfNear {
     ghost use Rattle.mailcore.specs.declared.side.Side.TheVariants.{Near};
 
     ghost of = { Near };

@@ -7,7 +7,7 @@ ghost use Rattle.mem_mailbox.specs.Named.{AreWithin};
 
 use crate::admission::{above, admit};
 use crate::box_condition::{BoxCall, BoxCondition};
-use crate::kind::{Kind, OfFar, OfNear};
+use crate::kind::{BoxKind, OfFar, OfNear};
 use crate::mem_store::{MemStore, name_flags};
 use mailbox::fault::BoxFault;
 use mailbox::fault_number::NEAR_UIDS_EXHAUSTED;
@@ -168,7 +168,7 @@ fn keep(body: &mut Vec<u8>, loaded: Option<Vec<u8>>) -> bool
     }
 }
 
-impl<K: Kind + Drop> Mailbox for MemMailbox<K> {
+impl<K: BoxKind + Drop> Mailbox for MemMailbox<K> {
     ghost use Rattle.mem_mailbox.specs.MemMailboxes.{seen_of};
     ghost use Rattle.mem_mailbox.specs.Views.{every};
 
@@ -259,10 +259,10 @@ impl<K: Kind + Drop> Mailbox for MemMailbox<K> {
 
     fn admit(&mut self) -> Result<(), BoxFault> {
         let stops = self.condition.begin(BoxCall::Admit)?;
-        let Some(behind) = above(self.store.next(), self.waiting.len()) else {
+        let Some(following) = above(self.store.next(), self.waiting.len()) else {
             return Err(is_full(K::side()));
         };
-        let Ok(()) = admit(&mut self.store, &mut self.waiting, behind) else {
+        let Ok(()) = admit(&mut self.store, &mut self.waiting, following) else {
             return Err(self.condition.lack());
         };
         self.condition.end(stops, ())

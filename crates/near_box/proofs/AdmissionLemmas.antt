@@ -11,7 +11,7 @@ use Rattle.mailcore.specs.declared.mailbox.Message.{Message}
 use Rattle.mailcore.specs.Stores.{Waiting, numbered}
 use Rattle.maildir.specs.declared.folder.File.{File}
 use Rattle.maildir.specs.declared.folder.FileName.{FileName}
-use Rattle.near_box.specs.declared.survey.Entry.{Entry}
+use Rattle.near_box.specs.declared.survey.SurveyEntry.{SurveyEntry}
 use Rattle.near_box.specs.declared.survey.Survey.{Survey}
 use Rattle.maildir.specs.Folders.{Stored, AreApart, is_at, left, moved, name_of_file, renamed_file}
 use Rattle.mailcore.specs.Mailboxes.{Mailbox, all_admitted, some_admitted, AdmitsSome}
@@ -58,7 +58,7 @@ record Waits (files : List File) (file : File) (rest : List File) : Type 0 where
   back : List File
   parts : files ≡ front ++ file ∷ back
   before : All (λ x. name_of_file x ≡ name_of_file file → ⊥) front
-  behind : All (λ x. name_of_file x ≡ name_of_file file → ⊥) back
+  following : All (λ x. name_of_file x ≡ name_of_file file → ⊥) back
   others : sorted is_before (filter (λ f. is_waiting f.name) (front ++ back)) ≡ rest
 
 first_waits : (files : List File) (file : File) (rest : List File) → AreApart files → waiting_files files ≡ file ∷ rest → Waits files file rest
@@ -77,7 +77,7 @@ first_waits files file rest apart is =
       back = stands.back;
       parts = stands.parts;
       before = others.0;
-      behind = others.1;
+      following = others.1;
       others = ap (sorted is_before) (filter-append waits stands.front stands.back)
           ∙ sorted_rest is_before file (filter waits stands.front) (filter waits stands.back) rest (unlike stands.front others.0) (unlike stands.back others.1) (sym split ∙ is);
     }
@@ -106,7 +106,7 @@ turns keywords files file rest n is holds first =
     let itself : moved from to file ≡ new = rw (at_itself file) refl in
     let now : renamed_files files file n ≡ w.front ++ new ∷ w.back =
     ap (map (moved from to)) (stays ∙ w.parts) ∙ map-append (moved from to) w.front (file ∷ w.back)
-    ∙ rw (others_stay file to w.front w.before, others_stay file to w.back w.behind, itself) refl in
+    ∙ rw (others_stay file to w.front w.before, others_stay file to w.back w.following, itself) refl in
     let none = waiting_has_no_uid file.name w.waits in
     let g : Gains keywords files (renamed_files files file n) new n =
     subst (λ (l : List File). Gains keywords files l new n) (sym now)
@@ -150,12 +150,12 @@ first_turn keywords (suc k) n (file ∷ files) s waits within holds positive fit
     let more : First keywords s1 s2 files (n + 1) k = first_turn keywords k (n + 1) files s1 one.waiting (omega arith) one.holds (omega arith) (omega arith) in
     let same : n + 1 + k ≡ n + suc k = omega arith in
     let message : Message = record { uid = n; flags = flags_by_name keywords file.name; bytes = file.bytes } in
-    let entry : Entry = entry_at n (admitted (name_of_file file) n) in
+    let entry : SurveyEntry = entry_at n (admitted (name_of_file file) n) in
     record {
       holds = subst (λ (m : ℕ). Holds s2.files m) same more.holds;
       messages = more.messages ∙ ap (λ (ms : List Message). ms ++ numbered (n + 1) (take k (map (waiting_of keywords) files))) one.messages
           ∙ append_assoc (by_uid (messages_in keywords s.files)) (message ∷ []) (numbered (n + 1) (take k (map (waiting_of keywords) files)));
-      entries = more.entries ∙ ap (λ (es : List Entry). es ++ entries_from (n + 1) (take k (map name_of_file files))) one.entries
+      entries = more.entries ∙ ap (λ (es : List SurveyEntry). es ++ entries_from (n + 1) (take k (map name_of_file files))) one.entries
           ∙ append_assoc (entries_in s.files) (entry ∷ []) (entries_from (n + 1) (take k (map name_of_file files)));
       waiting = more.waiting;
       meta = more.meta;
@@ -227,7 +227,7 @@ module _ (survey : Survey) (fresh : ℕ) (keywords : List Keyword) (s : Stored) 
   admitted_surveys new extends =
       subst (λ (names : List FileName). Surveys new fresh keywords (admitted_all names survey.meta.next begun)) all
       (survey_from_holds new fresh keywords now (subst (λ (n : ℕ). Holds now.files n) (ap (λ m. m.next) (sym extends.meta)) first.holds) (first.is_there ∙ surveys.is_there)
-      (extends.entries ∙ ap (λ (es : List Entry). es ++ entries_from survey.meta.next survey.waiting.items) surveys.entries
+      (extends.entries ∙ ap (λ (es : List SurveyEntry). es ++ entries_from survey.meta.next survey.waiting.items) surveys.entries
       ∙ ap (λ (names : List FileName). entries_in s.files ++ entries_from survey.meta.next names) (sym all ∙ ap (take (length survey.waiting.items)) surveys.waiting) ∙ sym first.entries)
       (extends.waiting ∙ ap (map name_of_file) (sym (first.waiting ∙ none_left)))
       (ap (meta_in fresh) first.meta ∙ raised_is_read survey.meta (length survey.waiting.items) fits room ∙ ap Some (sym extends.meta))

@@ -2,7 +2,7 @@
 use Rattle.std.proofs.Common.{◌≡◌, ℕ, zero, suc, ◌+◌, ◌<◌, ◌⊎◌, List, [], ◌∷◌, ◌++◌, length, get_or, take, sym, ap, ◌∙◌, inl, inr, add-one, append_assoc, arith}
 use Rattle.maildir.specs.declared.folder.FileName.{FileName}
 use Rattle.maildir.specs.declared.meta.Meta.{Meta}
-use Rattle.near_box.specs.declared.survey.Entry.{Entry}
+use Rattle.near_box.specs.declared.survey.SurveyEntry.{SurveyEntry}
 use Rattle.maildir.specs.Folders.{Stored, renamed_file}
 use Rattle.near_box.specs.Surveys.{entries_from, entry_at}
 use Rattle.near_box.specs.NearEffects.{admitted, admitted_all, set_aside_all, Admitting}
@@ -42,16 +42,16 @@ entries_more files i uid n file below is number = rw (add-one i) (by_index files
     by_index [] i uid below is number = absurd (omega arith)
     by_index (x ∷ files) zero uid below is number =
         let same : uid ≡ n = omega arith in
-        ap (λ (f : FileName). let l : List Entry = entry_at uid (admitted f uid) ∷ [] in l) (sym is) ∙ ap (λ (k : ℕ). let l : List Entry = entry_at k (admitted file k) ∷ [] in l) same
+        ap (λ (f : FileName). let l : List SurveyEntry = entry_at uid (admitted f uid) ∷ [] in l) (sym is) ∙ ap (λ (k : ℕ). let l : List SurveyEntry = entry_at k (admitted file k) ∷ [] in l) same
     by_index (x ∷ files) (suc i) uid below is number =
-        ap (λ (es : List Entry). entry_at uid (admitted x uid) ∷ es) (by_index files i (uid + 1) (omega arith) is (omega arith))
+        ap (λ (es : List SurveyEntry). entry_at uid (admitted x uid) ∷ es) (by_index files i (uid + 1) (omega arith) is (omega arith))
 
-pub entries_so_far : (old before after : List Entry) (files : List FileName) (i uid n : ℕ) (file : FileName) → i < length files → file ≡ get_or files i file → n ≡ uid + i
+pub entries_so_far : (old before after : List SurveyEntry) (files : List FileName) (i uid n : ℕ) (file : FileName) → i < length files → file ≡ get_or files i file → n ≡ uid + i
     → before ≡ old ++ entries_from uid (take i files) → after ≡ before ++ entry_at n (admitted file n) ∷ [] → after ≡ old ++ entries_from uid (take (i + 1) files)
 entries_so_far old before after files i uid n file below is number so_far more =
-    more ∙ ap (λ (es : List Entry). es ++ entry_at n (admitted file n) ∷ []) so_far
+    more ∙ ap (λ (es : List SurveyEntry). es ++ entry_at n (admitted file n) ∷ []) so_far
     ∙ append_assoc old (entries_from uid (take i files)) (entry_at n (admitted file n) ∷ [])
-    ∙ ap (λ (es : List Entry). old ++ es) (sym (entries_more files i uid n file below is number))
+    ∙ ap (λ (es : List SurveyEntry). old ++ es) (sym (entries_more files i uid n file below is number))
 
 -- and they are renamed
 pub renamed_so_far : (s before after : Stored) (files : List FileName) (i uid n : ℕ) (file : FileName) → i < length files → file ≡ get_or files i file → n ≡ uid + i

@@ -9,7 +9,7 @@ use Rattle.mailcore.specs.KeywordNames.{kept}
 use Rattle.maildir.specs.declared.folder.File.{File}
 use Rattle.maildir.specs.declared.folder.FileName.{FileName}
 use Rattle.maildir.specs.declared.folder.Place.TheVariants.{Cur}
-use Rattle.near_box.specs.declared.survey.Entry.{Entry}
+use Rattle.near_box.specs.declared.survey.SurveyEntry.{SurveyEntry}
 use Rattle.near_box.specs.declared.survey.Survey.{Survey}
 use Rattle.maildir.specs.Folders.{Stored, AreApart, without, name_of_file}
 use Rattle.mailcore.specs.Mailboxes.{on_store, delivered, SetsAside}
@@ -89,7 +89,7 @@ module _ (survey : Survey) (fresh : ℕ) (keywords : List Keyword) (s : Stored) 
         → Surveys new fresh keywords (appended keywords survey.meta bytes flags s)
     appended_surveys new extends =
         survey_from_holds new fresh keywords (appended keywords survey.meta bytes flags s) (subst (λ (n : ℕ). Holds (appended keywords survey.meta bytes flags s).files n) (ap (λ m. m.next) (sym extends.meta)) is_added.holds) surveys.is_there
-        (extends.entries ∙ ap (λ (es : List Entry). es ++ entry_at survey.meta.next (copy_at keywords survey flags) ∷ []) surveys.entries ∙ sym is_added.entries)
+        (extends.entries ∙ ap (λ (es : List SurveyEntry). es ++ entry_at survey.meta.next (copy_at keywords survey flags) ∷ []) surveys.entries ∙ sym is_added.entries)
         (extends.waiting ∙ surveys.waiting ∙ ap (map name_of_file) (sym same_wait))
         (raised_is_read survey.meta 1 fits room ∙ ap Some (sym extends.meta)) (sym extends.has_meta)
         (marks_after (delivered bytes (kept keywords flags) (near_of fresh keywords s)) (near_of fresh keywords (appended keywords survey.meta bytes flags s)) survey.marks new.marks appended_near extends.marks

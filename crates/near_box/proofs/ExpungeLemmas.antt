@@ -17,7 +17,7 @@ use Rattle.maildir.specs.declared.folder.FileName.{FileName}
 use Rattle.maildir.specs.declared.folder.Location.{Location}
 use Rattle.maildir.specs.declared.meta.Meta.{Meta}
 use Rattle.near_box.specs.declared.near_fault.NearFault.{NearFault}
-use Rattle.near_box.specs.declared.survey.Entry.{Entry}
+use Rattle.near_box.specs.declared.survey.SurveyEntry.{SurveyEntry}
 use Rattle.near_box.specs.declared.survey.Survey.{Survey}
 use Rattle.maildir.specs.Folders.{Removes, Stored, is_left, name_at, name_of_file, removed_file}
 use Rattle.maildir.specs.Names.{uid_in, is_waiting, is_one_of}
@@ -136,7 +136,7 @@ without_nowhere uid s none =
     ap (λ (files : List File). let t : Stored = record s { files = files } in t)
     (filter_all (stays_file (uid ∷ [])) s.files (All-weaker (λ x. is_one_of (uid ∷ []) (uid_in x.name) ≡ false) (λ x. stays_file (uid ∷ []) x ≡ true) (λ x e. ap not e) s.files none))
 
-module _ (survey : Survey) (fresh : ℕ) (keywords : List Keyword) (s : Stored) (surveys : Surveys survey fresh keywords s) (i : ℕ) (entry : Entry) (there : slice_get survey.entries.items i ≡ Some entry) where
+module _ (survey : Survey) (fresh : ℕ) (keywords : List Keyword) (s : Stored) (surveys : Surveys survey fresh keywords s) (i : ℕ) (entry : SurveyEntry) (there : slice_get survey.entries.items i ≡ Some entry) where
   -- the removal of its file removes the message
   pub removal_is_expunge : removed_file (file_of entry) s ≡ without_uids (entry.uid ∷ []) s
   removal_is_expunge =
@@ -155,14 +155,14 @@ module _ (survey : Survey) (fresh : ℕ) (keywords : List Keyword) (s : Stored) 
   does_removal uid file own at s' (inr (inl done)) = inr (inl (done_removal uid (name_at file) own at s' done.now))
   does_removal uid file own at s' (inr (inr never)) = absurd never
 
-  abbrev stays_entry : Entry → Bool
+  abbrev stays_entry : SurveyEntry → Bool
   stays_entry e = not (eqb e.uid entry.uid)
 
-  same_entry : (file : File) (e : Entry) → entry_of file ≡ Some e → stays_file (entry.uid ∷ []) file ≡ stays_entry e
+  same_entry : (file : File) (e : SurveyEntry) → entry_of file ≡ Some e → stays_file (entry.uid ∷ []) file ≡ stays_entry e
   same_entry file e is = by_case (uid_in file.name) refl
     where
-      as_entry : Option ℕ → Option Entry
-      as_entry o = option_map (λ uid. let n : Entry = record { uid = uid; place = file.place; name = file.name } in n) o
+      as_entry : Option ℕ → Option SurveyEntry
+      as_entry o = option_map (λ uid. let n : SurveyEntry = record { uid = uid; place = file.place; name = file.name } in n) o
 
       own_uid : (u : ℕ) → as_entry (Some u) ≡ Some e → u ≡ e.uid
       own_uid u f = cc
@@ -187,7 +187,7 @@ module _ (survey : Survey) (fresh : ℕ) (keywords : List Keyword) (s : Stored) 
       let is : s' ≡ after = now ∙ removal_is_expunge in
       let kept : new.entries.items ≡ filter stays_entry survey.entries.items =
       items
-      ∙ subst (λ (e : Entry). remove survey.entries.items i ≡ filter (λ x. not (eqb x.uid e.uid)) survey.entries.items) (get_or_from_slice_get survey.entries.items i entry entry there)
+      ∙ subst (λ (e : SurveyEntry). remove survey.entries.items i ≡ filter (λ x. not (eqb x.uid e.uid)) survey.entries.items) (get_or_from_slice_get survey.entries.items i entry entry there)
       (remove_by_key (λ e. e.uid) survey.entries.items surveys.rising i entry (entry_within survey fresh keywords s surveys i entry there)) in
       let sorted_so : entries_in after.files ≡ filter stays_entry (entries_in s.files) =
       ap (sorted (λ a b. ltb a.uid b.uid)) (filter_map-filtered entry_of (stays_file (entry.uid ∷ [])) stays_entry same_entry s.files)
@@ -196,8 +196,8 @@ module _ (survey : Survey) (fresh : ℕ) (keywords : List Keyword) (s : Stored) 
         is_there = surveys.is_there;
         apart = AllPairs-filter (λ a b. name_of_file a ≡ name_of_file b → ⊥) (stays_file (entry.uid ∷ [])) s.files surveys.apart;
         entries = kept ∙ ap (filter stays_entry) surveys.entries ∙ sym sorted_so;
-        rising = subst (λ (l : List Entry). AllPairs (λ a b. a.uid < b.uid) l) (sym kept) (AllPairs-filter (λ a b. a.uid < b.uid) stays_entry survey.entries.items surveys.rising);
-        below = subst (λ (l : List Entry). All (λ e. e.uid < new.meta.next) l) (sym kept)
+        rising = subst (λ (l : List SurveyEntry). AllPairs (λ a b. a.uid < b.uid) l) (sym kept) (AllPairs-filter (λ a b. a.uid < b.uid) stays_entry survey.entries.items surveys.rising);
+        below = subst (λ (l : List SurveyEntry). All (λ e. e.uid < new.meta.next) l) (sym kept)
             (subst (λ (m : Meta). All (λ e. e.uid < m.next) (filter stays_entry survey.entries.items)) (sym meta) (All-filter stays_entry (λ e. e.uid < survey.meta.next) survey.entries.items surveys.below));
         waiting = waiting ∙ surveys.waiting ∙ ap (map name_of_file) (sym (waiting-without (entry.uid ∷ []) s.files));
         meta = surveys.meta ∙ ap Some (sym meta);
@@ -235,7 +235,7 @@ entries_stay uids (x ∷ files) stay =
     by_uid (uid_in x.name) (All-head (λ x. stays_file uids x ≡ true) x files stay) (entries_stay uids files (All-tail (λ x. stays_file uids x ≡ true) x files stay))
   where
     by_uid : (u : Option ℕ) → not (is_one_of uids u) ≡ true → All (λ e. not (list_any (λ v. eqb e.uid v) uids) ≡ true) (filter_map entry_of files)
-        → All (λ e. not (list_any (λ v. eqb e.uid v) uids) ≡ true) (cons_option (option_map (λ uid. let e : Entry = record { uid = uid; place = x.place; name = x.name } in e) u) (filter_map entry_of files))
+        → All (λ e. not (list_any (λ v. eqb e.uid v) uids) ≡ true) (cons_option (option_map (λ uid. let e : SurveyEntry = record { uid = uid; place = x.place; name = x.name } in e) u) (filter_map entry_of files))
     by_uid None stays more = more
     by_uid (Some uid) stays more = All-cons (λ e. not (list_any (λ v. eqb e.uid v) uids) ≡ true) (record { uid = uid; place = x.place; name = x.name }) (filter_map entry_of files) stays more
 
@@ -245,6 +245,6 @@ none_named survey fresh keywords s surveys uids k uid within is same =
     All-weaker (λ e. not (list_any (λ v. eqb e.uid v) uids) ≡ true) (λ e. e.uid ≡ uid → ⊥)
     (λ e stays own. false≢true (sym (ap (λ (u : ℕ). not (list_any (λ v. eqb u v) uids)) own ∙ ap not (named_at uids k uid within is)) ∙ stays))
     survey.entries.items
-    (subst (λ (l : List Entry). All (λ e. not (list_any (λ v. eqb e.uid v) uids) ≡ true) l) (sym surveys.entries)
+    (subst (λ (l : List SurveyEntry). All (λ e. not (list_any (λ v. eqb e.uid v) uids) ≡ true) l) (sym surveys.entries)
     (All-permutation (λ e. not (list_any (λ v. eqb e.uid v) uids) ≡ true) (filter_map entry_of s.files) (entries_in s.files) (sorted_permutes _ (filter_map entry_of s.files))
     (entries_stay uids s.files (filter_stays (stays_file uids) s.files (ap (λ (t : Stored). t.files) same)))))

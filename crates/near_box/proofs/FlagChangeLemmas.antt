@@ -17,7 +17,7 @@ use Rattle.maildir.specs.declared.folder.File.{File}
 use Rattle.maildir.specs.declared.folder.FileName.{FileName}
 use Rattle.maildir.specs.declared.meta.Meta.{Meta}
 use Rattle.near_box.specs.declared.near_fault.NearFault.{NearFault}
-use Rattle.near_box.specs.declared.survey.Entry.{Entry}
+use Rattle.near_box.specs.declared.survey.SurveyEntry.{SurveyEntry}
 use Rattle.near_box.specs.declared.survey.Survey.{Survey}
 use Rattle.maildir.specs.Folders.{Stored, AreApart, is_at, is_left, left, moved, name_of_file}
 use Rattle.maildir.specs.Letters.{flags_in}
@@ -96,10 +96,10 @@ name-under : (file : File) (name : Option (List ℕ)) → (under_name file name)
 name-under file None = refl
 name-under file (Some name) = refl
 
-abbrev entry_with : ℕ → File → Entry
+abbrev entry_with : ℕ → File → SurveyEntry
 entry_with uid file = record { uid = uid; place = file.place; name = file.name }
 
-abbrev pub entry_under : Entry → Option (List ℕ) → Entry
+abbrev pub entry_under : SurveyEntry → Option (List ℕ) → SurveyEntry
 entry_under entry None = entry
 entry_under entry (Some name) = record { uid = entry.uid; place = Cur; name = name }
 
@@ -116,11 +116,11 @@ message_of-under keywords file (Some name) uid flags has bears = rw (has, bears)
 
 module _ (keywords : List Keyword) (change : ℕ → ℕ) where
   -- the entry of a message whose flags are changed
-  abbrev pub reflagged_entry : Entry → Entry
+  abbrev pub reflagged_entry : SurveyEntry → SurveyEntry
   reflagged_entry entry = entry_under entry (name_flagged keywords entry.name (change (flags_by_name keywords entry.name)))
 
   module _ (uid : ℕ) where
-    abbrev with_file : Entry → Entry
+    abbrev with_file : SurveyEntry → SurveyEntry
     with_file entry = cond (eqb entry.uid uid) (reflagged_entry entry) entry
 
     untouched : (file : File) → is_one_of (uid ∷ []) (uid_in file.name) ≡ false → flagged_file keywords change uid file ≡ file
@@ -227,7 +227,7 @@ module _ (keywords : List Keyword) (change : ℕ → ℕ) where
 
 -- ---- the file of a message, as a survey knows it
 
-module _ (survey : Survey) (fresh : ℕ) (keywords : List Keyword) (s : Stored) (surveys : Surveys survey fresh keywords s) (i : ℕ) (entry : Entry) (there : slice_get survey.entries.items i ≡ Some entry) where
+module _ (survey : Survey) (fresh : ℕ) (keywords : List Keyword) (s : Stored) (surveys : Surveys survey fresh keywords s) (i : ℕ) (entry : SurveyEntry) (there : slice_get survey.entries.items i ≡ Some entry) where
   abbrev name_with : ℕ → Option (List ℕ)
   name_with flags = name_flagged keywords entry.name flags
 
@@ -311,7 +311,7 @@ module _ (survey : Survey) (fresh : ℕ) (keywords : List Keyword) (s : Stored) 
   flagged_apart change =
       subst (λ (t : Stored). AreApart t.files) (rename_is_change change (change (flags_by_name keywords entry.name)) refl) (apart_renamed (name_with (change (flags_by_name keywords entry.name))))
 
-  uid-with_file : (change : ℕ → ℕ) (e : Entry) → (with_file keywords change entry.uid e).uid ≡ e.uid
+  uid-with_file : (change : ℕ → ℕ) (e : SurveyEntry) → (with_file keywords change entry.uid e).uid ≡ e.uid
   uid-with_file change e = by_test (eqb e.uid entry.uid) (name_flagged keywords e.name (change (flags_by_name keywords e.name)))
     where
       by_test : (b : Bool) (n : Option (List ℕ)) → (cond b (entry_under e n) e).uid ≡ e.uid
@@ -330,10 +330,10 @@ module _ (survey : Survey) (fresh : ℕ) (keywords : List Keyword) (s : Stored) 
       let kept : flagged_files keywords change entry.uid s ≡ s = subst (λ (u : ℕ). flagged_files keywords change u s ≡ s) (sym own) same in
       let mapped : map (with_file keywords change entry.uid) survey.entries.items ≡ survey.entries.items =
       ap (map (with_file keywords change entry.uid)) surveys.entries ∙ sym (entries_flagged change) ∙ ap (λ (t : Stored). entries_in t.files) kept ∙ sym surveys.entries in
-      let at : (d : Entry) → get_or survey.entries.items i d ≡ entry = λ d. get_or_from_slice_get survey.entries.items i entry d there in
+      let at : (d : SurveyEntry) → get_or survey.entries.items i d ≡ entry = λ d. get_or_from_slice_get survey.entries.items i entry d there in
       let stays : with_file keywords change entry.uid entry ≡ entry =
       ap (with_file keywords change entry.uid) (sym (at entry)) ∙ sym (get_or-map (with_file keywords change entry.uid) survey.entries.items i entry entry (entry_within survey fresh keywords s surveys i entry there))
-      ∙ ap (λ (l : List Entry). get_or l i entry) mapped ∙ at entry in
+      ∙ ap (λ (l : List SurveyEntry). get_or l i entry) mapped ∙ at entry in
       ap (name_flagged keywords entry.name) is
       ∙ by_case (name_flagged keywords entry.name (change (flags_by_name keywords entry.name))) refl
       (subst (λ (b : Bool). cond b (reflagged_entry keywords change entry) entry ≡ entry) (eq-eqb entry.uid entry.uid refl) stays)
@@ -342,7 +342,7 @@ module _ (survey : Survey) (fresh : ℕ) (keywords : List Keyword) (s : Stored) 
       by_case None e stays = e
       by_case (Some name) e stays =
           absurd (other_name keywords entry.name name (change (flags_by_name keywords entry.name)) e
-          (ap (λ (x : Entry). x.name) (sym stays ∙ ap (entry_under entry) e)))
+          (ap (λ (x : SurveyEntry). x.name) (sym stays ∙ ap (entry_under entry) e)))
 
   -- the survey after the rename
   pub surveys_renamed : (flags : ℕ) (new : Survey) (s' : Stored) → s' ≡ set_name (file_of entry) (name_flagged keywords entry.name flags) s
@@ -353,17 +353,17 @@ module _ (survey : Survey) (fresh : ℕ) (keywords : List Keyword) (s : Stored) 
       let seen : ℕ → ℕ = λ n. kept keywords flags in
       let after : Stored = flagged_files keywords change entry.uid s in
       let is : s' ≡ after = now ∙ rename_is_change change flags refl in
-      let own : (d : Entry) → get_or survey.entries.items i d ≡ entry = λ d. get_or_from_slice_get survey.entries.items i entry d there in
+      let own : (d : SurveyEntry) → get_or survey.entries.items i d ≡ entry = λ d. get_or_from_slice_get survey.entries.items i entry d there in
       let mapped : new.entries.items ≡ map (with_file keywords change entry.uid) survey.entries.items =
       items
-      ∙ subst (λ (e : Entry). set survey.entries.items i (reflagged_entry keywords change e) ≡ map (λ x. cond (eqb x.uid e.uid) (reflagged_entry keywords change x) x) survey.entries.items) (own entry)
+      ∙ subst (λ (e : SurveyEntry). set survey.entries.items i (reflagged_entry keywords change e) ≡ map (λ x. cond (eqb x.uid e.uid) (reflagged_entry keywords change x) x) survey.entries.items) (own entry)
       (set_by_key (λ e. e.uid) (reflagged_entry keywords change) survey.entries.items surveys.rising i entry (entry_within survey fresh keywords s surveys i entry there)) in
       subst (λ (t : Stored). Surveys new fresh keywords t) (sym is) (record {
         is_there = surveys.is_there;
         apart = subst (λ (t : Stored). AreApart t.files) (rename_is_change change flags refl) (apart_renamed (name_with flags));
         entries = mapped ∙ ap (map (with_file keywords change entry.uid)) surveys.entries ∙ sym (entries_flagged change);
-        rising = subst (λ (l : List Entry). AllPairs (λ a b. a.uid < b.uid) l) (sym mapped) (rise_mapped change);
-        below = subst (λ (l : List Entry). All (λ e. e.uid < new.meta.next) l) (sym mapped)
+        rising = subst (λ (l : List SurveyEntry). AllPairs (λ a b. a.uid < b.uid) l) (sym mapped) (rise_mapped change);
+        below = subst (λ (l : List SurveyEntry). All (λ e. e.uid < new.meta.next) l) (sym mapped)
             (All-map (λ e. e.uid < new.meta.next) (with_file keywords change entry.uid) survey.entries.items
             (All-weaker (λ e. e.uid < survey.meta.next) (λ e. (with_file keywords change entry.uid e).uid < new.meta.next)
             (λ e low. let same = uid-with_file change e in let next = ap (λ (m : Meta). m.next) meta in omega arith)
@@ -379,6 +379,6 @@ module _ (survey : Survey) (fresh : ℕ) (keywords : List Keyword) (s : Stored) 
       rise_mapped change = λ p q d less below.
           let size : length (map (with_file keywords change entry.uid) survey.entries.items) ≡ length survey.entries.items = length-map survey.entries.items (with_file keywords change entry.uid) in
           let low = surveys.rising p q d less (omega arith) in
-          let first = ap (λ (e : Entry). e.uid) (get_or-map (with_file keywords change entry.uid) survey.entries.items p d d (omega arith)) ∙ uid-with_file change (get_or survey.entries.items p d) in
-          let second = ap (λ (e : Entry). e.uid) (get_or-map (with_file keywords change entry.uid) survey.entries.items q d d (omega arith)) ∙ uid-with_file change (get_or survey.entries.items q d) in
+          let first = ap (λ (e : SurveyEntry). e.uid) (get_or-map (with_file keywords change entry.uid) survey.entries.items p d d (omega arith)) ∙ uid-with_file change (get_or survey.entries.items p d) in
+          let second = ap (λ (e : SurveyEntry). e.uid) (get_or-map (with_file keywords change entry.uid) survey.entries.items q d d (omega arith)) ∙ uid-with_file change (get_or survey.entries.items q d) in
           omega arith

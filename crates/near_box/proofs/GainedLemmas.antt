@@ -20,7 +20,7 @@ use Rattle.maildir.proofs.GainLemmas.{apart_gained}
 use Rattle.maildir.proofs.PermutedLemmas.{picked_in_any_order}
 use Rattle.near_box.specs.declared.near_fault.NearFault.{NearFault}
 use Rattle.near_box.specs.declared.near_fault.NearFault.TheVariants.{Stopped, Absent, TwoWithOneUid, BadMeta, UidsExhausted, NoMemory}
-use Rattle.near_box.specs.NearContracts.{TellsWhy}
+use Rattle.near_box.specs.NearContracts.{ReportsWhy}
 use Rattle.near_box.specs.Mailboxes.{AreDistinct, IsMailbox, by_uid, message_of, messages_in, meta_at, meta_in, near_of, store_of, uids_in}
 use Rattle.near_box.proofs.MailboxLemmas.{mailbox_store, store_mailbox}
 use Rattle.near_box.proofs.NewNameLemmas.{waiting_has_no_uid}
@@ -48,12 +48,12 @@ kept_messages keywords v s s' gains =
 -- ---- files that follow the others
 
 messages_added : (keywords : List Keyword) (v : Visitors) (s s' : Stored) → Adds v s s' → messages_in keywords s'.files ≡ messages_in keywords s.files
-messages_added keywords v s s' adds = ap (messages_in keywords) adds.behind ∙ kept_messages keywords v s s' adds.gains
+messages_added keywords v s s' adds = ap (messages_in keywords) adds.following ∙ kept_messages keywords v s s' adds.gains
 
 uids_added : (v : Visitors) (s s' : Stored) → Adds v s s' → uids_in s'.files ≡ uids_in s.files
 uids_added v s s' adds =
     let uid : File → Option ℕ = λ file. uid_in file.name in
-    ap uids_in adds.behind
+    ap uids_in adds.following
     ∙ filter_map-append uid s.files adds.gains.more
     ∙ ap (λ (l : List ℕ). uids_in s.files ++ l) (none_picked uid adds.gains.more
     (All-weaker (IsArrival v.ours s.files) (λ y. uid y ≡ None) (λ y a. waiting_has_no_uid y.name a.waits) adds.gains.more adds.gains.arrivals))
@@ -68,12 +68,12 @@ store_added v fresh keywords s s' adds =
     ∙ ap (λ (l : List Message). let x : Store = record { validity = (meta_at fresh s).validity; next = (meta_at fresh s).next; messages = by_uid l } in x) (messages_added keywords v s s' adds)
 
 -- why a folder holds no mailbox, it did before
-pub told_before : (v : Visitors) (fresh : ℕ) (s s' : Stored) (fault : NearFault) → Adds v s s' → TellsWhy fresh s' fault → TellsWhy fresh s fault
-told_before v fresh s s' Stopped adds why = tt
-told_before v fresh s s' Absent adds why = sym adds.gains.is_there ∙ why
-told_before v fresh s s' TwoWithOneUid adds why =
+pub reported_before : (v : Visitors) (fresh : ℕ) (s s' : Stored) (fault : NearFault) → Adds v s s' → ReportsWhy fresh s' fault → ReportsWhy fresh s fault
+reported_before v fresh s s' Stopped adds why = tt
+reported_before v fresh s s' Absent adds why = sym adds.gains.is_there ∙ why
+reported_before v fresh s s' TwoWithOneUid adds why =
     (sym adds.gains.is_there ∙ why.0, λ once. why.1 (subst AreDistinct (sym (uids_added v s s' adds)) once))
-told_before v fresh s s' BadMeta adds why = (
+reported_before v fresh s s' BadMeta adds why = (
   sym adds.gains.is_there ∙ why.0,
   subst AreDistinct (uids_added v s s' adds) why.1,
   λ has. why.2 (record {
@@ -82,8 +82,8 @@ told_before v fresh s s' BadMeta adds why = (
     below = subst (All (λ (uid : ℕ). uid < has.meta.next)) (sym (uids_added v s s' adds)) has.below;
   }),
 )
-told_before v fresh s s' UidsExhausted adds why = absurd why
-told_before v fresh s s' NoMemory adds why = tt
+reported_before v fresh s s' UidsExhausted adds why = absurd why
+reported_before v fresh s s' NoMemory adds why = tt
 
 -- ---- in any order
 

@@ -12,7 +12,7 @@ use Rattle.mailcore.specs.Operations.{with_flags, flagged, expunged}
 use Rattle.mailcore.specs.Stores.{Store, Waiting, numbered}
 use Rattle.near_box.specs.declared.known_mark.KnownMark.{KnownMark}
 use Rattle.near_box.specs.declared.known_mark.KnownMarks.{KnownMarks}
-use Rattle.near_box.specs.declared.survey.Entry.{Entry}
+use Rattle.near_box.specs.declared.survey.SurveyEntry.{SurveyEntry}
 use Rattle.near_box.specs.Entries.{AreRising, bytes_in, message_at}
 use Rattle.near_box.specs.KnownMarks.{AreMarksAmong, AreMarksOf, AreMarksOfFile, IsMarkAmong, mark_at}
 use Rattle.mailcore.specs.Mailboxes.{Mailbox, some_admitted, delivered}
@@ -116,7 +116,7 @@ marks_after n n' known now same kept are =
 
 -- ---- marks of files that are read
 
-pub known_of_file : (keywords : List Keyword) (s : Stored) (es : List Entry) (i : ℕ) (entry : Entry) (next : ℕ) (known : List KnownMark) → i < length es → entry ≡ get_or es i entry
+pub known_of_file : (keywords : List Keyword) (s : Stored) (es : List SurveyEntry) (i : ℕ) (entry : SurveyEntry) (next : ℕ) (known : List KnownMark) → i < length es → entry ≡ get_or es i entry
     → AreMarksAmong next (map (message_at keywords s) es) known → AreMarksOfFile s entry known
 known_of_file keywords s es i entry next known below is are =
     All-weaker (IsMarkAmong next (map (message_at keywords s) es)) (λ k. entry.uid ≡ k.uid → mark_of (bytes_in s entry) ≡ k.mark)
@@ -125,19 +125,19 @@ known_of_file keywords s es i entry next known below is are =
     subst (Bears k) (get_or-map (message_at keywords s) es i entry m below ∙ ap (message_at keywords s) (sym is)) (marks.marks i m (omega (arith, below, length-map es (message_at keywords s)))))
     known are
 
-pub mark_of_file : (keywords : List Keyword) (s : Stored) (es : List Entry) (i : ℕ) (entry : Entry) (next : ℕ) → i < length es → entry ≡ get_or es i entry → AreRising es → All (λ e. e.uid < next) es
+pub mark_of_file : (keywords : List Keyword) (s : Stored) (es : List SurveyEntry) (i : ℕ) (entry : SurveyEntry) (next : ℕ) → i < length es → entry ≡ get_or es i entry → AreRising es → All (λ e. e.uid < next) es
     → IsMarkAmong next (map (message_at keywords s) es) (mark_at s entry)
 mark_of_file keywords s es i entry next below is rising within = record {
-  below = subst (λ (e : Entry). e.uid < next) (sym is) (within i entry below);
+  below = subst (λ (e : SurveyEntry). e.uid < next) (sym is) (within i entry below);
   marks = All-map (Bears (mark_at s entry)) (message_at keywords s) es
       (λ j d there same.
-      let here : i ≡ j = one_place (λ e. e.uid) es rising i j d below there (ap (λ (e : Entry). e.uid) (get_or_default es i d entry below ∙ sym is) ∙ sym same) in
-      ap (λ (e : Entry). mark_of (bytes_in s e)) (ap (λ (k : ℕ). get_or es k d) (sym here) ∙ get_or_default es i d entry below ∙ sym is));
+      let here : i ≡ j = one_place (λ e. e.uid) es rising i j d below there (ap (λ (e : SurveyEntry). e.uid) (get_or_default es i d entry below ∙ sym is) ∙ sym same) in
+      ap (λ (e : SurveyEntry). mark_of (bytes_in s e)) (ap (λ (k : ℕ). get_or es k d) (sym here) ∙ get_or_default es i d entry below ∙ sym is));
 }
 
 -- an entry is the one message between those before it and itself
-pub only_entry : (keywords : List Keyword) (s : Stored) (es : List Entry) (k : ℕ) (entry : Entry) (below : ℕ) (mark : Option (List ℕ)) → k < length es → entry ≡ get_or es k entry → AreRising es
-    → ((j : ℕ) (d : Entry) → j < k → (get_or es j d).uid < below) → mark ≡ mark_of (bytes_in s entry)
+pub only_entry : (keywords : List Keyword) (s : Stored) (es : List SurveyEntry) (k : ℕ) (entry : SurveyEntry) (below : ℕ) (mark : Option (List ℕ)) → k < length es → entry ≡ get_or es k entry → AreRising es
+    → ((j : ℕ) (d : SurveyEntry) → j < k → (get_or es j d).uid < below) → mark ≡ mark_of (bytes_in s entry)
     → All (λ m. below ≤ m.uid → m.uid ≤ entry.uid → mark_of m.bytes ≡ mark) (map (message_at keywords s) es)
 only_entry keywords s es k entry below mark here is rising before same =
     All-map (λ m. below ≤ m.uid → m.uid ≤ entry.uid → mark_of m.bytes ≡ mark) (message_at keywords s) es (λ j d there up under.
@@ -145,7 +145,7 @@ only_entry keywords s es k entry below mark here is rising before same =
     elim (cases_lt j k) [
       | inl less ↦ absurd (let low = before j d less in omega (arith, low, up))
       | inr least ↦ elim (cases_lt k j) [
-        | inl more ↦ absurd (let above = rising k j d more there in let uid : (get_or es k d).uid ≡ entry.uid = ap (λ (e : Entry). e.uid) own in omega (arith, above, uid, under))
-        | inr most ↦ ap (λ (e : Entry). mark_of (bytes_in s e)) (ap (λ (n : ℕ). get_or es n d) (let at : j ≡ k = omega (arith, least, most) in at) ∙ own) ∙ sym same
+        | inl more ↦ absurd (let above = rising k j d more there in let uid : (get_or es k d).uid ≡ entry.uid = ap (λ (e : SurveyEntry). e.uid) own in omega (arith, above, uid, under))
+        | inr most ↦ ap (λ (e : SurveyEntry). mark_of (bytes_in s e)) (ap (λ (n : ℕ). get_or es n d) (let at : j ≡ k = omega (arith, least, most) in at) ∙ own) ∙ sym same
       ]
     ])

@@ -15,7 +15,7 @@ use Rattle.mailcore.specs.declared.listing.Listing.{Listing}
 use Rattle.near_box.specs.declared.near_fault.NearFault.{NearFault}
 use Rattle.maildir.specs.declared.folder.File.{File}
 use Rattle.maildir.specs.declared.meta.Meta.{Meta}
-use Rattle.near_box.specs.declared.survey.Entry.{Entry}
+use Rattle.near_box.specs.declared.survey.SurveyEntry.{SurveyEntry}
 use Rattle.near_box.specs.declared.survey.Survey.{Survey}
 use Rattle.maildir.specs.Folders.{Stored, AreApart, is_at, bytes_at, name_of_file}
 use Rattle.maildir.specs.Names.{uid_in}
@@ -61,7 +61,7 @@ message_of_entry : (keywords : List Keyword) (s : Stored) (file : File) → IsTh
 message_of_entry keywords s file there = by_uid_of (uid_in file.name)
   where
     by_uid_of : (uid : Option ℕ) → option_map (λ uid. let m : Message = record { uid = uid; flags = flags_by_name keywords file.name; bytes = file.bytes } in m) uid
-        ≡ option_map (message_at keywords s) (option_map (λ uid. let e : Entry = record { uid = uid; place = file.place; name = file.name } in e) uid)
+        ≡ option_map (message_at keywords s) (option_map (λ uid. let e : SurveyEntry = record { uid = uid; place = file.place; name = file.name } in e) uid)
     by_uid_of None = refl
     by_uid_of (Some uid) = rw there refl
 
@@ -71,7 +71,7 @@ messages_of_entries keywords s (file ∷ files) there =
     rw (message_of_entry keywords s file (All-head (IsThere s) file files there))
     (by_entry (entry_of file) (messages_of_entries keywords s files (All-tail (IsThere s) file files there)))
   where
-    by_entry : (e : Option Entry) → messages_in keywords files ≡ map (message_at keywords s) (filter_map entry_of files)
+    by_entry : (e : Option SurveyEntry) → messages_in keywords files ≡ map (message_at keywords s) (filter_map entry_of files)
         → cons_option (option_map (message_at keywords s) e) (messages_in keywords files) ≡ map (message_at keywords s) (cons_option e (filter_map entry_of files))
     by_entry None more = more
     by_entry (Some entry) more = ap (λ (l : List Message). message_at keywords s entry ∷ l) more
@@ -81,7 +81,7 @@ pub near_messages : (survey : Survey) (fresh : ℕ) (keywords : List Keyword) (s
 near_messages survey fresh keywords s surveys =
     ap by_uid (messages_of_entries keywords s s.files (files_are_there s surveys.apart))
     ∙ sorted_map (λ e. e.uid) (λ m. m.uid) (message_at keywords s) (λ e. refl) (filter_map entry_of s.files)
-    ∙ ap (λ (l : List Entry). map (message_at keywords s) l) (sym surveys.entries)
+    ∙ ap (λ (l : List SurveyEntry). map (message_at keywords s) l) (sym surveys.entries)
 
 entries_there : (s : Stored) (files : List File) → All (IsThere s) files → AreThere (filter_map entry_of files) s
 entries_there s [] there = All-nil (λ e. bytes_at e.place e.name s ≡ Some (bytes_in s e))
@@ -89,17 +89,17 @@ entries_there s (file ∷ files) there =
     by_uid_of (uid_in file.name) (All-head (IsThere s) file files there) (entries_there s files (All-tail (IsThere s) file files there))
   where
     by_uid_of : (uid : Option ℕ) → IsThere s file → AreThere (filter_map entry_of files) s
-        → AreThere (cons_option (option_map (λ uid. let e : Entry = record { uid = uid; place = file.place; name = file.name } in e) uid) (filter_map entry_of files)) s
+        → AreThere (cons_option (option_map (λ uid. let e : SurveyEntry = record { uid = uid; place = file.place; name = file.name } in e) uid) (filter_map entry_of files)) s
     by_uid_of None here more = more
     by_uid_of (Some uid) here more =
-        let entry : Entry = record { uid = uid; place = file.place; name = file.name } in
+        let entry : SurveyEntry = record { uid = uid; place = file.place; name = file.name } in
         All-cons (λ e. bytes_at e.place e.name s ≡ Some (bytes_in s e)) entry (filter_map entry_of files) (rw here refl) more
 
 -- the file of each entry stands in the folder
 pub near_files : (survey : Survey) (fresh : ℕ) (keywords : List Keyword) (s : Stored) → Surveys survey fresh keywords s → AreThere survey.entries.items s
 near_files survey fresh keywords s surveys =
     let es = filter_map entry_of s.files in
-    subst (λ (l : List Entry). AreThere l s) (sym surveys.entries)
+    subst (λ (l : List SurveyEntry). AreThere l s) (sym surveys.entries)
     (All-permutation (λ e. bytes_at e.place e.name s ≡ Some (bytes_in s e)) es (sorted (λ a b. ltb a.uid b.uid) es)
     (sorted_permutes (λ a b. ltb a.uid b.uid) es) (entries_there s s.files (files_are_there s surveys.apart)))
 
@@ -114,26 +114,26 @@ near_next survey fresh keywords s surveys = ap (λ (o : Option Meta). (unwrap_or
 -- ---- what calls answer, stated of the mailbox
 
 -- the survey, its entries and what is stored, as a call has them at hand
-pub record AtHand (survey : Survey) (fresh : ℕ) (keywords : List Keyword) (s : Stored) (es : List Entry) (t : Stored) : Type 0 where
+pub record AtHand (survey : Survey) (fresh : ℕ) (keywords : List Keyword) (s : Stored) (es : List SurveyEntry) (t : Stored) : Type 0 where
   pub rising : AreRising es
   pub there : AreThere es t
   pub messages : map (message_at keywords t) es ≡ (near_of fresh keywords s).store.messages
 
-pub at_hand : (survey now : Survey) (fresh : ℕ) (keywords : List Keyword) (s t : Stored) (es : List Entry) → Surveys survey fresh keywords s → now ≡ survey → es ≡ now.entries.items → t ≡ s
+pub at_hand : (survey now : Survey) (fresh : ℕ) (keywords : List Keyword) (s t : Stored) (es : List SurveyEntry) → Surveys survey fresh keywords s → now ≡ survey → es ≡ now.entries.items → t ≡ s
     → AtHand survey fresh keywords s es t
 at_hand survey now fresh keywords s t es surveys same is unchanged =
     let entries : es ≡ survey.entries.items = is ∙ ap (λ (v : Survey). v.entries.items) same in
     record {
       rising = subst AreRising (sym entries) surveys.rising;
-      there = subst (λ (l : List Entry). AreThere l t) (sym entries) (subst (AreThere survey.entries.items) (sym unchanged) (near_files survey fresh keywords s surveys));
-      messages = ap (λ (u : Stored). map (message_at keywords u) es) unchanged ∙ ap (λ (l : List Entry). map (message_at keywords s) l) entries ∙ sym (near_messages survey fresh keywords s surveys);
+      there = subst (λ (l : List SurveyEntry). AreThere l t) (sym entries) (subst (AreThere survey.entries.items) (sym unchanged) (near_files survey fresh keywords s surveys));
+      messages = ap (λ (u : Stored). map (message_at keywords u) es) unchanged ∙ ap (λ (l : List SurveyEntry). map (message_at keywords s) l) entries ∙ sym (near_messages survey fresh keywords s surveys);
     }
 
-items_of_messages : (keywords : List Keyword) (spared : ℕ → Bool) (t : Stored) (es : List Entry) → map (item_at keywords spared t) es ≡ map (item_sparing NearSide spared) (map (message_at keywords t) es)
+items_of_messages : (keywords : List Keyword) (spared : ℕ → Bool) (t : Stored) (es : List SurveyEntry) → map (item_at keywords spared t) es ≡ map (item_sparing NearSide spared) (map (message_at keywords t) es)
 items_of_messages keywords spared t [] = refl
 items_of_messages keywords spared t (e ∷ es) = ap (λ (l : List Item). item_at keywords spared t e ∷ l) (items_of_messages keywords spared t es)
 
-pub near_shown : (spared : ℕ → Bool) (survey now : Survey) (fresh : ℕ) (keywords : List Keyword) (s t : Stored) (es : List Entry) (items : List Item) → Surveys survey fresh keywords s → now ≡ survey → es ≡ now.entries.items → t ≡ s
+pub near_shown : (spared : ℕ → Bool) (survey now : Survey) (fresh : ℕ) (keywords : List Keyword) (s t : Stored) (es : List SurveyEntry) (items : List Item) → Surveys survey fresh keywords s → now ≡ survey → es ≡ now.entries.items → t ≡ s
     → (AreRising es → AreThereUnless spared es t → items ≡ map (item_at keywords spared t) es)
     → (items ≡ map (item_sparing NearSide spared) (near_of fresh keywords s).store.messages) × (now.meta.validity ≡ (near_of fresh keywords s).store.validity) × (now.meta.next ≡ (near_of fresh keywords s).store.next)
 near_shown spared survey now fresh keywords s t es items surveys same is unchanged shown =
@@ -144,7 +144,7 @@ near_shown spared survey now fresh keywords s t es items surveys same is unchang
     )
 
 -- the messages of entries are asked where these are
-asked_entries : (keywords : List Keyword) (spared : ℕ → Bool) (t : Stored) (es : List Entry) → length (asked spared (map (message_at keywords t) es)) ≡ count_asked spared es
+asked_entries : (keywords : List Keyword) (spared : ℕ → Bool) (t : Stored) (es : List SurveyEntry) → length (asked spared (map (message_at keywords t) es)) ≡ count_asked spared es
 asked_entries keywords spared t [] = refl
 asked_entries keywords spared t (e ∷ es) = by_test (not (spared e.uid)) (asked_entries keywords spared t es)
   where
@@ -154,31 +154,31 @@ asked_entries keywords spared t (e ∷ es) = by_test (not (spared e.uid)) (asked
     by_test true more = ap suc more
     by_test false more = more
 
-pub near_asked : (spared : ℕ → Bool) (survey now : Survey) (fresh : ℕ) (keywords : List Keyword) (s : Stored) (es : List Entry) → Surveys survey fresh keywords s → now ≡ survey → es ≡ now.entries.items
+pub near_asked : (spared : ℕ → Bool) (survey now : Survey) (fresh : ℕ) (keywords : List Keyword) (s : Stored) (es : List SurveyEntry) → Surveys survey fresh keywords s → now ≡ survey → es ≡ now.entries.items
     → count_asked spared es ≡ length (asked spared (near_of fresh keywords s).store.messages)
 near_asked spared survey now fresh keywords s es surveys same is =
-    ap (λ (l : List Entry). count_asked spared l) (is ∙ ap (λ (v : Survey). v.entries.items) same)
+    ap (λ (l : List SurveyEntry). count_asked spared l) (is ∙ ap (λ (v : Survey). v.entries.items) same)
     ∙ sym (asked_entries keywords spared s survey.entries.items)
     ∙ ap (λ (l : List Message). length (asked spared l)) (sym (near_messages survey fresh keywords s surveys))
 
 -- where none is asked, all entries are spared
-pub near_known : (spared : ℕ → Bool) (survey now : Survey) (fresh : ℕ) (keywords : List Keyword) (s : Stored) (es : List Entry) → Surveys survey fresh keywords s → now ≡ survey → es ≡ now.entries.items
+pub near_known : (spared : ℕ → Bool) (survey now : Survey) (fresh : ℕ) (keywords : List Keyword) (s : Stored) (es : List SurveyEntry) → Surveys survey fresh keywords s → now ≡ survey → es ≡ now.entries.items
     → asked spared (near_of fresh keywords s).store.messages ≡ [] → AreSpared spared es
 near_known spared survey now fresh keywords s es surveys same is none =
     all_spared es (near_asked spared survey now fresh keywords s es surveys same is ∙ ap (λ (l : List Message). length l) none)
   where
-    head_spared : (b : Bool) (e : Entry) (es : List Entry) → length (cond (not b) (e ∷ filter (λ e. not (spared e.uid)) es) (filter (λ e. not (spared e.uid)) es)) ≡ 0
+    head_spared : (b : Bool) (e : SurveyEntry) (es : List SurveyEntry) → length (cond (not b) (e ∷ filter (λ e. not (spared e.uid)) es) (filter (λ e. not (spared e.uid)) es)) ≡ 0
         → (b ≡ true) × (count_asked spared es ≡ 0)
     head_spared true e es none = (refl, none)
     head_spared false e es none = absurd (omega (arith, none))
 
-    all_spared : (es : List Entry) → count_asked spared es ≡ 0 → AreSpared spared es
+    all_spared : (es : List SurveyEntry) → count_asked spared es ≡ 0 → AreSpared spared es
     all_spared [] none = All-nil (λ e. spared e.uid ≡ true)
     all_spared (e ∷ es) none =
         let head = head_spared (spared e.uid) e es none in
         All-cons (λ e. spared e.uid ≡ true) e es head.0 (all_spared es head.1)
 
-pub near_marked : (survey now : Survey) (fresh : ℕ) (keywords : List Keyword) (s t : Stored) (es : List Entry) (mark : List ℕ) (from : ℕ) (found : Option ℕ) (before after : KnownMarks) → Surveys survey fresh keywords s → now ≡ survey → es ≡ now.entries.items → before ≡ now.marks → t ≡ s
+pub near_marked : (survey now : Survey) (fresh : ℕ) (keywords : List Keyword) (s t : Stored) (es : List SurveyEntry) (mark : List ℕ) (from : ℕ) (found : Option ℕ) (before after : KnownMarks) → Surveys survey fresh keywords s → now ≡ survey → es ≡ now.entries.items → before ≡ now.marks → t ≡ s
     → (AreThere es t → (next : ℕ) → AreRising es → All (λ e. e.uid < next) es → AreKnown next (map (message_at keywords t) es) before
     → (found ≡ marked_among mark from (map (message_at keywords t) es)) × AreKnown next (map (message_at keywords t) es) after)
     → (found ≡ marked_from mark from (near_of fresh keywords s).store) × AreMarksOf (near_of fresh keywords s).store after
@@ -187,11 +187,11 @@ near_marked survey now fresh keywords s t es mark from found before after survey
     let next : ℕ = (near_of fresh keywords s).store.next in
     let entries : es ≡ survey.entries.items = is ∙ ap (λ (v : Survey). v.entries.items) same in
     let marks : before ≡ survey.marks = known ∙ ap (λ (v : Survey). v.marks) same in
-    let below = subst (λ (l : List Entry). All (λ e. e.uid < next) l) (sym entries) (subst (λ (n : ℕ). All (λ e. e.uid < n) survey.entries.items) (sym (near_next survey fresh keywords s surveys)) surveys.below) in
+    let below = subst (λ (l : List SurveyEntry). All (λ e. e.uid < next) l) (sym entries) (subst (λ (n : ℕ). All (λ e. e.uid < n) survey.entries.items) (sym (near_next survey fresh keywords s surveys)) surveys.below) in
     let are = subst (λ (k : KnownMarks). AreKnown next (map (message_at keywords t) es) k) (sym marks) (subst (λ (ms : List Message). AreKnown next ms survey.marks) (sym hand.messages) surveys.marks) in
-    let told = says hand.there next hand.rising below are in (
-      told.0 ∙ ap (λ (l : List Message). marked_among mark from l) hand.messages,
-      subst (λ (ms : List Message). AreKnown next ms after) hand.messages told.1,
+    let reported = says hand.there next hand.rising below are in (
+      reported.0 ∙ ap (λ (l : List Message). marked_among mark from l) hand.messages,
+      subst (λ (ms : List Message). AreKnown next ms after) hand.messages reported.1,
     )
 
 -- the survey that knows more marks
@@ -203,14 +203,14 @@ surveys_marked survey new fresh keywords s t surveys unchanged entries waiting m
       apart = surveys.apart;
       entries = entries ∙ surveys.entries;
       rising = subst AreRising (sym entries) surveys.rising;
-      below = subst (λ (l : List Entry). All (λ e. e.uid < new.meta.next) l) (sym entries) (subst (λ (m : Meta). All (λ e. e.uid < m.next) survey.entries.items) (sym meta) surveys.below);
+      below = subst (λ (l : List SurveyEntry). All (λ e. e.uid < new.meta.next) l) (sym entries) (subst (λ (m : Meta). All (λ e. e.uid < m.next) survey.entries.items) (sym meta) surveys.below);
       waiting = waiting ∙ surveys.waiting;
       meta = surveys.meta ∙ ap (λ (m : Meta). Some m) (sym meta);
       has_meta = surveys.has_meta ∙ sym has_meta;
       marks = marks;
     })
 
-pub near_bytes : (survey now : Survey) (fresh : ℕ) (keywords : List Keyword) (s t : Stored) (es : List Entry) (uid : ℕ) (read found : Option (List ℕ)) → read ≡ found → Surveys survey fresh keywords s → now ≡ survey → es ≡ now.entries.items → t ≡ s
+pub near_bytes : (survey now : Survey) (fresh : ℕ) (keywords : List Keyword) (s t : Stored) (es : List SurveyEntry) (uid : ℕ) (read found : Option (List ℕ)) → read ≡ found → Surveys survey fresh keywords s → now ≡ survey → es ≡ now.entries.items → t ≡ s
     → (AreRising es → AreThere es t → read ≡ bytes_among uid (map (message_at keywords t) es)) → bytes_of uid (near_of fresh keywords s).store ≡ found
 near_bytes survey now fresh keywords s t es uid read found is_found surveys same is unchanged says =
     let hand = at_hand survey now fresh keywords s t es surveys same is unchanged in

@@ -12,7 +12,7 @@ use Rattle.mailcore.specs.declared.mailbox.Message.{Message}
 use Rattle.maildir.specs.declared.folder.File.{File}
 use Rattle.maildir.specs.declared.folder.FileName.{FileName}
 use Rattle.maildir.specs.declared.meta.Meta.{Meta}
-use Rattle.near_box.specs.declared.survey.Entry.{Entry}
+use Rattle.near_box.specs.declared.survey.SurveyEntry.{SurveyEntry}
 use Rattle.near_box.specs.declared.survey.Survey.{Survey}
 use Rattle.maildir.specs.Folders.{Stored, AreApart, is_at, left, is_left, name_of_file}
 use Rattle.maildir.specs.Names.{uid_in, is_waiting}
@@ -102,7 +102,7 @@ module _ {T : Type 0} (make : File → ℕ → T) (key : T → ℕ) (is_key : (f
 abbrev pub message_in : (keywords : List Keyword) → File → ℕ → Message
 message_in keywords file uid = record { uid = uid; flags = flags_by_name keywords file.name; bytes = file.bytes }
 
-abbrev pub entry_in : File → ℕ → Entry
+abbrev pub entry_in : File → ℕ → SurveyEntry
 entry_in file uid = entry_at uid (name_of_file file)
 
 -- ---- no file stands at a name with the next UID
@@ -144,15 +144,15 @@ gains keywords n old front back file has apart before after same_messages same_e
     let messages = numbered_made (message_in keywords) (λ m. m.uid) (λ file uid. refl) n front back file has before after ∙ ap (λ (ms : List Message). by_uid ms ++ message_in keywords file n ∷ []) same_messages in
     let entries : entries_in (front ++ file ∷ back) ≡ entries_in old ++ entry_in file n ∷ [] =
     numbered_made entry_in (λ e. e.uid) (λ file uid. refl) n front back file has before after
-    ∙ ap (λ (es : List Entry). sorted (λ a b. ltb a.uid b.uid) es ++ entry_in file n ∷ []) same_entries in
-    let below_old : All (λ (e : Entry). e.uid < n) (entries_in old) =
-    All-sorted (λ (a b : Entry). ltb a.uid b.uid) (λ (e : Entry). e.uid < n) (filter_map entry_of old) (made_below entry_in (λ e. e.uid) (λ file uid. refl) n old holds.below) in
+    ∙ ap (λ (es : List SurveyEntry). sorted (λ a b. ltb a.uid b.uid) es ++ entry_in file n ∷ []) same_entries in
+    let below_old : All (λ (e : SurveyEntry). e.uid < n) (entries_in old) =
+    All-sorted (λ (a b : SurveyEntry). ltb a.uid b.uid) (λ (e : SurveyEntry). e.uid < n) (filter_map entry_of old) (made_below entry_in (λ e. e.uid) (λ file uid. refl) n old holds.below) in
     record {
       holds = record {
         apart = apart;
         below = All-append (HasUidBelow (n + 1)) front (file ∷ back) (above_all n front before)
             (All-cons (HasUidBelow (n + 1)) file back (λ uid e. let same : n ≡ uid = some_same n uid (sym has ∙ e) in omega arith) (above_all n back after));
-        rising = subst (λ (es : List Entry). AllPairs (λ a b. a.uid < b.uid) es) (sym entries)
+        rising = subst (λ (es : List SurveyEntry). AllPairs (λ a b. a.uid < b.uid) es) (sym entries)
             (all_pairs_push (λ a b. a.uid < b.uid) (entries_in old) (entry_in file n) holds.rising (λ k d within. below_old k d within));
       };
       messages = messages;
@@ -168,9 +168,9 @@ pub holds_from_survey : (survey : Survey) (fresh : ℕ) (keywords : List Keyword
 holds_from_survey survey fresh keywords s surveys = record {
   apart = surveys.apart;
   below = below_made entry_in (λ e. e.uid) (λ file uid. refl) survey.meta.next s.files
-      (All-from_sorted (λ (a b : Entry). ltb a.uid b.uid) (λ (e : Entry). e.uid < survey.meta.next) (filter_map entry_of s.files)
-      (subst (λ (es : List Entry). All (λ e. e.uid < survey.meta.next) es) surveys.entries surveys.below));
-  rising = subst (λ (es : List Entry). AllPairs (λ a b. a.uid < b.uid) es) surveys.entries surveys.rising;
+      (All-from_sorted (λ (a b : SurveyEntry). ltb a.uid b.uid) (λ (e : SurveyEntry). e.uid < survey.meta.next) (filter_map entry_of s.files)
+      (subst (λ (es : List SurveyEntry). All (λ e. e.uid < survey.meta.next) es) surveys.entries surveys.below));
+  rising = subst (λ (es : List SurveyEntry). AllPairs (λ a b. a.uid < b.uid) es) surveys.entries surveys.rising;
 }
 
 pub survey_from_holds : (survey : Survey) (fresh : ℕ) (keywords : List Keyword) (s : Stored) → Holds s.files survey.meta.next → s.is_there ≡ true → survey.entries.items ≡ entries_in s.files
@@ -180,9 +180,9 @@ survey_from_holds survey fresh keywords s holds is_there entries waiting meta ha
   is_there = is_there;
   apart = holds.apart;
   entries = entries;
-  rising = subst (λ (es : List Entry). AllPairs (λ a b. a.uid < b.uid) es) (sym entries) holds.rising;
-  below = subst (λ (es : List Entry). All (λ e. e.uid < survey.meta.next) es) (sym entries)
-      (All-sorted (λ (a b : Entry). ltb a.uid b.uid) (λ (e : Entry). e.uid < survey.meta.next) (filter_map entry_of s.files)
+  rising = subst (λ (es : List SurveyEntry). AllPairs (λ a b. a.uid < b.uid) es) (sym entries) holds.rising;
+  below = subst (λ (es : List SurveyEntry). All (λ e. e.uid < survey.meta.next) es) (sym entries)
+      (All-sorted (λ (a b : SurveyEntry). ltb a.uid b.uid) (λ (e : SurveyEntry). e.uid < survey.meta.next) (filter_map entry_of s.files)
       (made_below entry_in (λ e. e.uid) (λ file uid. refl) survey.meta.next s.files holds.below));
   waiting = waiting;
   meta = meta;

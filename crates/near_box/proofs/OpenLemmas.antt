@@ -13,7 +13,7 @@ use Rattle.mailcore.specs.declared.keywords.Keyword.{Keyword}
 use Rattle.mailcore.specs.declared.mailbox.Message.{Message}
 use Rattle.maildir.specs.declared.folder.File.{File}
 use Rattle.maildir.specs.declared.folder.FileName.{FileName}
-use Rattle.near_box.specs.declared.survey.Entry.{Entry}
+use Rattle.near_box.specs.declared.survey.SurveyEntry.{SurveyEntry}
 use Rattle.maildir.specs.Folders.{name_of_file}
 use Rattle.near_box.specs.Mailboxes.{AreDistinct, messages_in, uids_in}
 use Rattle.maildir.specs.Names.{uid_in}
@@ -45,8 +45,8 @@ pub uids_of_entries : (files : List File) → map (λ e. e.uid) (filter_map entr
 uids_of_entries [] = refl
 uids_of_entries (file ∷ files) = by_uid (uid_in file.name) (uids_of_entries files)
   where
-    by_uid : (uid : Option ℕ) → map (λ (e : Entry). e.uid) (filter_map entry_of files) ≡ uids_in files
-        → map (λ (e : Entry). e.uid) (cons_option (option_map (λ u. let e : Entry = record { uid = u; place = file.place; name = file.name } in e) uid) (filter_map entry_of files))
+    by_uid : (uid : Option ℕ) → map (λ (e : SurveyEntry). e.uid) (filter_map entry_of files) ≡ uids_in files
+        → map (λ (e : SurveyEntry). e.uid) (cons_option (option_map (λ u. let e : SurveyEntry = record { uid = u; place = file.place; name = file.name } in e) uid) (filter_map entry_of files))
         ≡ cons_option uid (uids_in files)
     by_uid None more = more
     by_uid (Some uid) more = ap (λ (l : List ℕ). uid ∷ l) more
@@ -63,11 +63,11 @@ uids_of_messages keywords (file ∷ files) = by_uid (uid_in file.name) (uids_of_
 
 pub entries_apart : (files : List File) → AreDistinct (uids_in files) → AllPairs (λ a b. a.uid ≡ b.uid → ⊥) (filter_map entry_of files)
 entries_apart files once =
-    pairs_of_keys (λ (e : Entry). e.uid) (filter_map entry_of files) (subst (AllPairs (λ (m n : ℕ). m ≡ n → ⊥)) (sym (uids_of_entries files)) once)
+    pairs_of_keys (λ (e : SurveyEntry). e.uid) (filter_map entry_of files) (subst (AllPairs (λ (m n : ℕ). m ≡ n → ⊥)) (sym (uids_of_entries files)) once)
 
 pub uids_apart : (files : List File) → AllPairs (λ a b. a.uid ≡ b.uid → ⊥) (filter_map entry_of files) → AreDistinct (uids_in files)
 uids_apart files once =
-    subst (AllPairs (λ (m n : ℕ). m ≡ n → ⊥)) (uids_of_entries files) (keys_of_pairs (λ (e : Entry). e.uid) (filter_map entry_of files) once)
+    subst (AllPairs (λ (m n : ℕ). m ≡ n → ⊥)) (uids_of_entries files) (keys_of_pairs (λ (e : SurveyEntry). e.uid) (filter_map entry_of files) once)
 
 pub messages_apart : (keywords : List Keyword) (files : List File) → AreDistinct (uids_in files) → AllPairs (λ a b. a.uid ≡ b.uid → ⊥) (messages_in keywords files)
 messages_apart keywords files once =
@@ -94,11 +94,11 @@ module _ {A : Type 0} (key : A → ℕ) (next : ℕ) where
 
 pub entries_are_below : (files : List File) (next : ℕ) → All (λ uid. uid < next) (uids_in files) → All (λ e. e.uid < next) (filter_map entry_of files)
 entries_are_below files next below =
-    below_keys (λ (e : Entry). e.uid) next (filter_map entry_of files) (subst (All (λ (n : ℕ). n < next)) (sym (uids_of_entries files)) below)
+    below_keys (λ (e : SurveyEntry). e.uid) next (filter_map entry_of files) (subst (All (λ (n : ℕ). n < next)) (sym (uids_of_entries files)) below)
 
 pub uids_are_below : (files : List File) (next : ℕ) → All (λ e. e.uid < next) (filter_map entry_of files) → All (λ uid. uid < next) (uids_in files)
 uids_are_below files next below =
-    subst (All (λ (n : ℕ). n < next)) (uids_of_entries files) (keys_below (λ (e : Entry). e.uid) next (filter_map entry_of files) below)
+    subst (All (λ (n : ℕ). n < next)) (uids_of_entries files) (keys_below (λ (e : SurveyEntry). e.uid) next (filter_map entry_of files) below)
 
 pub messages_are_below : (keywords : List Keyword) (files : List File) (next : ℕ) → All (λ uid. uid < next) (uids_in files) → All (λ m. m.uid < next) (messages_in keywords files)
 messages_are_below keywords files next below =
@@ -115,21 +115,21 @@ entries_by_name (file ∷ files) = ap (cons_option (entry_of file)) (entries_by_
 
 pub entries_of_names : (files : List File) (names : List FileName) → IsPermutation (map name_of_file files) names → IsPermutation (filter_map entry_of files) (filter_map named_entry names)
 entries_of_names files names same =
-    subst (λ (l : List Entry). IsPermutation l (filter_map named_entry names)) (sym (entries_by_name files)) (picked_in_any_order named_entry (map name_of_file files) names same)
+    subst (λ (l : List SurveyEntry). IsPermutation l (filter_map named_entry names)) (sym (entries_by_name files)) (picked_in_any_order named_entry (map name_of_file files) names same)
 
 -- entries that do not fall and have no UID twice rise
-pub apart_rise : (entries : List Entry) → IsSortedByKey (λ entry. entry.uid) nat_cmp entries → AllPairs (λ a b. a.uid ≡ b.uid → ⊥) entries → AllPairs (λ a b. a.uid < b.uid) entries
+pub apart_rise : (entries : List SurveyEntry) → IsSortedByKey (λ entry. entry.uid) nat_cmp entries → AllPairs (λ a b. a.uid ≡ b.uid → ⊥) entries → AllPairs (λ a b. a.uid < b.uid) entries
 apart_rise entries up once i j d less below =
-    let no_less = sorted_far (λ (a b : Entry). is_lt (nat_cmp a.uid b.uid)) (ranks_by nat_cmp_total (λ (e : Entry). e.uid)) entries up i j d (omega (arith, less)) below in
+    let no_less = sorted_far (λ (a b : SurveyEntry). is_lt (nat_cmp a.uid b.uid)) (ranks_by nat_cmp_total (λ (e : SurveyEntry). e.uid)) entries up i j d (omega (arith, less)) below in
     let most : (get_or entries i d).uid ≤ (get_or entries j d).uid = ge_from_not_lt (get_or entries j d).uid (get_or entries i d).uid no_less in
     let other : (get_or entries i d).uid ≡ (get_or entries j d).uid → ⊥ = once i j d less below in
     omega (arith, most, other)
 
-pub rising_apart : (entries : List Entry) → AllPairs (λ a b. a.uid < b.uid) entries → AllPairs (λ a b. a.uid ≡ b.uid → ⊥) entries
+pub rising_apart : (entries : List SurveyEntry) → AllPairs (λ a b. a.uid < b.uid) entries → AllPairs (λ a b. a.uid ≡ b.uid → ⊥) entries
 rising_apart entries up i j d less below same = let before = up i j d less below in omega (arith, before, same)
 
 -- entries that rise from each to the next rise
-each_above : (entries : List Entry) → AllAdjacentBelow (λ a b. true ≡ ltb a.uid b.uid) entries (length entries) → (i m : ℕ) (d : Entry) → i + m + 1 < length entries
+each_above : (entries : List SurveyEntry) → AllAdjacentBelow (λ a b. true ≡ ltb a.uid b.uid) entries (length entries) → (i m : ℕ) (d : SurveyEntry) → i + m + 1 < length entries
     → (get_or entries i d).uid < (get_or entries (i + m + 1) d).uid
 each_above entries up i zero d below =
     let next = ltb-true (get_or entries i d).uid (get_or entries (i + 1) d).uid (sym (up i d (omega (arith, below)))) in
@@ -141,17 +141,17 @@ each_above entries up i (suc m) d below =
     let here : i + suc m + 1 ≡ i + m + 1 + 1 = omega arith in
     subst (λ (k : ℕ). (get_or entries i d).uid < (get_or entries k d).uid) (sym here) (omega (arith, before, next))
 
-pub rise_or_not : (entries : List Entry) (b : Bool) → IsAllAdjacentAnswer (λ x y r. r ≡ ltb x.uid y.uid) entries b
+pub rise_or_not : (entries : List SurveyEntry) (b : Bool) → IsAllAdjacentAnswer (λ x y r. r ≡ ltb x.uid y.uid) entries b
     → MatchBool b (AllPairs (λ x y. x.uid < y.uid) entries) (¬ AllPairs (λ x y. x.uid < y.uid) entries)
 rise_or_not entries true up = λ i j d less below.
     let there : i + (j - i - 1) + 1 ≡ j = omega (arith, less) in
     subst (λ (k : ℕ). (get_or entries i d).uid < (get_or entries k d).uid) there (each_above entries up i (j - i - 1) d (omega (arith, less, below)))
 rise_or_not entries false stop = λ up.
-    let d : Entry = get_or entries stop.0 (some entries stop.1) in
+    let d : SurveyEntry = get_or entries stop.0 (some entries stop.1) in
     let no_less = ltb-false (get_or entries stop.0 d).uid (get_or entries (stop.0 + 1) d).uid (sym (stop.2 d)) in
     let less = up stop.0 (stop.0 + 1) d (omega arith) stop.1 in
     omega (arith, no_less, less)
   where
-    some : (xs : List Entry) → stop.0 + 1 < length xs → Entry
+    some : (xs : List SurveyEntry) → stop.0 + 1 < length xs → SurveyEntry
     some [] below = absurd (omega (arith, below))
     some (x ∷ xs) below = x

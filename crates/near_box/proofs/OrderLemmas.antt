@@ -29,8 +29,8 @@ equal_numbers x y e = by_tests (ltb x y) (eqb x y) refl e
 not_before : (x y : ℕ) → nat_cmp x y ≡ Less → x ≡ y → ⊥
 not_before x y e same = grind (arith, nat_tests)
 
-not_behind : (x y : ℕ) → nat_cmp x y ≡ Greater → x ≡ y → ⊥
-not_behind x y e same = grind (arith, nat_tests)
+not_after : (x y : ℕ) → nat_cmp x y ≡ Greater → x ≡ y → ⊥
+not_after x y e same = grind (arith, nat_tests)
 
 not_above : (x y : ℕ) → x < y → is_lt (nat_cmp y x) ≡ false
 not_above x y less = grind (arith, nat_tests)
@@ -47,7 +47,7 @@ module _ {A : Type 0} (key : A → ℕ) where
       let parts = search_result (searchable_from_sorted nat_cmp_total key xs b (in_order xs rising)) in
       λ k d below e. ⊎_elim
       (λ before. not_before _ b (parts.0 k d (omega arith) before) (e ∙ sym same))
-      (λ behind. not_behind _ b (parts.1 k d behind below) (e ∙ sym same))
+      (λ following. not_after _ b (parts.1 k d following below) (e ∙ sym same))
       (cases_lt k i)
 
 places_antisymm : (x y : Place) → place_cmp x y ≡ ordering_reverse (place_cmp y x)

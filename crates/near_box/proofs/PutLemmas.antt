@@ -60,15 +60,15 @@ sorted_last {A} lt x (a ∷ front) back below none =
 -- ---- the first one
 
 -- another element was put after the first one
-record Behind {A : Type 0} (lt : A → A → Bool) (a first : A) (zs rest : List A) : Type 0 where
+record Following {A : Type 0} (lt : A → A → Bool) (a first : A) (zs rest : List A) : Type 0 where
   others : List A
   is : zs ≡ first ∷ others
   now : put lt a others ≡ rest
 
-put_cases : {A : Type 0} (lt : A → A → Bool) (a first : A) (zs rest : List A) → put lt a zs ≡ first ∷ rest → ((a ≡ first) × (zs ≡ rest)) ⊎ Behind lt a first zs rest
+put_cases : {A : Type 0} (lt : A → A → Bool) (a first : A) (zs rest : List A) → put lt a zs ≡ first ∷ rest → ((a ≡ first) × (zs ≡ rest)) ⊎ Following lt a first zs rest
 put_cases lt a first [] rest same = inl (cc, cc)
 put_cases {A} lt a first (z ∷ zs) rest same =
-    cond_both (lt a z) (a ∷ z ∷ zs) (z ∷ put lt a zs) (λ ys. ys ≡ first ∷ rest → ((a ≡ first) × (z ∷ zs ≡ rest)) ⊎ Behind lt a first (z ∷ zs) rest)
+    cond_both (lt a z) (a ∷ z ∷ zs) (z ∷ put lt a zs) (λ ys. ys ≡ first ∷ rest → ((a ≡ first) × (z ∷ zs ≡ rest)) ⊎ Following lt a first (z ∷ zs) rest)
     (λ _ here. inl (cc, cc))
     (λ _ there. let at : z ≡ first = cc in inr (record { others = zs; is = ap (λ (x : A). x ∷ zs) at; now = cc }))
     same
@@ -78,7 +78,7 @@ pub sorted_rest : {A : Type 0} (lt : A → A → Bool) (first : A) (front back r
     → sorted lt (front ++ first ∷ back) ≡ first ∷ rest → sorted lt (front ++ back) ≡ rest
 sorted_rest {A} lt first [] back rest others none same = by_case (sorted lt back) (put_cases lt first first (sorted lt back) rest same) (All-sorted lt (λ (x : A). x ≡ first → ⊥) back none)
   where
-    by_case : (zs : List A) → ((first ≡ first) × (zs ≡ rest)) ⊎ Behind lt first first zs rest → All (λ x. x ≡ first → ⊥) zs → zs ≡ rest
+    by_case : (zs : List A) → ((first ≡ first) × (zs ≡ rest)) ⊎ Following lt first first zs rest → All (λ x. x ≡ first → ⊥) zs → zs ≡ rest
     by_case zs (inl here) others = here.1
     by_case [] (inr there) others = let is = there.is in cc
     by_case (z ∷ zs) (inr there) others = let is = there.is in absurd (All-head (λ (x : A). x ≡ first → ⊥) z zs others cc)
@@ -89,7 +89,7 @@ sorted_rest {A} lt first (a ∷ front) back rest others none same =
     tail : All (λ (x : A). x ≡ first → ⊥) front
     tail = All-tail (λ (x : A). x ≡ first → ⊥) a front others
 
-    by_case : ((a ≡ first) × (sorted lt (front ++ first ∷ back) ≡ rest)) ⊎ Behind lt a first (sorted lt (front ++ first ∷ back)) rest
+    by_case : ((a ≡ first) × (sorted lt (front ++ first ∷ back) ≡ rest)) ⊎ Following lt a first (sorted lt (front ++ first ∷ back)) rest
         → ((rest : List A) → All (λ x. x ≡ first → ⊥) front → All (λ x. x ≡ first → ⊥) back → sorted lt (front ++ first ∷ back) ≡ first ∷ rest → sorted lt (front ++ back) ≡ rest)
         → put lt a (sorted lt (front ++ back)) ≡ rest
     by_case (inl here) again = absurd (All-head (λ (x : A). x ≡ first → ⊥) a front others here.0)
@@ -109,7 +109,7 @@ first_stands {A} lt p first (x ∷ xs) rest same = by_test (p x) refl same (firs
     more : Stands p first xs → Stands p first (x ∷ xs)
     more there = record { passes = there.passes; front = x ∷ there.front; back = there.back; parts = ap (λ (ys : List A). x ∷ ys) there.parts }
 
-    by_case : p x ≡ true → ((x ≡ first) × (sorted lt (filter p xs) ≡ rest)) ⊎ Behind lt x first (sorted lt (filter p xs)) rest
+    by_case : p x ≡ true → ((x ≡ first) × (sorted lt (filter p xs) ≡ rest)) ⊎ Following lt x first (sorted lt (filter p xs)) rest
         → ((rest : List A) → sorted lt (filter p xs) ≡ first ∷ rest → Stands p first xs) → Stands p first (x ∷ xs)
     by_case passes (inl here) again = record { passes = ap p (sym here.0) ∙ passes; front = []; back = xs; parts = ap (λ (y : A). y ∷ xs) here.0 }
     by_case passes (inr there) again = more (again there.others there.is)

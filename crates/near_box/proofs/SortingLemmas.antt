@@ -108,19 +108,19 @@ put_filter {A} lt order p x (y ∷ ys) up =
         All-cons (λ z. lt x z ≡ true) y ys less
         (All-weaker (λ z. lt z y ≡ false) (λ z. lt x z ≡ true) (λ z above. below_too lt order x y z less above) ys (pairs_head (λ a b. lt b a ≡ false) y ys up))
 
-    behind : lt x y ≡ false → (a b : Bool) → cond a (put lt x (cond b (y ∷ filter p ys) (filter p ys))) (cond b (y ∷ filter p ys) (filter p ys))
+    following : lt x y ≡ false → (a b : Bool) → cond a (put lt x (cond b (y ∷ filter p ys) (filter p ys))) (cond b (y ∷ filter p ys) (filter p ys))
         ≡ cond b (y ∷ cond a (put lt x (filter p ys)) (filter p ys)) (cond a (put lt x (filter p ys)) (filter p ys))
-    behind e true true = rw e refl
-    behind e true false = refl
-    behind e false true = refl
-    behind e false false = refl
+    following e true true = rw e refl
+    following e true false = refl
+    following e false true = refl
+    following e false false = refl
 
     by_test : (b : Bool) → lt x y ≡ b → cond (p x) (put lt x (filter p ys)) (filter p ys) ≡ filter p (put lt x ys)
         → cond (p x) (put lt x (filter p (y ∷ ys))) (filter p (y ∷ ys)) ≡ filter p (cond b (x ∷ y ∷ ys) (y ∷ put lt x ys))
     by_test true e more =
         ap (λ (l : List A). cond (p x) l (filter p (y ∷ ys)))
         (put_front lt x (filter p (y ∷ ys)) (All-filter p (λ z. lt x z ≡ true) (y ∷ ys) (before e)))
-    by_test false e more = behind e (p x) (p y) ∙ ap (λ (l : List A). cond (p y) (y ∷ l) l) more
+    by_test false e more = following e (p x) (p y) ∙ ap (λ (l : List A). cond (p y) (y ∷ l) l) more
 
 pub sorted_filter : {A : Type 0} (lt : A → A → Bool) → IsStrictWeakOrder lt → (p : A → Bool) (xs : List A)
     → sorted lt (filter p xs) ≡ filter p (sorted lt xs)

@@ -17,7 +17,7 @@ use Rattle.maildir.specs.declared.folder.FileName.{FileName}
 use Rattle.maildir.specs.declared.folder.Place.{Place}
 use Rattle.maildir.specs.declared.folder.Place.TheVariants.{New, Cur}
 use Rattle.maildir.specs.declared.meta.Meta.{Meta}
-use Rattle.near_box.specs.declared.survey.Entry.{Entry}
+use Rattle.near_box.specs.declared.survey.SurveyEntry.{SurveyEntry}
 use Rattle.near_box.specs.declared.survey.Survey.{Survey}
 use Rattle.maildir.specs.Folders.{Stored, AreApart, Lists, name_of_file}
 use Rattle.near_box.specs.Mailboxes.{AreDistinct, meta_in, uids_in, HasMeta, IsMailbox, name_cmp, place_cmp, waiting_files, is_before as is_file_before}
@@ -36,29 +36,29 @@ use Rattle.near_box.specs.KnownMarks.{AreKnown}
 -- ---- messages
 
 -- what was found, as the folder's files have it
-of_files : (files : List File) (names : List FileName) (entries : List Entry) → IsPermutation (map name_of_file files) names → IsPermutation (filter_map named_entry names) entries
+of_files : (files : List File) (names : List FileName) (entries : List SurveyEntry) → IsPermutation (map name_of_file files) names → IsPermutation (filter_map named_entry names) entries
     → IsPermutation (filter_map entry_of files) entries
 of_files files names entries listed found = IsPermutation-trans _ _ _ (entries_of_names files names listed) found
 
-turned : (a b : Entry) → (a.uid ≡ b.uid → ⊥) → b.uid ≡ a.uid → ⊥
+turned : (a b : SurveyEntry) → (a.uid ≡ b.uid → ⊥) → b.uid ≡ a.uid → ⊥
 turned a b other same = other (sym same)
 
-pub two_alike : (files : List File) (entries : List Entry) → IsPermutation (filter_map entry_of files) entries → IsSortedByKey (λ entry. entry.uid) nat_cmp entries
+pub two_alike : (files : List File) (entries : List SurveyEntry) → IsPermutation (filter_map entry_of files) entries → IsSortedByKey (λ entry. entry.uid) nat_cmp entries
     → ¬ AllPairs (λ a b. a.uid < b.uid) entries → ¬ AreDistinct (uids_in files)
 two_alike files entries found fall not_up = λ once.
     not_up (apart_rise entries fall (pairs_permuted (λ a b. a.uid ≡ b.uid → ⊥) turned (filter_map entry_of files) entries found (entries_apart files once)))
 
-pub once_each : (files : List File) (entries : List Entry) → IsPermutation (filter_map entry_of files) entries → AllPairs (λ a b. a.uid < b.uid) entries → AreDistinct (uids_in files)
+pub once_each : (files : List File) (entries : List SurveyEntry) → IsPermutation (filter_map entry_of files) entries → AllPairs (λ a b. a.uid < b.uid) entries → AreDistinct (uids_in files)
 once_each files entries found up =
     uids_apart files (pairs_permuted (λ a b. a.uid ≡ b.uid → ⊥) turned entries (filter_map entry_of files) (IsPermutation-sym _ _ found) (rising_apart entries up))
 
 -- ---- UIDs below the next one
 
-pub entries_below : (files : List File) (entries : List Entry) (next : ℕ) → IsPermutation (filter_map entry_of files) entries → All (λ uid. uid < next) (uids_in files) → All (λ e. e.uid < next) entries
+pub entries_below : (files : List File) (entries : List SurveyEntry) (next : ℕ) → IsPermutation (filter_map entry_of files) entries → All (λ uid. uid < next) (uids_in files) → All (λ e. e.uid < next) entries
 entries_below files entries next found below =
     All-permutation (λ e. e.uid < next) (filter_map entry_of files) entries found (entries_are_below files next below)
 
-pub uids_below : (files : List File) (entries : List Entry) (next : ℕ) → IsPermutation (filter_map entry_of files) entries → All (λ e. e.uid < next) entries → All (λ uid. uid < next) (uids_in files)
+pub uids_below : (files : List File) (entries : List SurveyEntry) (next : ℕ) → IsPermutation (filter_map entry_of files) entries → All (λ e. e.uid < next) entries → All (λ uid. uid < next) (uids_in files)
 uids_below files entries next found below =
     uids_are_below files next (All-permutation (λ e. e.uid < next) entries (filter_map entry_of files) (IsPermutation-sym _ _ found) below)
 
@@ -151,7 +151,7 @@ surveyed survey fresh keywords s names lists entries rising waiting in_order met
   is_there = lists.0;
   apart = lists.2;
   entries =
-      sym (sorted_permuted (λ (a b : Entry). ltb a.uid b.uid) (IsStrictWeakOrder-by_number (λ (e : Entry). e.uid)) (filter_map entry_of s.files) survey.entries.items
+      sym (sorted_permuted (λ (a b : SurveyEntry). ltb a.uid b.uid) (IsStrictWeakOrder-by_number (λ (e : SurveyEntry). e.uid)) (filter_map entry_of s.files) survey.entries.items
       (of_files s.files names survey.entries.items lists.1 entries) (λ i j d less within. lt-ltb _ _ (rising i j d less within)));
   rising = rising;
   below = below;
@@ -161,18 +161,18 @@ surveyed survey fresh keywords s names lists entries rising waiting in_order met
   marks = none_known _ _;
 }
 
-pub told_two : (s : Stored) (names : List FileName) (entries : List Entry) → Lists (Some names) s → IsPermutation (filter_map named_entry names) entries → IsSortedByKey (λ entry. entry.uid) nat_cmp entries
+pub reported_two : (s : Stored) (names : List FileName) (entries : List SurveyEntry) → Lists (Some names) s → IsPermutation (filter_map named_entry names) entries → IsSortedByKey (λ entry. entry.uid) nat_cmp entries
     → ¬ AllPairs (λ a b. a.uid < b.uid) entries → (s.is_there ≡ true) × ¬ AreDistinct (uids_in s.files)
-told_two s names entries lists found fall not_up = (lists.0, two_alike s.files entries (of_files s.files names entries lists.1 found) fall not_up)
+reported_two s names entries lists found fall not_up = (lists.0, two_alike s.files entries (of_files s.files names entries lists.1 found) fall not_up)
 
-pub told_unspelled : (fresh : ℕ) (s : Stored) (names : List FileName) (entries : List Entry) → Lists (Some names) s → IsPermutation (filter_map named_entry names) entries → AllPairs (λ a b. a.uid < b.uid) entries
+pub reported_unspelled : (fresh : ℕ) (s : Stored) (names : List FileName) (entries : List SurveyEntry) → Lists (Some names) s → IsPermutation (filter_map named_entry names) entries → AllPairs (λ a b. a.uid < b.uid) entries
     → meta_in fresh s.meta ≡ None → (s.is_there ≡ true) × AreDistinct (uids_in s.files) × ¬ HasMeta fresh s
-told_unspelled fresh s names entries lists found up none =
+reported_unspelled fresh s names entries lists found up none =
     (lists.0, once_each s.files entries (of_files s.files names entries lists.1 found) up, λ has. none-some _ (sym none ∙ has.is))
 
-pub told_not_below : (fresh : ℕ) (s : Stored) (meta : Meta) (names : List FileName) (entries : List Entry) → Lists (Some names) s → IsPermutation (filter_map named_entry names) entries → AllPairs (λ a b. a.uid < b.uid) entries
+pub reported_not_below : (fresh : ℕ) (s : Stored) (meta : Meta) (names : List FileName) (entries : List SurveyEntry) → Lists (Some names) s → IsPermutation (filter_map named_entry names) entries → AllPairs (λ a b. a.uid < b.uid) entries
     → meta_in fresh s.meta ≡ Some meta → ¬ All (λ e. e.uid < meta.next) entries → (s.is_there ≡ true) × AreDistinct (uids_in s.files) × ¬ HasMeta fresh s
-told_not_below fresh s meta names entries lists found up is not_below =
+reported_not_below fresh s meta names entries lists found up is not_below =
     let all = of_files s.files names entries lists.1 found in (
       lists.0,
       once_each s.files entries all up,
@@ -185,7 +185,7 @@ told_not_below fresh s meta names entries lists found up is not_below =
 pub surveyed_mailbox : (survey : Survey) (fresh : ℕ) (keywords : List Keyword) (s : Stored) → Surveys survey fresh keywords s → IsMailbox fresh s
 surveyed_mailbox survey fresh keywords s surveys =
     let found : IsPermutation (filter_map entry_of s.files) survey.entries.items =
-    subst (λ (l : List Entry). IsPermutation (filter_map entry_of s.files) l) (sym surveys.entries) (sorted_permutes (λ (a b : Entry). ltb a.uid b.uid) (filter_map entry_of s.files)) in
+    subst (λ (l : List SurveyEntry). IsPermutation (filter_map entry_of s.files) l) (sym surveys.entries) (sorted_permutes (λ (a b : SurveyEntry). ltb a.uid b.uid) (filter_map entry_of s.files)) in
     record {
       is_there = surveys.is_there;
       apart = surveys.apart;

@@ -10,7 +10,7 @@ use Rattle.std.proofs.lemmas.List.Sorted.{All-permutation, Contains-permutation}
 use Rattle.mailcore.specs.declared.keywords.Keyword.{Keyword}
 use Rattle.maildir.specs.declared.folder.File.{File}
 use Rattle.maildir.specs.declared.folder.FileName.{FileName}
-use Rattle.near_box.specs.declared.survey.Entry.{Entry}
+use Rattle.near_box.specs.declared.survey.SurveyEntry.{SurveyEntry}
 use Rattle.near_box.specs.declared.survey.Survey.{Survey}
 use Rattle.near_box.specs.Entries.{AreRising}
 use Rattle.maildir.specs.Folders.{Stored, is_at, name_of_file}
@@ -22,14 +22,14 @@ use Rattle.near_box.proofs.KeptLemmas.{one_place}
 use Rattle.near_box.proofs.SortingLemmas.{sorted_permutes}
 
 -- an entry that was found
-pub found_entry : (entries searched : List Entry) (i : ℕ) (entry : Entry) → searched ≡ entries → i < length searched → entry ≡ get_or entries i entry → slice_get entries i ≡ Some entry
+pub found_entry : (entries searched : List SurveyEntry) (i : ℕ) (entry : SurveyEntry) → searched ≡ entries → i < length searched → entry ≡ get_or entries i entry → slice_get entries i ≡ Some entry
 found_entry entries searched i entry same within is = slice_get_read entries (length searched) i entry (ap length same) within is
 
-pub found_uid : (entries searched : List Entry) (i uid : ℕ) (entry : Entry) → searched ≡ entries → entry ≡ get_or entries i entry → HoldsAt (λ e. e.uid ≡ uid) searched i → entry.uid ≡ uid
-found_uid entries searched i uid entry same is found = ap (λ (e : Entry). e.uid) (is ∙ ap (λ (l : List Entry). get_or l i entry) (sym same)) ∙ found entry
+pub found_uid : (entries searched : List SurveyEntry) (i uid : ℕ) (entry : SurveyEntry) → searched ≡ entries → entry ≡ get_or entries i entry → HoldsAt (λ e. e.uid ≡ uid) searched i → entry.uid ≡ uid
+found_uid entries searched i uid entry same is found = ap (λ (e : SurveyEntry). e.uid) (is ∙ ap (λ (l : List SurveyEntry). get_or l i entry) (sym same)) ∙ found entry
 
 -- an entry's name has its UID
-abbrev pub IsNamed : Entry → Type 0
+abbrev pub IsNamed : SurveyEntry → Type 0
 IsNamed e = uid_in e.name ≡ Some e.uid
 
 named : (files : List File) → All IsNamed (filter_map entry_of files)
@@ -37,13 +37,13 @@ named [] = All-nil IsNamed
 named (x ∷ files) = by_case (uid_in x.name) refl (named files)
   where
     by_case : (u : Option ℕ) → uid_in x.name ≡ u → All IsNamed (filter_map entry_of files)
-        → All IsNamed (cons_option (option_map (λ uid. let e : Entry = record { uid = uid; place = x.place; name = x.name } in e) u) (filter_map entry_of files))
+        → All IsNamed (cons_option (option_map (λ uid. let e : SurveyEntry = record { uid = uid; place = x.place; name = x.name } in e) u) (filter_map entry_of files))
     by_case None e later = later
     by_case (Some uid) e later = All-cons IsNamed (record { uid = uid; place = x.place; name = x.name }) (filter_map entry_of files) e later
 
 -- the entry of a file is there
-abbrev pub IsEntered : List Entry → File → Type 0
-IsEntered entries x = (e : Entry) → entry_of x ≡ Some e → Contains entries e
+abbrev pub IsEntered : List SurveyEntry → File → Type 0
+IsEntered entries x = (e : SurveyEntry) → entry_of x ≡ Some e → Contains entries e
 
 contains_first : {A : Type 0} (o : Option A) (xs : List A) (x : A) → o ≡ Some x → Contains (cons_option o xs) x
 contains_first None xs x e = cc
@@ -65,21 +65,21 @@ entered (x ∷ files) =
 
 module _ (survey : Survey) (fresh : ℕ) (keywords : List Keyword) (s : Stored) (surveys : Surveys survey fresh keywords s) where
   pub entries_named : All IsNamed survey.entries.items
-  entries_named = subst (λ (l : List Entry). All IsNamed l) (sym surveys.entries) (All-permutation IsNamed (filter_map entry_of s.files) (entries_in s.files) (sorted_permutes _ (filter_map entry_of s.files)) (named s.files))
+  entries_named = subst (λ (l : List SurveyEntry). All IsNamed l) (sym surveys.entries) (All-permutation IsNamed (filter_map entry_of s.files) (entries_in s.files) (sorted_permutes _ (filter_map entry_of s.files)) (named s.files))
 
   pub files_entered : All (IsEntered survey.entries.items) s.files
   files_entered =
       All-weaker (IsEntered (filter_map entry_of s.files)) (IsEntered survey.entries.items)
-      (λ x there e is. subst (λ (l : List Entry). Contains l e) (sym surveys.entries) (Contains-permutation (filter_map entry_of s.files) (entries_in s.files) e (sorted_permutes _ (filter_map entry_of s.files)) (there e is)))
+      (λ x there e is. subst (λ (l : List SurveyEntry). Contains l e) (sym surveys.entries) (Contains-permutation (filter_map entry_of s.files) (entries_in s.files) e (sorted_permutes _ (filter_map entry_of s.files)) (there e is)))
       s.files (entered s.files)
 
   -- the file with the UID of an entry is the one of the entry
-  abbrev pub IsItsFile : Entry → File → Type 0
+  abbrev pub IsItsFile : SurveyEntry → File → Type 0
   IsItsFile entry x = is_one_of (entry.uid ∷ []) (uid_in x.name) ≡ is_at entry.place entry.name x
 
   -- an entry of the survey
-  module _ (i : ℕ) (entry : Entry) (there : slice_get survey.entries.items i ≡ Some entry) where
-    entry_is : (d : Entry) → get_or survey.entries.items i d ≡ entry
+  module _ (i : ℕ) (entry : SurveyEntry) (there : slice_get survey.entries.items i ≡ Some entry) where
+    entry_is : (d : SurveyEntry) → get_or survey.entries.items i d ≡ entry
     entry_is d = get_or_from_slice_get survey.entries.items i entry d there
 
     pub entry_within : i < length survey.entries.items
@@ -89,9 +89,9 @@ module _ (survey : Survey) (fresh : ℕ) (keywords : List Keyword) (s : Stored) 
     entry_named = subst IsNamed (entry_is entry) (All-get_or IsNamed survey.entries.items i entry entry_within entries_named)
 
     -- no other entry has its UID
-    same_entry : (e : Entry) → Contains survey.entries.items e → e.uid ≡ entry.uid → entry ≡ e
+    same_entry : (e : SurveyEntry) → Contains survey.entries.items e → e.uid ≡ entry.uid → entry ≡ e
     same_entry e (k, within, is) same =
-        let place : k ≡ i = one_place (λ a. a.uid) survey.entries.items surveys.rising k i e within entry_within (ap (λ (a : Entry). a.uid) is ∙ same ∙ sym (ap (λ (a : Entry). a.uid) (entry_is e))) in
+        let place : k ≡ i = one_place (λ a. a.uid) survey.entries.items surveys.rising k i e within entry_within (ap (λ (a : SurveyEntry). a.uid) is ∙ same ∙ sym (ap (λ (a : SurveyEntry). a.uid) (entry_is e))) in
         sym (entry_is e) ∙ ap (λ (j : ℕ). get_or survey.entries.items j e) (sym place) ∙ is
 
     other_file : (x : File) (u : Option ℕ) → uid_in x.name ≡ u → (u ≡ Some entry.uid → ⊥) → is_at entry.place entry.name x ≡ false
@@ -105,9 +105,9 @@ module _ (survey : Survey) (fresh : ℕ) (keywords : List Keyword) (s : Stored) 
       where
         by_test : (uid : ℕ) → uid_in x.name ≡ Some uid → (b : Bool) → eqb uid entry.uid ≡ b → (b || false) ≡ is_at entry.place entry.name x
         by_test uid e true f =
-            let own : Entry = record { uid = uid; place = x.place; name = x.name } in
-            let same : entry ≡ own = same_entry own (entered own (ap (option_map (λ (u : ℕ). let o : Entry = record { uid = u; place = x.place; name = x.name } in o)) e)) (eqb-true uid entry.uid f) in
-            sym (subst (λ (a : Entry). is_at a.place a.name x ≡ true) (sym same) (at_itself x))
+            let own : SurveyEntry = record { uid = uid; place = x.place; name = x.name } in
+            let same : entry ≡ own = same_entry own (entered own (ap (option_map (λ (u : ℕ). let o : SurveyEntry = record { uid = u; place = x.place; name = x.name } in o)) e)) (eqb-true uid entry.uid f) in
+            sym (subst (λ (a : SurveyEntry). is_at a.place a.name x ≡ true) (sym same) (at_itself x))
         by_test uid e false f = sym (other_file x (Some uid) e (λ same. eqb-false uid entry.uid f (same_Some uid entry.uid same)))
 
         by_case : (u : Option ℕ) → uid_in x.name ≡ u → is_one_of (entry.uid ∷ []) u ≡ is_at entry.place entry.name x
@@ -125,15 +125,15 @@ module _ (survey : Survey) (fresh : ℕ) (keywords : List Keyword) (s : Stored) 
       by_case : (x : File) → IsEntered survey.entries.items x → (u : Option ℕ) → uid_in x.name ≡ u → is_one_of (uid ∷ []) u ≡ false
       by_case x entered None e = refl
       by_case x entered (Some n) e =
-          let own : Entry = record { uid = n; place = x.place; name = x.name } in
-          let is : entry_of x ≡ Some own = ap (option_map (λ (u : ℕ). let o : Entry = record { uid = u; place = x.place; name = x.name } in o)) e in
+          let own : SurveyEntry = record { uid = n; place = x.place; name = x.name } in
+          let is : entry_of x ≡ Some own = ap (option_map (λ (u : ℕ). let o : SurveyEntry = record { uid = u; place = x.place; name = x.name } in o)) e in
           rw (ne_eqb n uid (All-contains (λ a. a.uid ≡ uid → ⊥) survey.entries.items own none (entered own is))) refl
 
       other : (x : File) → IsEntered survey.entries.items x → is_one_of (uid ∷ []) (uid_in x.name) ≡ false
       other x entered = by_case x entered (uid_in x.name) refl
 
   -- the same, of a list of the entries that was searched
-  pub uid_not_found : (uid : ℕ) (entries : List Entry) → entries ≡ survey.entries.items → (AreRising entries → All (λ e. e.uid ≡ uid → ⊥) entries)
+  pub uid_not_found : (uid : ℕ) (entries : List SurveyEntry) → entries ≡ survey.entries.items → (AreRising entries → All (λ e. e.uid ≡ uid → ⊥) entries)
       → All (λ x. is_one_of (uid ∷ []) (uid_in x.name) ≡ false) s.files
   uid_not_found uid entries same none =
-      uid_lacks uid (subst (λ (l : List Entry). All (λ e. e.uid ≡ uid → ⊥) l) same (none (subst AreRising (sym same) surveys.rising)))
+      uid_lacks uid (subst (λ (l : List SurveyEntry). All (λ e. e.uid ≡ uid → ⊥) l) same (none (subst AreRising (sym same) surveys.rising)))

@@ -6,7 +6,7 @@ use Rattle.mailcore.specs.Stores.{Store}
 use Rattle.maildir.specs.Folders.{Stored}
 use Rattle.near_box.specs.declared.known_mark.KnownMark.{KnownMark}
 use Rattle.near_box.specs.declared.known_mark.KnownMarks.{KnownMarks}
-use Rattle.near_box.specs.declared.survey.Entry.{Entry}
+use Rattle.near_box.specs.declared.survey.SurveyEntry.{SurveyEntry}
 use Rattle.near_box.specs.Entries.{bytes_in}
 use Rattle.passed_marks.specs.Passed.{ArePassed}
 
@@ -19,11 +19,11 @@ abbrev pub AreMarksAmong : (next : ℕ) → List Message → List KnownMark → 
 AreMarksAmong next messages known = All (IsMarkAmong next messages) known
 
 -- the mark of the message in the file of an entry
-abbrev pub mark_at : Stored → Entry → KnownMark
+abbrev pub mark_at : Stored → SurveyEntry → KnownMark
 mark_at s entry = record { uid = entry.uid; mark = mark_of (bytes_in s entry) }
 
 -- what is known of its UID is its mark
-abbrev pub AreMarksOfFile : Stored → Entry → List KnownMark → Type 0
+abbrev pub AreMarksOfFile : Stored → SurveyEntry → List KnownMark → Type 0
 AreMarksOfFile s entry known = All (λ k. entry.uid ≡ k.uid → mark_of (bytes_in s entry) ≡ k.mark) known
 
 -- what is known of the marks of messages

@@ -37,9 +37,9 @@ Reads old new (Err (Device DeviceStopped)) = (old.is_broken ≡ false → old.st
 Reads old new (Err (Device DeviceNoMemory)) = old.stops ≤ new.stops
 
 -- what a fault in reading is to the caller, with how many files the box has missed: one that is gone counts, and is reported as a stop
-abbrev pub Told : ReadFault → (old new : ℕ) → NearFault → Type 0
-Told Gone old new told = (told ≡ Stopped) × (new ≡ old + 1)
-Told (Device fault) old new told = (told ≡ near_fault fault) × (new ≡ old)
+abbrev pub Reported : ReadFault → (old new : ℕ) → NearFault → Type 0
+Reported Gone old new reported = (reported ≡ Stopped) × (new ≡ old + 1)
+Reported (Device fault) old new reported = (reported ≡ near_fault fault) × (new ≡ old)
 
 -- ---- the box
 

@@ -10,23 +10,23 @@ use Rattle.near_box.specs.Mailboxes.{AreDistinct, uids_in, HasMeta, IsMailbox}
 -- ---- open
 
 -- why the folder holds no mailbox: the first that holds of three
-abbrev pub TellsWhy : (fresh : ℕ) → Stored → NearFault → Type 0
-TellsWhy fresh s Stopped = Unit {0}
-TellsWhy fresh s Absent = s.is_there ≡ false
-TellsWhy fresh s TwoWithOneUid = (s.is_there ≡ true) × ¬ AreDistinct (uids_in s.files)
-TellsWhy fresh s BadMeta = (s.is_there ≡ true) × AreDistinct (uids_in s.files) × ¬ HasMeta fresh s
-TellsWhy fresh s UidsExhausted = ⊥
-TellsWhy fresh s NoMemory = Unit {0}
+abbrev pub ReportsWhy : (fresh : ℕ) → Stored → NearFault → Type 0
+ReportsWhy fresh s Stopped = Unit {0}
+ReportsWhy fresh s Absent = s.is_there ≡ false
+ReportsWhy fresh s TwoWithOneUid = (s.is_there ≡ true) × ¬ AreDistinct (uids_in s.files)
+ReportsWhy fresh s BadMeta = (s.is_there ≡ true) × AreDistinct (uids_in s.files) × ¬ HasMeta fresh s
+ReportsWhy fresh s UidsExhausted = ⊥
+ReportsWhy fresh s NoMemory = Unit {0}
 
 -- what opening a box says of the folder, which comes back beside a fault
-abbrev pub Tells : {B F : Type 0} → (fresh : ℕ) → (B → Seen Stored) → (F → Seen Stored) → Result B (NearFault × F) → Type 0
-Tells fresh of_box of_folder (Ok box) = IsMailbox fresh (of_box box).stored
-Tells fresh of_box of_folder (Err fault) = TellsWhy fresh (of_folder fault.1).stored fault.0
+abbrev pub Reports : {B F : Type 0} → (fresh : ℕ) → (B → Seen Stored) → (F → Seen Stored) → Result B (NearFault × F) → Type 0
+Reports fresh of_box of_folder (Ok box) = IsMailbox fresh (of_box box).stored
+Reports fresh of_box of_folder (Err fault) = ReportsWhy fresh (of_folder fault.1).stored fault.0
 
 -- the same of a box that has its folder already
-abbrev pub TellsOf : {T : Type 0} → (fresh : ℕ) → Stored → Result T NearFault → Type 0
-TellsOf fresh s (Ok answer) = IsMailbox fresh s
-TellsOf fresh s (Err fault) = TellsWhy fresh s fault
+abbrev pub ReportsOf : {T : Type 0} → (fresh : ℕ) → Stored → Result T NearFault → Type 0
+ReportsOf fresh s (Ok answer) = IsMailbox fresh s
+ReportsOf fresh s (Err fault) = ReportsWhy fresh s fault
 
 -- ---- calls that write
 

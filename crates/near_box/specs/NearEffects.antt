@@ -7,7 +7,7 @@ use Rattle.maildir.specs.declared.folder.Place.TheVariants.{Cur}
 use Rattle.maildir.specs.declared.folder.File.{File}
 use Rattle.maildir.specs.declared.folder.FileName.{FileName}
 use Rattle.maildir.specs.declared.meta.Meta.{Meta}
-use Rattle.near_box.specs.declared.survey.Entry.{Entry}
+use Rattle.near_box.specs.declared.survey.SurveyEntry.{SurveyEntry}
 use Rattle.near_box.specs.declared.near_fault.NearFault.{NearFault}
 use Rattle.maildir.specs.Folders.{Stored, Begins, with_copy, with_meta, placed, renamed_file}
 use Rattle.maildir.specs.FlaggedNames.{flagged, flags_by_name}
@@ -49,7 +49,7 @@ copy_name keywords validity uid flags =
 
 -- ---- effects
 
-abbrev pub file_of : Entry → FileName
+abbrev pub file_of : SurveyEntry → FileName
 file_of entry = record { place = entry.place; name = entry.name }
 
 abbrev pub set_name : FileName → Option (List ℕ) → Stored → Stored

@@ -6,7 +6,7 @@ use Rattle.mailcore.specs.declared.keywords.Keyword.{Keyword}
 use Rattle.maildir.specs.declared.folder.File.{File}
 use Rattle.maildir.specs.declared.folder.FileName.{FileName}
 use Rattle.maildir.specs.declared.meta.Meta.{Meta}
-use Rattle.near_box.specs.declared.survey.Entry.{Entry}
+use Rattle.near_box.specs.declared.survey.SurveyEntry.{SurveyEntry}
 use Rattle.near_box.specs.declared.survey.Survey.{Survey}
 use Rattle.maildir.specs.Folders.{Stored, AreApart, name_of_file}
 use Rattle.near_box.specs.KnownMarks.{AreMarksOf}
@@ -16,11 +16,11 @@ use Rattle.near_box.specs.NearEffects.{admitted}
 use Rattle.near_box.specs.Sorting.{sorted}
 
 -- the file of a message
-abbrev pub entry_of : File → Option Entry
+abbrev pub entry_of : File → Option SurveyEntry
 entry_of file = option_map (λ uid. record { uid = uid; place = file.place; name = file.name }) (uid_in file.name)
 
 -- the files of messages, in the order of their UIDs
-abbrev pub entries_in : List File → List Entry
+abbrev pub entries_in : List File → List SurveyEntry
 entries_in files = sorted (λ a b. nat_lt a.uid b.uid) (filter_map entry_of files)
 
 -- what was surveyed is so of the folder
@@ -38,16 +38,16 @@ pub record Surveys (survey : Survey) (fresh : ℕ) (keywords : List Keyword) (s 
 -- ---- what it remembers more once UIDs are given
 
 -- the message with this UID in this file
-abbrev pub entry_at : (uid : ℕ) → FileName → Entry
+abbrev pub entry_at : (uid : ℕ) → FileName → SurveyEntry
 entry_at uid file = record { uid = uid; place = file.place; name = file.name }
 
 -- waiting files as messages, under the UIDs from this one on
-abbrev pub entries_from : (uid : ℕ) → List FileName → List Entry
+abbrev pub entries_from : (uid : ℕ) → List FileName → List SurveyEntry
 entries_from uid [] = []
 entries_from uid (file ∷ files) = entry_at uid (admitted file uid) ∷ entries_from (uid + 1) files
 
 -- there are more messages after the others, these files wait, the meta file says this, and the same marks are known
-pub record Extends (more : List Entry) (wait : List FileName) (says : Meta) (old new : Survey) : Type 0 where
+pub record Extends (more : List SurveyEntry) (wait : List FileName) (says : Meta) (old new : Survey) : Type 0 where
   pub entries : new.entries.items ≡ old.entries.items ++ more
   pub waiting : new.waiting.items ≡ wait
   pub meta : new.meta ≡ says

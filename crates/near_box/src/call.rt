@@ -1,7 +1,7 @@
 //! How a call of the near mailbox begins, and what a file that is gone is to it.
 
 ghost use Rattle.std.specs.Prelude.{◌≡◌, true, false, length, IfErr, OnOk};
-ghost use Rattle.near_box.specs.NearCalls.{Told};
+ghost use Rattle.near_box.specs.NearCalls.{Reported};
 ghost use Rattle.near_box.specs.Surveys.{Surveys};
 
 use crate::near_box::NearBox;
@@ -34,7 +34,7 @@ impl<F: Folder> NearBox<F> {
         ensures folder { self.new.folder ≡ self.old.folder }
         ensures same { (self.new.is_ready ≡ self.old.is_ready) × (self.new.fresh ≡ self.old.fresh) }
         ensures keywords { self.new.keywords ≡ self.old.keywords }
-        ensures told { Told fault (length self.old.missed.items) (length self.new.missed.items) result }
+        ensures reported { Reported fault (length self.old.missed.items) (length self.new.missed.items) result }
     {
         match fault {
             ReadFault::Gone => {

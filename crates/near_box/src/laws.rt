@@ -33,6 +33,6 @@ pub fn folders_gain_what_arrives()
     ensures store { (v : Visitors) (fresh : ℕ) (keywords : List Keyword) (s s' : Stored) → IsMailbox fresh s → Gains v s s'
         → (near_of fresh keywords s').store ≡ (near_of fresh keywords s).store }
     ensures mailbox { (v : Visitors) (fresh : ℕ) (s s' : Stored) → IsMailbox fresh s → Gains v s s' → IsMailbox fresh s' }
-    ensures behind { (v : Visitors) (fresh : ℕ) (keywords : List Keyword) (s s' : Stored) → Adds v s s'
+    ensures following { (v : Visitors) (fresh : ℕ) (keywords : List Keyword) (s s' : Stored) → Adds v s s'
         → Arrives Side.Near v.ours v.alone (near_of fresh keywords s) (near_of fresh keywords s') }
 {}

@@ -2,7 +2,7 @@
 
 ghost use Rattle.std.specs.Prelude.{◌≡◌, ◌≢◌, ◌↔◌, ◌<◌, ◌≤◌, ◌+◌, ◌^◌, ◌++◌, ◌∷◌, [], true, false, length, vec_len, slice_get, is_some, IsTrue};
 ghost use Rattle.std.specs.Prelude.{All, Some, None, IsErrOf, if◌then◌else◌, IfOk, OnOk};
-ghost use Rattle.near_box.specs.declared.survey.Entry.{Entry};
+ghost use Rattle.near_box.specs.declared.survey.SurveyEntry.{SurveyEntry};
 ghost use Rattle.device.specs.Calls.{Nothing};
 ghost use Rattle.std.specs.Int.NonZero.{non_zero_u32_get};
 ghost use Rattle.std.specs.Option.{option_map};
@@ -29,7 +29,7 @@ use crate::near_calls::{
 };
 use crate::near_fault::NearFault;
 use crate::reading::{find_mark, find_message, listed};
-use crate::survey::{Entry, Survey, survey_of};
+use crate::survey::{Survey, SurveyEntry, survey_of};
 use device::history::History;
 use mailcore::copy_pieces::CopyPieces;
 use mailcore::flags::Flags;
@@ -128,7 +128,7 @@ impl<F: Folder> NearBox<F> {
     /// The bytes of a message, or none where it is not there. They are lent until the next call.
     pub fn fetch(&mut self, uid: Uid) -> Result<Option<&[u8]>, NearFault>
         ensures bytes { F.is_honest ≡ true → IfOk result (λ found. option_map (λ b. b.now) found ≡ bytes_of uid (mailbox_of self.old).store) }
-        ensures* behind { sem 𝓛 (follows_so (the_row F.row F.Folder) (the_row F.row F.Folder) self.entry.ghost_name none (λ _ _. ⊤)
+        ensures* following { sem 𝓛 (follows_so (the_row F.row F.Folder) (the_row F.row F.Folder) self.entry.ghost_name none (λ _ _. ⊤)
             (λ after. (F.is_honest ≡ true → (stored_in after ≡ stored_in self.old) × (length after.missed.items ≡ length self.old.missed.items))
             × Ends false (box_of self.old) (box_of after) result)) }
     {
@@ -334,9 +334,9 @@ impl<F: Folder> NearBox<F> {
         requires within { i < vec_len self.old.survey.entries }
         requires begun { self.old.is_ready ≡ false }
         requires surveyed { F.is_honest ≡ true → Surveys self.old.survey self.old.fresh self.old.keywords (stored_in self.old) }
-        ensures effect { F.is_honest ≡ true → (entry : Entry) → slice_get self.old.survey.entries.items i ≡ Some entry
+        ensures effect { F.is_honest ≡ true → (entry : SurveyEntry) → slice_get self.old.survey.entries.items i ≡ Some entry
             → TurnsFiles (set_name (file_of entry) (name_flagged self.old.keywords entry.name flags)) Nothing self.old self.new result }
-        ensures untouched { (entry : Entry) → slice_get self.old.survey.entries.items i ≡ Some entry → name_flagged self.old.keywords entry.name flags ≡ None
+        ensures untouched { (entry : SurveyEntry) → slice_get self.old.survey.entries.items i ≡ Some entry → name_flagged self.old.keywords entry.name flags ≡ None
             → seen_in self.new ≡ seen_in self.old }
         ensures surveys { F.is_honest ≡ true → OnOk result (Surveys self.new.survey self.new.fresh self.new.keywords (stored_in self.new)) }
         ensures part { Part (seen_in self.old) (seen_in self.new) result }
@@ -401,7 +401,7 @@ impl<F: Folder> NearBox<F> {
             name: &name,
         };
         self.folder.rename(Origin::Tmp, to)?;
-        self.survey.entries.push(Entry {
+        self.survey.entries.push(SurveyEntry {
             uid,
             place: Place::Cur,
             name: Octets::from_vec(name),
@@ -475,7 +475,7 @@ impl<F: Folder> NearBox<F> {
         // A UID, by what the caller owes.
         let uid = Uid::new(number).unwrap();
         let name = admit_file(self.alloc, &mut self.folder, file, uid)?;
-        self.survey.entries.push(Entry {
+        self.survey.entries.push(SurveyEntry {
             uid,
             place: file.place,
             name: Octets::from_vec(name),

@@ -11,7 +11,7 @@ ghost use Rattle.near_box.specs.NearEffects.{name_flagged, copy_name, copy_base,
 ghost use Rattle.near_box.specs.NearCalls.{Part};
 
 use crate::near_fault::NearFault;
-use crate::survey::Entry;
+use crate::survey::SurveyEntry;
 use mailcore::flags::{Flag, Flags};
 use mailcore::keywords::Keywords;
 use mailcore::uid::Uid;
@@ -22,7 +22,7 @@ use std::alloc::{AllocError, Global};
 use texts::number::push_number;
 
 /// Where a message's file stands.
-pub fn location(entry: &Entry) -> Location<'_>
+pub fn location(entry: &SurveyEntry) -> Location<'_>
     ensures { name_at result ≡ file_of entry.now }
 {
     Location {
@@ -42,7 +42,7 @@ pub fn waiting_at(file: &FileName) -> Location<'_>
 }
 
 /// Where the message with this UID is in the list.
-pub fn place_of(entries: &[Entry], uid: Uid) -> Option<usize>
+pub fn place_of(entries: &[SurveyEntry], uid: Uid) -> Option<usize>
     ensures within { IfSome result (λ i. i < length entries.now) }
     ensures found { IfSome result (λ i. HoldsAt (λ entry. entry.uid ≡ uid) entries.now i) }
     ensures missing { AreRising entries.now → result ≡ None → All (λ entry. entry.uid ≢ uid) entries.now }
@@ -53,7 +53,7 @@ pub fn place_of(entries: &[Entry], uid: Uid) -> Option<usize>
 }
 
 /// The flags of a message: those of its letters that have a name in IMAP.
-pub fn flags_of(entry: &Entry, keywords: &Keywords) -> Flags
+pub fn flags_of(entry: &SurveyEntry, keywords: &Keywords) -> Flags
     ensures { result ≡ flags_by_name keywords.now entry.now.name }
 {
     named_flags(entry.name.as_slice(), keywords)
@@ -67,7 +67,7 @@ pub fn named_flags(name: &[u8], keywords: &Keywords) -> Flags
 }
 
 /// Whether a message is there and marked as deleted.
-pub fn is_deleted(entries: &[Entry], uid: Uid, keywords: &Keywords) -> bool
+pub fn is_deleted(entries: &[SurveyEntry], uid: Uid, keywords: &Keywords) -> bool
     ensures marked { AreRising entries.now
         → All (λ entry. entry.uid ≡ uid → has (flags_by_name keywords.now entry.name) DELETED ≡ result) entries.now }
     ensures missing { All (λ entry. entry.uid ≢ uid) entries.now → result ≡ false }
@@ -92,7 +92,7 @@ fn letters_in(name: &[u8]) -> &[u8]
 pub fn set_name<F: Folder>(
     alloc: Global,
     folder: &mut F,
-    entry: &Entry,
+    entry: &SurveyEntry,
     flags: Flags,
     keywords: &Keywords,
 ) -> Result<Option<Vec<u8>>, NearFault>
@@ -146,7 +146,7 @@ pub fn rename_to<F: Folder>(
 /// The name of a message once it has these flags, or none where its name stays.
 pub fn renamed(
     alloc: Global,
-    entry: &Entry,
+    entry: &SurveyEntry,
     flags: Flags,
     keywords: &Keywords,
 ) -> Result<Option<Vec<u8>>, AllocError>

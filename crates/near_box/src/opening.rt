@@ -5,7 +5,7 @@ ghost use Rattle.std.specs.Int.NonZero.{non_zero_u32_get};
 ghost use Rattle.device.specs.Calls.{Reopens};
 ghost use Rattle.maildir.specs.Gains.{Adds};
 ghost use Rattle.near_box.specs.NearCalls.{Gathers, Looks, Opens};
-ghost use Rattle.near_box.specs.NearContracts.{Tells, TellsOf};
+ghost use Rattle.near_box.specs.NearContracts.{Reports, ReportsOf};
 
 use crate::near_box::NearBox;
 use crate::near_fault::NearFault;
@@ -33,7 +33,7 @@ impl<F: Folder> NearBox<F> {
         ensures adds { F.is_honest ≡ true → Gathers F.visitors (λ near. F.seen near.folder) F.seen (F.seen folder) result }
         ensures ready { IfOk result (λ near. (near.is_ready ≡ true) × (near.fresh ≡ non_zero_u32_get fresh) × (length near.missed.items ≡ 0)) }
         ensures keywords { IfOk result (λ near. near.keywords ≡ keywords) }
-        ensures mailbox { F.is_honest ≡ true → Tells (non_zero_u32_get fresh) (λ near. F.seen near.folder) F.seen result }
+        ensures mailbox { F.is_honest ≡ true → Reports (non_zero_u32_get fresh) (λ near. F.seen near.folder) F.seen result }
     {
         let mut folder = folder;
         match survey_of(alloc, &mut folder, fresh) {
@@ -83,7 +83,7 @@ impl<F: Folder> NearBox<F> {
         ensures fresh { self.new.fresh ≡ non_zero_u32_get fresh }
         ensures keywords { self.new.keywords ≡ self.old.keywords }
         ensures missed { self.new.missed ≡ self.old.missed }
-        ensures mailbox { F.is_honest ≡ true → TellsOf (non_zero_u32_get fresh) (stored_in self.new) result }
+        ensures mailbox { F.is_honest ≡ true → ReportsOf (non_zero_u32_get fresh) (stored_in self.new) result }
     {
         self.is_ready = false;
         self.fresh = fresh.get();

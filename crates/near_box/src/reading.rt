@@ -16,7 +16,7 @@ ghost use Rattle.near_box.specs.NearCalls.{Reads};
 use crate::known_mark::{KnownMark, KnownMarks, keep_mark, place_of_mark};
 use crate::near_calls::{flags_of, location, place_of};
 use crate::read_fault::ReadFault;
-use crate::survey::Entry;
+use crate::survey::SurveyEntry;
 use device::DeviceFault;
 use mailcore::content::fit;
 use mailcore::copies::mark_of;
@@ -31,7 +31,7 @@ use maildir::folder::{Folder, Source};
 use std::alloc::Global;
 
 /// The bytes of a message.
-pub fn read_message<F: Folder>(folder: &mut F, entry: &Entry) -> Result<Vec<u8>, ReadFault>
+pub fn read_message<F: Folder>(folder: &mut F, entry: &SurveyEntry) -> Result<Vec<u8>, ReadFault>
     ensures reads { Reads (F.seen folder.old) (F.seen folder.new) result }
     ensures keeps { F.is_honest ≡ true → (F.seen folder.new).stored ≡ (F.seen folder.old).stored }
     ensures counted { F.is_honest ≡ true → F.reads folder.new ≡ F.reads folder.old + 1 }
@@ -48,7 +48,7 @@ pub fn read_message<F: Folder>(folder: &mut F, entry: &Entry) -> Result<Vec<u8>,
 /// The bytes of the message with this UID, or none where it is not there.
 pub fn find_message<F: Folder>(
     folder: &mut F,
-    entries: &[Entry],
+    entries: &[SurveyEntry],
     uid: Uid,
 ) -> Result<Option<Vec<u8>>, ReadFault>
     ensures reads { Reads (F.seen folder.old) (F.seen folder.new) result }
@@ -68,7 +68,7 @@ pub fn find_message<F: Folder>(
 pub fn listed<F: Folder>(
     alloc: Global,
     folder: &mut F,
-    entries: &[Entry],
+    entries: &[SurveyEntry],
     spared: &Spared,
     keywords: &Keywords,
 ) -> Result<Items, ReadFault>
@@ -94,7 +94,11 @@ pub fn listed<F: Folder>(
 }
 
 /// Whether a message is fit to be copied, asked where it is not spared.
-fn is_fit<F: Folder>(folder: &mut F, entry: &Entry, spared: &Spared) -> Result<bool, ReadFault>
+fn is_fit<F: Folder>(
+    folder: &mut F,
+    entry: &SurveyEntry,
+    spared: &Spared,
+) -> Result<bool, ReadFault>
     ensures reads { Reads (F.seen folder.old) (F.seen folder.new) result }
     ensures keeps { F.is_honest ≡ true → (F.seen folder.new).stored ≡ (F.seen folder.old).stored }
     ensures fit { F.is_honest ≡ true → IsThereUnless (spares spared.now) (F.seen folder.old).stored entry.now → (keywords : List Keyword)
@@ -127,7 +131,7 @@ fn push_item(items: &mut Items, item: Item) -> Result<(), ReadFault>
 /// The least UID of at least `from` whose message has the mark. A file is read if its mark is not known; then it is.
 pub fn find_mark<F: Folder>(
     folder: &mut F,
-    entries: &[Entry],
+    entries: &[SurveyEntry],
     known: &mut KnownMarks,
     mark: Tuid,
     from: u32,
@@ -157,7 +161,7 @@ pub fn find_mark<F: Folder>(
 /// The mark of a message, which is read unless it is known.
 fn known_mark<F: Folder>(
     folder: &mut F,
-    entry: &Entry,
+    entry: &SurveyEntry,
     known: &mut Vec<KnownMark>,
 ) -> Result<Option<Tuid>, ReadFault>
     ensures reads { Reads (F.seen folder.old) (F.seen folder.new) result }

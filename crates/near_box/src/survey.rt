@@ -12,7 +12,7 @@ ghost use Rattle.maildir.specs.Gains.{Adds};
 ghost use Rattle.near_box.specs.Mailboxes.{first_meta, meta_in};
 ghost use Rattle.maildir.specs.Names.{name_of};
 ghost use Rattle.near_box.specs.NearCalls.{Looks};
-ghost use Rattle.near_box.specs.SurveyParts.{IsKind, IsOwnFault, SurveyTells, file_cmp, is_before, named_entry, waits};
+ghost use Rattle.near_box.specs.SurveyParts.{IsKind, IsOwnFault, SurveyReports, file_cmp, is_before, named_entry, waits};
 
 use crate::known_mark::KnownMarks;
 use crate::near_fault::NearFault;
@@ -27,7 +27,7 @@ use std::num::NonZeroU32;
 
 /// A message of the mailbox: its UID, and where its file stands.
 #[derive(Drop)]
-pub struct Entry {
+pub struct SurveyEntry {
     /// Its UID.
     pub uid: Uid,
     /// Where its file stands.
@@ -40,7 +40,7 @@ pub struct Entry {
 #[derive(Drop)]
 pub struct Survey {
     /// Its messages, in the order of their UIDs.
-    pub entries: Vec<Entry>,
+    pub entries: Vec<SurveyEntry>,
     /// The files that wait for a UID, in the order of their names, `new` before `cur`.
     pub waiting: Vec<FileName>,
     /// What the meta file says, or what a mailbox without one begins with.
@@ -78,7 +78,7 @@ pub fn survey_of<F: Folder>(
     ensures looks { Looks (F.seen folder.old) (F.seen folder.new) result }
     ensures numbers { IfOk result (λ survey. (0 < survey.meta.validity) × (0 < survey.meta.next)) }
     ensures adds { F.is_honest ≡ true → Adds F.visitors (F.seen folder.old).stored (F.seen folder.new).stored }
-    ensures tells { F.is_honest ≡ true → (keywords : List Keyword) → SurveyTells (non_zero_u32_get fresh) keywords (F.seen folder.new).stored result }
+    ensures states { F.is_honest ≡ true → (keywords : List Keyword) → SurveyReports (non_zero_u32_get fresh) keywords (F.seen folder.new).stored result }
 {
     let Some(names) = folder.names()? else {
         return Err(NearFault::Absent);
@@ -96,12 +96,12 @@ fn survey_from(
 ) -> Result<Survey, NearFault>
     ensures numbers { IfOk result (λ survey. (0 < survey.meta.validity) × (0 < survey.meta.next)) }
     ensures calls_nothing { IfErr result (λ fault. IsOwnFault fault) }
-    ensures tells { (s : Stored) (keywords : List Keyword) → Lists (Some names.items) s → text_of text ≡ s.meta
-        → SurveyTells (non_zero_u32_get fresh) keywords s result }
+    ensures states { (s : Stored) (keywords : List Keyword) → Lists (Some names.items) s → text_of text ≡ s.meta
+        → SurveyReports (non_zero_u32_get fresh) keywords s result }
 {
-    let mut found = Found::among(alloc, names)?;
+    let mut found = FoundFiles::among(alloc, names)?;
     found.sort()?;
-    let Found { entries, waiting } = found;
+    let FoundFiles { entries, waiting } = found;
     if !rise(&entries) {
         return Err(NearFault::TwoWithOneUid);
     }
@@ -123,19 +123,19 @@ fn survey_from(
 
 /// The messages and the waiting files of a folder.
 #[derive(Drop)]
-struct Found {
-    entries: Vec<Entry>,
+struct FoundFiles {
+    entries: Vec<SurveyEntry>,
     waiting: Vec<FileName>,
 }
 
-impl Found {
+impl FoundFiles {
     /// Those among these names, in the order of the names.
     #[tactic(auto, using(crate::proofs::SurveyLemmas::filter_map_push, crate::proofs::SurveyLemmas::filter_push))]
-    fn among(alloc: Global, names: Vec<FileName>) -> Result<Found, AllocError>
+    fn among(alloc: Global, names: Vec<FileName>) -> Result<FoundFiles, AllocError>
         ensures entries { IfOk result (λ found. found.entries.items ≡ filter_map named_entry names.items) }
         ensures waiting { IfOk result (λ found. found.waiting.items ≡ filter waits names.items) }
     {
-        let mut found = Found {
+        let mut found = FoundFiles {
             entries: Vec::new(alloc),
             waiting: Vec::new(alloc),
         };
@@ -150,9 +150,9 @@ impl Found {
         ensures waiting { OnOk result (self.new.waiting.items ≡ self.old.waiting.items ++ filter waits (file ∷ [])) }
     {
         match kind_of(file.name.as_slice()) {
-            Kind::Message(uid) => self.entries.push(entry_of(uid, file))?,
-            Kind::Waiting => self.waiting.push(file)?,
-            Kind::Other => {}
+            FileKind::Message(uid) => self.entries.push(entry_of(uid, file))?,
+            FileKind::Waiting => self.waiting.push(file)?,
+            FileKind::Other => {}
         }
         Ok(())
     }
@@ -171,7 +171,7 @@ impl Found {
 }
 
 /// What a name makes of its file.
-enum Kind {
+enum FileKind {
     /// A message with this UID.
     Message(Uid),
     /// A file that waits for a UID.
@@ -180,22 +180,22 @@ enum Kind {
     Other,
 }
 
-fn kind_of(name: &[u8]) -> Kind
+fn kind_of(name: &[u8]) -> FileKind
     ensures { IsKind (name_of name.now) result }
 {
     match read_name(name) {
         Some(name) => match name.uid {
-            Some(uid) => Kind::Message(uid),
-            None => Kind::Waiting,
+            Some(uid) => FileKind::Message(uid),
+            None => FileKind::Waiting,
         },
-        None => Kind::Other,
+        None => FileKind::Other,
     }
 }
 
-fn entry_of(uid: Uid, file: FileName) -> Entry
+fn entry_of(uid: Uid, file: FileName) -> SurveyEntry
     ensures { result ≡ record { uid = uid; place = file.place; name = file.name } }
 {
-    Entry {
+    SurveyEntry {
         uid,
         place: file.place,
         name: file.name,
@@ -213,7 +213,7 @@ fn by_name(a: &FileName, b: &FileName) -> Ordering
 }
 
 /// Whether the UIDs rise, from each message to the next.
-fn rise(entries: &[Entry]) -> bool
+fn rise(entries: &[SurveyEntry]) -> bool
     ensures { MatchBool result (AllPairs (λ a b. a.uid < b.uid) entries.now) (¬ AllPairs (λ a b. a.uid < b.uid) entries.now) }
 {
     entries.is_sorted_by(|a, b| a.uid.get() < b.uid.get())
@@ -242,7 +242,7 @@ fn first_meta(fresh: NonZeroU32) -> Meta
 }
 
 /// Whether the UIDs, which rise, are below the next one.
-fn are_below(entries: &[Entry], next: u32) -> bool
+fn are_below(entries: &[SurveyEntry], next: u32) -> bool
     requires { AllPairs (λ a b. a.uid < b.uid) entries.now }
     ensures { MatchBool result (All (λ e. e.uid < next) entries.now) (¬ All (λ e. e.uid < next) entries.now) }
 {

@@ -6,7 +6,7 @@ ghost use Rattle.near_places.specs.Paths.{folder_of};
 
 use crate::home::{Home, INBOX};
 use crate::names::has_own_part;
-use crate::refusal::{OWN_PART, Refusal};
+use crate::refusal::{OWN_PART, PlaceRefusal};
 use crate::tree::{FolderNames, boxes_under, is_mailbox, is_same_folder};
 use config::config::MaildirStore;
 use mailcore::mailbox_name::MailboxName;
@@ -36,7 +36,7 @@ pub fn near_boxes<R: Files + AllocGlobal + Clone + Drop>(
     rt: &R,
     home: &Home,
     store: &MaildirStore,
-) -> Result<NearBoxes, Refusal> {
+) -> Result<NearBoxes, PlaceRefusal> {
     let alloc = rt.alloc();
     let root = home.place(alloc, &store.path)?;
     let inbox = home.place(alloc, &store.inbox)?;
@@ -70,18 +70,18 @@ pub fn near_folder<R: Files + AllocGlobal + Clone + Drop>(
     home: &Home,
     store: &MaildirStore,
     name: &MailboxName,
-) -> Result<String, Refusal>
+) -> Result<String, PlaceRefusal>
     ensures folder { IfOk result (λ folder. string_bytes folder ≡ folder_of home.now store.now name.now) }
     ensures own { has_own_part name.now ≡ true → IsErr result }
 {
     let alloc = rt.alloc();
     let folder = home.folder_of(alloc, store, name)?;
     if has_own_part(name.as_str()) {
-        return Err(Refusal::cannot_open(alloc, folder.as_str(), OWN_PART));
+        return Err(PlaceRefusal::cannot_open(alloc, folder.as_str(), OWN_PART));
     }
     let inbox = home.place(alloc, &store.inbox)?;
     if name.as_str() != INBOX && is_same_folder(rt, folder.as_str(), inbox.as_str())? {
-        return Err(Refusal::cannot_open(
+        return Err(PlaceRefusal::cannot_open(
             alloc,
             folder.as_str(),
             "it is the folder of Inbox, which is the mailbox INBOX alone",

@@ -1,9 +1,9 @@
 //! The lock of a near mailbox: of all processes one at a time may synchronise it.
 
 ghost use Rattle.std.specs.Prelude.{◌≡◌, ◌++◌, IfErr, codes};
-ghost use Rattle.near_places.specs.Refusals.{TellsLock, told_of_memory};
+ghost use Rattle.near_places.specs.Refusals.{ReportsLock, reported_of_memory};
 
-use crate::refusal::Refusal;
+use crate::refusal::PlaceRefusal;
 use std::alloc::{AllocError, AllocFailed};
 use std::fs::{File, OpenOptions, TryLockError};
 use std::io::ErrorKind;
@@ -26,22 +26,22 @@ pub enum LockFault {
     Held,
     /// Its file does not open.
     #[error("{0}")]
-    Refused(Refusal),
+    Refused(PlaceRefusal),
 }
 
 impl From<AllocError> for LockFault {
-    ghost from_gives = { λ _ fault. fault ≡ told_of_memory };
+    ghost from_gives = { λ _ fault. fault ≡ reported_of_memory };
 
     fn from(fault: AllocError) -> LockFault {
-        LockFault::Refused(Refusal::from(fault))
+        LockFault::Refused(PlaceRefusal::from(fault))
     }
 }
 
 impl<T: Drop> From<AllocFailed<T>> for LockFault {
-    ghost from_gives = { λ _ fault. fault ≡ told_of_memory };
+    ghost from_gives = { λ _ fault. fault ≡ reported_of_memory };
 
     fn from(fault: AllocFailed<T>) -> LockFault {
-        LockFault::Refused(Refusal::from(fault))
+        LockFault::Refused(PlaceRefusal::from(fault))
     }
 }
 
@@ -60,7 +60,7 @@ impl Lock {
         rt: &R,
         folder: &str,
     ) -> Result<Self, LockFault>
-        ensures { IfErr result (TellsLock (folder.now ++ codes "/.mbsyncstate.lock")) }
+        ensures { IfErr result (ReportsLock (folder.now ++ codes "/.mbsyncstate.lock")) }
     {
         let path = format!(in rt.alloc(); "{folder}/{LOCK}")?;
         let file = match lock_file(rt, path.as_str()) {
@@ -96,7 +96,7 @@ fn open_lock_file<R: Files<File = File>>(rt: &R, path: &str) -> io::Result<File>
 }
 
 fn refused<R: AllocGlobal>(rt: &R, path: &str, error: &io::Error) -> LockFault
-    ensures { TellsLock path.now result }
+    ensures { ReportsLock path.now result }
 {
-    LockFault::Refused(Refusal::at(rt.alloc(), path, error))
+    LockFault::Refused(PlaceRefusal::at(rt.alloc(), path, error))
 }

@@ -2,7 +2,7 @@
 
 ghost use Rattle.std.specs.Prelude.{◌≡◌};
 ghost use Rattle.std.specs.IoError.{error_kind};
-ghost use Rattle.near_places.specs.Refusals.{Tells};
+ghost use Rattle.near_places.specs.Refusals.{Reports};
 
 use std::alloc::{AllocError, AllocFailed, Global};
 use std::io;
@@ -15,7 +15,7 @@ pub const OWN_PART: &str =
 
 /// Why a place does not open.
 #[derive(Debug, Drop, Error)]
-pub enum Refusal {
+pub enum PlaceRefusal {
     /// The system says no to the file or the folder of this path. Why, and what can be done, as a text without an end of line.
     #[error("cannot open {0}")]
     CannotOpen(String, &'static str),
@@ -24,25 +24,25 @@ pub enum Refusal {
     NoMemory,
 }
 
-impl Refusal {
+impl PlaceRefusal {
     /// What an error of the system at this path means.
     pub fn at(alloc: Global, path: &str, error: &io::Error) -> Self
-        ensures path { Tells path.now result }
-        ensures memory { error_kind error.now ≡ ErrorKind.OutOfMemory → result ≡ Refusal.NoMemory }
+        ensures path { Reports path.now result }
+        ensures memory { error_kind error.now ≡ ErrorKind.OutOfMemory → result ≡ PlaceRefusal.NoMemory }
     {
         if error.kind() == ErrorKind::OutOfMemory {
-            return Refusal::NoMemory;
+            return PlaceRefusal::NoMemory;
         }
-        Refusal::cannot_open(alloc, path, reason_of(error.kind()))
+        PlaceRefusal::cannot_open(alloc, path, reason_of(error.kind()))
     }
 
     /// What is named so does not open, for this reason.
     pub fn cannot_open(alloc: Global, name: &str, reason: &'static str) -> Self
-        ensures { Tells name.now result }
+        ensures { Reports name.now result }
     {
         match String::from_str(alloc, name) {
-            Ok(name) => Refusal::CannotOpen(name, reason),
-            Err(AllocError) => Refusal::NoMemory,
+            Ok(name) => PlaceRefusal::CannotOpen(name, reason),
+            Err(AllocError) => PlaceRefusal::NoMemory,
         }
     }
 }
@@ -67,22 +67,22 @@ fn reason_of(kind: ErrorKind) -> &'static str {
     }
 }
 
-impl From<AllocError> for Refusal {
-    ghost use Rattle.near_places.specs.declared.refusal.Refusal.TheVariants.{NoMemory};
+impl From<AllocError> for PlaceRefusal {
+    ghost use Rattle.near_places.specs.declared.refusal.PlaceRefusal.TheVariants.{NoMemory};
 
     ghost from_gives = { λ _ refusal. refusal ≡ NoMemory };
 
-    fn from(_fault: AllocError) -> Refusal {
-        Refusal::NoMemory
+    fn from(_fault: AllocError) -> PlaceRefusal {
+        PlaceRefusal::NoMemory
     }
 }
 
-impl<T: Drop> From<AllocFailed<T>> for Refusal {
-    ghost use Rattle.near_places.specs.declared.refusal.Refusal.TheVariants.{NoMemory};
+impl<T: Drop> From<AllocFailed<T>> for PlaceRefusal {
+    ghost use Rattle.near_places.specs.declared.refusal.PlaceRefusal.TheVariants.{NoMemory};
 
     ghost from_gives = { λ _ refusal. refusal ≡ NoMemory };
 
-    fn from(_fault: AllocFailed<T>) -> Refusal {
-        Refusal::NoMemory
+    fn from(_fault: AllocFailed<T>) -> PlaceRefusal {
+        PlaceRefusal::NoMemory
     }
 }

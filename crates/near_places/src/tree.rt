@@ -6,7 +6,7 @@ ghost use Rattle.near_places.specs.Names.{has_own_part};
 ghost use Rattle.near_places.specs.Refusals.{unless_beyond};
 
 use crate::names::has_own_part;
-use crate::refusal::Refusal;
+use crate::refusal::PlaceRefusal;
 use config_words::inbox::is_inbox;
 use device::disk::Disk;
 use mailcore::mailbox_name::is_mailbox_name;
@@ -27,10 +27,10 @@ const LONGEST: usize = 255;
 pub(crate) fn is_mailbox<R: Files + AllocGlobal + Clone + Drop>(
     rt: &R,
     folder: &str,
-) -> Result<bool, Refusal> {
+) -> Result<bool, PlaceRefusal> {
     match has_parts(rt, folder) {
         Ok(answer) => Ok(answer),
-        Err(error) => Err(Refusal::at(rt.alloc(), folder, &error)),
+        Err(error) => Err(PlaceRefusal::at(rt.alloc(), folder, &error)),
     }
 }
 
@@ -62,8 +62,8 @@ pub(crate) fn boxes_under<'a, R: Files + AllocGlobal + Clone + Drop>(
     rt: &'a R,
     root: &'a str,
     inbox: &str,
-) -> Result<FolderNames, Refusal> {
-    let mut walk = Walk::new(rt, root);
+) -> Result<FolderNames, PlaceRefusal> {
+    let mut walk = TreeWalk::new(rt, root);
     walk.begin()?;
     walk.inbox = folder_at(rt, inbox)?;
     for _ in 0..u64::MAX {
@@ -76,11 +76,11 @@ pub(crate) fn boxes_under<'a, R: Files + AllocGlobal + Clone + Drop>(
 }
 
 /// An answer of the system, but nothing of a folder that is left out because of its name keeps the others from being listed.
-fn unless_beyond(is_within: bool, answer: Result<(), Refusal>) -> Result<(), Refusal>
+fn unless_beyond(is_within: bool, answer: Result<(), PlaceRefusal>) -> Result<(), PlaceRefusal>
     ensures { result ≡ unless_beyond is_within answer }
 {
     match answer {
-        Err(Refusal::CannotOpen(..)) if !is_within => Ok(()),
+        Err(PlaceRefusal::CannotOpen(..)) if !is_within => Ok(()),
         answer => answer,
     }
 }
@@ -94,7 +94,7 @@ struct Identity {
 
 /// A folder that is to be read.
 #[derive(Drop)]
-struct Folder {
+struct TreeFolder {
     /// The way to it from the root, with a slash after each part.
     way: String,
     /// The folders on this way, and itself.
@@ -105,19 +105,19 @@ struct Folder {
 
 /// A walk through the folders under a root.
 #[derive(Drop)]
-struct Walk<'a, R: Files + AllocGlobal + Clone + Drop> {
+struct TreeWalk<'a, R: Files + AllocGlobal + Clone + Drop> {
     rt: &'a R,
     root: &'a str,
     /// The folder of Inbox, if it is there.
     inbox: Option<Identity>,
-    ahead: Vec<Folder>,
+    ahead: Vec<TreeFolder>,
     names: FolderNames,
 }
 
-impl<'a, R: Files + AllocGlobal + Clone + Drop> Walk<'a, R> {
+impl<'a, R: Files + AllocGlobal + Clone + Drop> TreeWalk<'a, R> {
     fn new(rt: &'a R, root: &'a str) -> Self {
         let alloc = rt.alloc();
-        Walk {
+        TreeWalk {
             rt,
             root,
             inbox: None,
@@ -130,13 +130,13 @@ impl<'a, R: Files + AllocGlobal + Clone + Drop> Walk<'a, R> {
     }
 
     /// Keeps the root to be read, if it is there.
-    fn begin(&mut self) -> Result<(), Refusal> {
+    fn begin(&mut self) -> Result<(), PlaceRefusal> {
         let alloc = self.rt.alloc();
         if let Some(identity) = folder_at(self.rt, self.root)? {
             let mut above = Vec::new(alloc);
             above.push(identity)?;
             let way = String::new(alloc);
-            self.ahead.push(Folder {
+            self.ahead.push(TreeFolder {
                 way,
                 above,
                 is_within: true,
@@ -146,27 +146,27 @@ impl<'a, R: Files + AllocGlobal + Clone + Drop> Walk<'a, R> {
     }
 
     /// Looks at what stands in a folder.
-    fn read(&mut self, folder: &Folder) -> Result<(), Refusal> {
+    fn read(&mut self, folder: &TreeFolder) -> Result<(), PlaceRefusal> {
         let path = self.path_of(folder.way.as_str())?;
         let entries = match fs::read_dir(self.rt, path.as_str()) {
             Ok(entries) => entries,
             // It was just removed.
             Err(error) if error.kind() == ErrorKind::NotFound => return Ok(()),
-            Err(error) => return Err(Refusal::at(self.rt.alloc(), path.as_str(), &error)),
+            Err(error) => return Err(PlaceRefusal::at(self.rt.alloc(), path.as_str(), &error)),
         };
         for entry in entries {
             match entry {
                 Ok(entry) => self.look(folder, entry.file_name())?,
                 // A name outside UTF-8 is beyond the limits, and cannot be had.
                 Err(error) if error.kind() == ErrorKind::InvalidFilename => {}
-                Err(error) => return Err(Refusal::at(self.rt.alloc(), path.as_str(), &error)),
+                Err(error) => return Err(PlaceRefusal::at(self.rt.alloc(), path.as_str(), &error)),
             }
         }
         Ok(())
     }
 
     /// Looks at a part of a folder: if it is a folder that can be a mailbox or have one in it, it is to be read too.
-    fn look(&mut self, folder: &Folder, part: &str) -> Result<(), Refusal> {
+    fn look(&mut self, folder: &TreeFolder, part: &str) -> Result<(), PlaceRefusal> {
         if PARTS.iter().any(|own| *own == part) {
             return Ok(());
         }
@@ -177,7 +177,12 @@ impl<'a, R: Files + AllocGlobal + Clone + Drop> Walk<'a, R> {
     }
 
     /// Looks at what stands at the end of this way, below a folder.
-    fn visit(&mut self, above: &Folder, name: String, is_within: bool) -> Result<(), Refusal> {
+    fn visit(
+        &mut self,
+        above: &TreeFolder,
+        name: String,
+        is_within: bool,
+    ) -> Result<(), PlaceRefusal> {
         let path = self.path_of(name.as_str())?;
         match folder_at(self.rt, path.as_str())? {
             Some(identity) if !above.above.contains(&identity) => {
@@ -194,11 +199,11 @@ impl<'a, R: Files + AllocGlobal + Clone + Drop> Walk<'a, R> {
     /// Keeps a folder to be read, if its name is not too long: links could make the ways below it too many.
     fn keep(
         &mut self,
-        above: &Folder,
+        above: &TreeFolder,
         name: &str,
         identity: Identity,
         is_within: bool,
-    ) -> Result<(), Refusal> {
+    ) -> Result<(), PlaceRefusal> {
         if name.len() > LONGEST {
             return Ok(());
         }
@@ -206,7 +211,7 @@ impl<'a, R: Files + AllocGlobal + Clone + Drop> Walk<'a, R> {
         way.push('/')?;
         let mut all = above.above.clone()?;
         all.push(identity)?;
-        self.ahead.push(Folder {
+        self.ahead.push(TreeFolder {
             way,
             above: all,
             is_within,
@@ -215,7 +220,7 @@ impl<'a, R: Files + AllocGlobal + Clone + Drop> Walk<'a, R> {
     }
 
     /// Notes the name of a folder, if it is a mailbox. Where its name means INBOX, it is left out: INBOX stands elsewhere.
-    fn note(&mut self, name: String, is_within: bool, path: &str) -> Result<(), Refusal> {
+    fn note(&mut self, name: String, is_within: bool, path: &str) -> Result<(), PlaceRefusal> {
         if !is_mailbox(self.rt, path)? {
             return Ok(());
         }
@@ -249,7 +254,7 @@ pub(crate) fn is_same_folder<R: Files + AllocGlobal>(
     rt: &R,
     path: &str,
     other: &str,
-) -> Result<bool, Refusal> {
+) -> Result<bool, PlaceRefusal> {
     match folder_at(rt, path)? {
         Some(identity) => Ok(folder_at(rt, other)? == Some(identity)),
         None => Ok(false),
@@ -257,7 +262,7 @@ pub(crate) fn is_same_folder<R: Files + AllocGlobal>(
 }
 
 /// Which folder stands there, if it is one.
-fn folder_at<R: Files + AllocGlobal>(rt: &R, path: &str) -> Result<Option<Identity>, Refusal> {
+fn folder_at<R: Files + AllocGlobal>(rt: &R, path: &str) -> Result<Option<Identity>, PlaceRefusal> {
     match fs::metadata(rt, path) {
         Ok(found) if found.is_dir() => Ok(Some(Identity {
             device: found.dev(),
@@ -265,7 +270,7 @@ fn folder_at<R: Files + AllocGlobal>(rt: &R, path: &str) -> Result<Option<Identi
         })),
         Ok(_) => Ok(None),
         Err(error) if is_nothing(error.kind()) => Ok(None),
-        Err(error) => Err(Refusal::at(rt.alloc(), path, &error)),
+        Err(error) => Err(PlaceRefusal::at(rt.alloc(), path, &error)),
     }
 }
 

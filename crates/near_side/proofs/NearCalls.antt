@@ -25,13 +25,13 @@ use Rattle.mailbox.specs.Operations.{Admits, AdmitsPart, Answers, Appends, IsFul
 use Rattle.mailbox.proofs.Admitted.{admits_all, admits_some}
 use Rattle.mailbox.proofs.Quiet.{quiet}
 use Rattle.near_side.specs.declared.near_side.NearSide.{NearSide}
-use Rattle.near_side.specs.NearFaults.{told, told_by}
+use Rattle.near_side.specs.NearFaults.{reported, reported_by}
 use Rattle.near_side.specs.NearSides.{is_broken_in, seen_at, seen_of}
 
 -- ---- nobody acts before
 
 pub unvisited : (v : Visitors) {b b' : Mailbox} (does : Effect Mailbox) → does b b' → Follows (Arrives side.Near v.ours v.alone) does b b'
-unvisited v {b} does h = record { mid = b; before = quiet side.Near v.ours v.alone b; behind = h }
+unvisited v {b} does h = record { mid = b; before = quiet side.Near v.ours v.alone b; following = h }
 
 -- ---- an open mailbox
 
@@ -54,7 +54,7 @@ nothing_done {F} {folders} s whole = record { was_whole = whole; is_whole = whol
 -- what a call does by its answer, and what it leaves by its fault
 abbrev Left : {T : Type 0} → (because : BoxFault → Mailbox → Type 0) → (does : T → Effect Mailbox) → (part : Effect Mailbox) → Result T NearFault → Effect Mailbox
 Left because does part (Ok answer) = does answer
-Left because does part (Err e) = LeavesBy does part because (told e)
+Left because does part (Err e) = LeavesBy does part because (reported e)
 
 -- the mailbox before a call of its box, and the box after it
 module _ {F : Type 0} {folders : folder.Ghosts F} (s : NearSide F folders) (new : NearBox F folders) (is_open : s.is_open ≡ true) (whole : (seen_of s).is_broken ≡ false) where
@@ -109,7 +109,7 @@ module _ {F : Type 0} {folders : folder.Ghosts F} (s : NearSide F folders) (new 
   halts leaves same cause no_less leaves_so = record { cause = cause; no_less = no_less; left = λ h. says_so leaves same (leaves_so h) }
 
   fails : (T : Type 0) (gives_uids : Bool) (leaves : Effect Mailbox) (e : NearFault) → Ends {T = T} gives_uids (box_of s.near) (box_of new) (Err e) → (honest → leaves n n')
-      → Halts honest ⊥ (told e ≡ fault.Stopped) (Follows others leaves) (seen_of s) now
+      → Halts honest ⊥ (reported e ≡ fault.Stopped) (Follows others leaves) (seen_of s) now
   fails T gives_uids leaves near.Stopped ends leaves_so = halts leaves ends.keywords (λ _. inl (ends.counted ready)) (omega (arith, ends.counted ready)) leaves_so
   fails T gives_uids leaves near.NoMemory ends leaves_so = halts leaves ends.keywords (λ is. absurd (cc)) ends.no_less leaves_so
   fails T gives_uids leaves near.UidsExhausted ends leaves_so = halts leaves (ap (λ (b : Box). b.keywords) (same_box gives_uids ends)) (λ is. absurd (cc)) (omega (arith, ap stops_of (same_box gives_uids ends))) leaves_so
@@ -119,9 +119,9 @@ module _ {F : Type 0} {folders : folder.Ghosts F} (s : NearSide F folders) (new 
 
   calls : {T : Type 0} (gives_uids : Bool) (because : BoxFault → Mailbox → Type 0) (does : T → Effect Mailbox) (part : Effect Mailbox) (answer : Result T NearFault)
       → Ends gives_uids (box_of s.near) (box_of new) answer → (honest → Left because does part answer n n')
-      → Call honest ⊥ others because does part (seen_of s) now (told_by answer)
+      → Call honest ⊥ others because does part (seen_of s) now (reported_by answer)
   calls gives_uids because does part (Ok answer) ends left_so = goes does answer ends left_so
-  calls {T} gives_uids because does part (Err e) ends left_so = fails T gives_uids (LeavesBy does part because (told e)) e ends left_so
+  calls {T} gives_uids because does part (Err e) ends left_so = fails T gives_uids (LeavesBy does part because (reported e)) e ends left_so
 
   -- ---- a call that changes nothing
 
@@ -134,23 +134,23 @@ module _ {F : Type 0} {folders : folder.Ghosts F} (s : NearSide F folders) (new 
   unchanged does (Err near.TwoWithOneUid) ends same did = absurd ends
   unchanged does (Err near.BadMeta) ends same did = absurd ends
 
-  answered : {T : Type 0} (tells : T → Mailbox → Type 0) (answer : Result T NearFault) → n' ≡ n → IfOk answer (λ x. tells x n) → IfOk answer (λ x. Answers tells x n n')
-  answered tells (Ok x) same tells_so = (same, tells_so)
-  answered tells (Err e) same tells_so = tt
+  answered : {T : Type 0} (states : T → Mailbox → Type 0) (answer : Result T NearFault) → n' ≡ n → IfOk answer (λ x. states x n) → IfOk answer (λ x. Answers states x n n')
+  answered states (Ok x) same reports_so = (same, reports_so)
+  answered states (Err e) same reports_so = tt
 
   rested : (answer : Result (Unit {0}) NearFault) → n' ≡ n → IfOk answer (λ _. n' ≡ n)
   rested (Ok x) same = same
   rested (Err e) same = tt
 
   -- it reads
-  pub reads : {T : Type 0} (tells : T → Mailbox → Type 0) (answer : Result T NearFault) → Ends false (box_of s.near) (box_of new) answer → (honest → stored_in new ≡ stored_in s.near)
-      → (honest → IfOk answer (λ x. tells x n)) → Call honest ⊥ others Never (Answers tells) Nothing (seen_of s) now (told_by answer)
-  reads tells answer ends same tells_so = calls false Never (Answers tells) Nothing answer ends
-      (λ h. unchanged (Answers tells) answer ends (same_near (same h)) (answered tells answer (same_near (same h)) (tells_so h)))
+  pub reads : {T : Type 0} (states : T → Mailbox → Type 0) (answer : Result T NearFault) → Ends false (box_of s.near) (box_of new) answer → (honest → stored_in new ≡ stored_in s.near)
+      → (honest → IfOk answer (λ x. states x n)) → Call honest ⊥ others Never (Answers states) Nothing (seen_of s) now (reported_by answer)
+  reads states answer ends same reports_so = calls false Never (Answers states) Nothing answer ends
+      (λ h. unchanged (Answers states) answer ends (same_near (same h)) (answered states answer (same_near (same h)) (reports_so h)))
 
   -- it rests
   pub rests : (answer : Result (Unit {0}) NearFault) → Ends false (box_of s.near) (box_of new) answer → (honest → stored_in new ≡ stored_in s.near)
-      → Call {T = Unit {0}} honest ⊥ others Never (λ _ b b'. b' ≡ b) Nothing (seen_of s) now (told_by answer)
+      → Call {T = Unit {0}} honest ⊥ others Never (λ _ b b'. b' ≡ b) Nothing (seen_of s) now (reported_by answer)
   rests answer ends same = calls false Never (λ _ b b'. b' ≡ b) Nothing answer ends
       (λ h. unchanged (λ _ b b'. b' ≡ b) answer ends (same_near (same h)) (rested answer (same_near (same h))))
 
@@ -163,7 +163,7 @@ module _ {F : Type 0} {folders : folder.Ghosts F} (s : NearSide F folders) (new 
 
   failed : (A : Type 0) {T : Type 0} (gives_uids : Bool) (because : BoxFault → Mailbox → Type 0) (does : T → Effect Mailbox) (part : Effect Mailbox) (change : Mailbox → Mailbox) (e : NearFault) → (n' ≡ change n → DoesSome does n n')
       → Ends {T = A} gives_uids (box_of s.near) (box_of new) (Err e) → (n' ≡ n) ⊎ ((n' ≡ change n) ⊎ part n n') → (e ≡ near.UidsExhausted → gives_uids ≡ true → because (fault.Own 5) n)
-      → LeavesBy does part because (told e) n n'
+      → LeavesBy does part because (reported e) n n'
   failed A gives_uids because does part change near.Stopped done ends left_so full = may does part change done left_so
   failed A gives_uids because does part change near.NoMemory done ends left_so full = may does part change done left_so
   failed A true because does part change near.UidsExhausted done ends left_so full = (same_near (ap (λ (b : Box). b.folder.stored) ends.1), full refl refl)
@@ -180,7 +180,7 @@ module _ {F : Type 0} {folders : folder.Ghosts F} (s : NearSide F folders) (new 
 
   -- it gives no UIDs
   pub turns : (change : Mailbox → Mailbox) (answer : Result (Unit {0}) NearFault) → Ends false (box_of s.near) (box_of new) answer → (honest → TurnsMailbox change Nothing s.near new answer)
-      → Call {T = Unit {0}} honest ⊥ others Never (λ _ b b'. b' ≡ change b) Nothing (seen_of s) now (told_by answer)
+      → Call {T = Unit {0}} honest ⊥ others Never (λ _ b b'. b' ≡ change b) Nothing (seen_of s) now (reported_by answer)
   turns change answer ends did = calls false Never (λ _ b b'. b' ≡ change b) Nothing answer ends (λ h. turned false Never Nothing change answer ends (did h) (λ is no. absurd (cc)))
 
   -- all that waits was read
@@ -201,7 +201,7 @@ module _ {F : Type 0} {folders : folder.Ghosts F} (s : NearSide F folders) (new 
   -- it gives all that waits its UIDs
   pub admits : (answer : Result (Unit {0}) NearFault) → Ends true (box_of s.near) (box_of new) answer → (honest → TurnsMailbox all_admitted AdmitsSome s.near new answer)
       → (honest → IsErrOf answer near.UidsExhausted → IsFull (length n.waiting) n)
-      → Call {T = Unit {0}} honest ⊥ others (NoRoom side.Near (λ b. length b.waiting)) (λ _. Admits folders.visitors.alone n.waiting) (AdmitsPart folders.visitors.alone) (seen_of s) now (told_by answer)
+      → Call {T = Unit {0}} honest ⊥ others (NoRoom side.Near (λ b. length b.waiting)) (λ _. Admits folders.visitors.alone n.waiting) (AdmitsPart folders.visitors.alone) (seen_of s) now (reported_by answer)
   admits answer ends did full = calls true (NoRoom side.Near (λ b. length b.waiting)) (λ _. Admits folders.visitors.alone n.waiting) (AdmitsPart folders.visitors.alone) answer ends
       (λ h. admitted (NoRoom side.Near (λ b. length b.waiting)) answer (turned true (NoRoom side.Near (λ b. length b.waiting)) AdmitsSome all_admitted answer ends (did h) (λ is _. (refl, full h is))))
 
@@ -215,8 +215,8 @@ module _ {F : Type 0} {folders : folder.Ghosts F} (s : NearSide F folders) (new 
 
   pub added_none : (bytes : List ℕ) (flags : ℕ) (e : NearFault) → Ends {T = ℕ} true (box_of s.near) (box_of new) (Err e) → (honest → (n' ≡ n) ⊎ ((n' ≡ delivered bytes flags n) ⊎ SetsAside n n'))
       → (honest → e ≡ near.UidsExhausted → IsFull 1 n)
-      → Halts honest ⊥ (told e ≡ fault.Stopped) (Follows others (LeavesBy (Appends side.Near bytes flags) SetsAside (NoRoom side.Near (λ _. 1)) (told e))) (seen_of s) now
-  added_none bytes flags e ends left_so full = fails ℕ true (LeavesBy (Appends side.Near bytes flags) SetsAside (NoRoom side.Near (λ _. 1)) (told e)) e ends
+      → Halts honest ⊥ (reported e ≡ fault.Stopped) (Follows others (LeavesBy (Appends side.Near bytes flags) SetsAside (NoRoom side.Near (λ _. 1)) (reported e))) (seen_of s) now
+  added_none bytes flags e ends left_so full = fails ℕ true (LeavesBy (Appends side.Near bytes flags) SetsAside (NoRoom side.Near (λ _. 1)) (reported e)) e ends
       (λ h. failed ℕ true (NoRoom side.Near (λ _. 1)) (Appends side.Near bytes flags) SetsAside (delivered bytes flags) e (λ all. record { answer = Some n.store.next; done = appends bytes flags all }) ends (left_so h) (λ is _. (refl, full h is)))
 
   -- ---- a full mailbox

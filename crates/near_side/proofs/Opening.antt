@@ -17,15 +17,15 @@ use Rattle.near_box.specs.Boxes.{mailbox_of, seen_in, stored_in}
 use Rattle.mailcore.specs.Mailboxes.{Mailbox}
 use Rattle.near_box.specs.Mailboxes.{IsMetaOf, near_of}
 use Rattle.near_box.specs.NearCalls.{Looks}
-use Rattle.near_box.specs.NearContracts.{TellsWhy}
+use Rattle.near_box.specs.NearContracts.{ReportsWhy}
 use Rattle.near_box.proofs.ArrivedLemmas.{added_arrives}
-use Rattle.near_box.proofs.GainedLemmas.{told_before}
+use Rattle.near_box.proofs.GainedLemmas.{reported_before}
 use Rattle.mailbox.specs.declared.fault.BoxFault.TheVariants as fault
 use Rattle.mailbox.specs.Arrivals.{Arrives}
 use Rattle.mailbox.specs.Calls.{Halts, LeavesBy, Seen}
-use Rattle.mailbox.specs.Operations.{Answers, TellsValidity}
+use Rattle.mailbox.specs.Operations.{Answers, ReportsValidity}
 use Rattle.near_side.specs.declared.near_side.NearSide.{NearSide}
-use Rattle.near_side.specs.NearFaults.{told}
+use Rattle.near_side.specs.NearFaults.{reported}
 use Rattle.near_side.specs.NearSides.{Unfit, is_broken_in, seen_at, seen_of}
 
 -- the folder of a mailbox that has not failed is whole
@@ -46,7 +46,7 @@ module _ {F : Type 0} {folders : folder.Ghosts F} (s : NearSide F folders) (new 
   now is_open = seen_at is_open (non_zero_u32_get s.fresh) new.keywords new
 
   abbrev Leaves : NearFault → Effect Mailbox
-  Leaves e = LeavesBy (Answers TellsValidity) Nothing (λ f _. Unfit s f) (told e)
+  Leaves e = LeavesBy (Answers ReportsValidity) Nothing (λ f _. Unfit s f) (reported e)
 
   missed_same : length new.missed.items ≡ length s.near.missed.items
   missed_same = ap (λ (m : History (Unit {0})). length m.items) missed
@@ -57,7 +57,7 @@ module _ {F : Type 0} {folders : folder.Ghosts F} (s : NearSide F folders) (new 
     mid = (now false).stored;
     before = subst (λ (keywords : List Keyword). Arrives side.Near folders.visitors.ours folders.visitors.alone (seen_of s).stored (near_of (non_zero_u32_get s.fresh) keywords (stored_in new))) (sym same_map)
         (added_arrives folders.visitors (non_zero_u32_get s.fresh) s.near.keywords (stored_in s.near) (stored_in new) (adds h));
-    behind = done;
+    following = done;
   }
 
   folder_is_whole : (seen_in s.near).is_broken ≡ false
@@ -66,17 +66,17 @@ module _ {F : Type 0} {folders : folder.Ghosts F} (s : NearSide F folders) (new 
   -- ---- it is opened
 
   pub opens : (meta : Meta) → Looks {T = Unit {0}} (seen_in s.near) (seen_in new) (Ok tt) → new.is_ready ≡ true → new.fresh ≡ non_zero_u32_get s.fresh
-      → (honest → IsMetaOf (mailbox_of new).store meta) → Went honest (Follows (Arrives side.Near folders.visitors.ours folders.visitors.alone) (Answers TellsValidity meta.validity)) (seen_of s) (now true)
+      → (honest → IsMetaOf (mailbox_of new).store meta) → Went honest (Follows (Arrives side.Near folders.visitors.ours folders.visitors.alone) (Answers ReportsValidity meta.validity)) (seen_of s) (now true)
   opens meta looks is_ready fresh is = record {
     was_whole = whole;
     is_whole = ap not is_ready;
     stops = omega (arith, missed_same, looks.2);
-    effect = λ h. others_first (Answers TellsValidity meta.validity) h (refl, (is h).0 ∙ ap (λ (f : ℕ). (near_of f new.keywords (stored_in new)).store.validity) fresh);
+    effect = λ h. others_first (Answers ReportsValidity meta.validity) h (refl, (is h).0 ∙ ap (λ (f : ℕ). (near_of f new.keywords (stored_in new)).store.validity) fresh);
   }
 
   -- ---- or not
 
-  unfit : (e : NearFault) → Looks {T = Unit {0}} (seen_in s.near) (seen_in new) (Err e) → honest → TellsWhy (non_zero_u32_get s.fresh) (stored_in s.near) e → Leaves e (now false).stored (now false).stored
+  unfit : (e : NearFault) → Looks {T = Unit {0}} (seen_in s.near) (seen_in new) (Err e) → honest → ReportsWhy (non_zero_u32_get s.fresh) (stored_in s.near) e → Leaves e (now false).stored (now false).stored
   unfit near.Stopped looks h why = inl refl
   unfit near.NoMemory looks h why = inl refl
   unfit near.UidsExhausted looks h why = absurd looks
@@ -84,7 +84,7 @@ module _ {F : Type 0} {folders : folder.Ghosts F} (s : NearSide F folders) (new 
   unfit near.TwoWithOneUid looks h why = (refl, inr (inl (refl, why)))
   unfit near.BadMeta looks h why = (refl, inr (inr (refl, why)))
 
-  cause : (e : NearFault) → Looks {T = Unit {0}} (seen_in s.near) (seen_in new) (Err e) → told e ≡ fault.Stopped → (seen_of s).stops < (now false).stops
+  cause : (e : NearFault) → Looks {T = Unit {0}} (seen_in s.near) (seen_in new) (Err e) → reported e ≡ fault.Stopped → (seen_of s).stops < (now false).stops
   cause near.Stopped looks is = omega (arith, missed_same, stopped_now (seen_in s.near) (seen_in new) folder_is_whole looks.0)
   cause near.NoMemory looks is = absurd (cc)
   cause near.UidsExhausted looks is = absurd looks
@@ -100,10 +100,10 @@ module _ {F : Type 0} {folders : folder.Ghosts F} (s : NearSide F folders) (new 
   no_less near.TwoWithOneUid looks = omega (arith, missed_same, looks.1)
   no_less near.BadMeta looks = omega (arith, missed_same, looks.1)
 
-  pub stays_closed : (e : NearFault) → Looks {T = Unit {0}} (seen_in s.near) (seen_in new) (Err e) → (honest → TellsWhy (non_zero_u32_get s.fresh) (stored_in new) e)
-      → Halts honest ⊥ (told e ≡ fault.Stopped) (Follows (Arrives side.Near folders.visitors.ours folders.visitors.alone) (Leaves e)) (seen_of s) (now false)
+  pub stays_closed : (e : NearFault) → Looks {T = Unit {0}} (seen_in s.near) (seen_in new) (Err e) → (honest → ReportsWhy (non_zero_u32_get s.fresh) (stored_in new) e)
+      → Halts honest ⊥ (reported e ≡ fault.Stopped) (Follows (Arrives side.Near folders.visitors.ours folders.visitors.alone) (Leaves e)) (seen_of s) (now false)
   stays_closed e looks why = record {
     cause = λ is. inl (cause e looks is);
     no_less = no_less e looks;
-    left = λ h. others_first (Leaves e) h (unfit e looks h (told_before folders.visitors (non_zero_u32_get s.fresh) (stored_in s.near) (stored_in new) e (adds h) (why h)));
+    left = λ h. others_first (Leaves e) h (unfit e looks h (reported_before folders.visitors (non_zero_u32_get s.fresh) (stored_in s.near) (stored_in new) e (adds h) (why h)));
   }

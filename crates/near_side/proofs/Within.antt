@@ -14,7 +14,7 @@ use Rattle.near_box.specs.Mailboxes.{near_of}
 use Rattle.near_box.specs.declared.near_fault.NearFault.{NearFault}
 use Rattle.near_box.proofs.RangeLemmas.{messages_within}
 use Rattle.mailbox.specs.Operations.{ListsWithin}
-use Rattle.near_side.specs.NearFaults.{told_by}
+use Rattle.near_side.specs.NearFaults.{reported_by}
 
 items_within : (keywords : List Keyword) (spared : ℕ → Bool) (messages : List Message) → All (λ m. IsWithin keywords m.flags) messages
     → All (λ (i : Item). IsWithin keywords i.flags) (map (item_sparing side.Near spared) messages)
@@ -28,6 +28,6 @@ listing_within fresh keywords spared s listing shows =
     subst (λ (is : List Item). All (λ (i : Item). IsWithin keywords i.flags) is) (sym shows.items) (items_within keywords spared (near_of fresh keywords s).store.messages (messages_within fresh keywords s))
 
 pub lists_within : (fresh : ℕ) (keywords : List Keyword) (spared : ℕ → Bool) (s : Stored) (answer : Result Listing NearFault)
-    → IfOk answer (λ listing. ShowsSparing side.Near spared (near_of fresh keywords s).store listing) → IfOk (told_by answer) (ListsWithin keywords)
+    → IfOk answer (λ listing. ShowsSparing side.Near spared (near_of fresh keywords s).store listing) → IfOk (reported_by answer) (ListsWithin keywords)
 lists_within fresh keywords spared s (Ok listing) shows = listing_within fresh keywords spared s listing shows
 lists_within fresh keywords spared s (Err fault) shows = tt

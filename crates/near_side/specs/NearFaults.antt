@@ -7,14 +7,14 @@ use Rattle.mailbox.specs.declared.fault.BoxFault.TheVariants.{Stopped, Own, NoMe
 use Rattle.mailbox.specs.FaultNumbers.{NEAR_ABSENT, NEAR_TWO_WITH_ONE_UID, NEAR_BAD_META, NEAR_UIDS_EXHAUSTED}
 
 -- those that are its own have numbers
-abbrev pub told : NearFault → BoxFault
-told near.Stopped = Stopped
-told near.Absent = Own NEAR_ABSENT
-told near.TwoWithOneUid = Own NEAR_TWO_WITH_ONE_UID
-told near.BadMeta = Own NEAR_BAD_META
-told near.UidsExhausted = Own NEAR_UIDS_EXHAUSTED
-told near.NoMemory = NoMemory
+abbrev pub reported : NearFault → BoxFault
+reported near.Stopped = Stopped
+reported near.Absent = Own NEAR_ABSENT
+reported near.TwoWithOneUid = Own NEAR_TWO_WITH_ONE_UID
+reported near.BadMeta = Own NEAR_BAD_META
+reported near.UidsExhausted = Own NEAR_UIDS_EXHAUSTED
+reported near.NoMemory = NoMemory
 
-abbrev pub told_by : {T : Type 0} → Result T NearFault → Result T BoxFault
-told_by (Ok answer) = Ok answer
-told_by (Err fault) = Err (told fault)
+abbrev pub reported_by : {T : Type 0} → Result T NearFault → Result T BoxFault
+reported_by (Ok answer) = Ok answer
+reported_by (Err fault) = Err (reported fault)

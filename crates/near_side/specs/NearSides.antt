@@ -11,7 +11,7 @@ use Rattle.near_box.specs.Boxes.{box_of, seen_in, stored_in}
 use Rattle.mailcore.specs.Mailboxes.{Mailbox}
 use Rattle.near_box.specs.Mailboxes.{near_of}
 use Rattle.near_box.specs.NearCalls.{stops_of}
-use Rattle.near_box.specs.NearContracts.{TellsWhy}
+use Rattle.near_box.specs.NearContracts.{ReportsWhy}
 use Rattle.mailbox.specs.FaultNumbers.{NEAR_ABSENT, NEAR_TWO_WITH_ONE_UID, NEAR_BAD_META}
 use Rattle.mailbox.specs.declared.fault.BoxFault.{BoxFault}
 use Rattle.mailbox.specs.declared.fault.BoxFault.TheVariants.{Stopped, Refused, Own, NoMemory}
@@ -42,7 +42,7 @@ module _ {F : Type 0} {folders : folder.Ghosts F} where
   Unfit side Stopped = ⊥
   Unfit side Refused = ⊥
   Unfit side (Own number) =
-      let why = TellsWhy (non_zero_u32_get side.fresh) (stored_in side.near) in
+      let why = ReportsWhy (non_zero_u32_get side.fresh) (stored_in side.near) in
       ((number ≡ NEAR_ABSENT) × why Absent) ⊎ (((number ≡ NEAR_TWO_WITH_ONE_UID) × why TwoWithOneUid) ⊎ ((number ≡ NEAR_BAD_META) × why BadMeta))
   Unfit side NoMemory = ⊥
 

@@ -5,7 +5,7 @@ ghost use Rattle.std.specs.Option.{option_map};
 ghost use Rattle.std.specs.Int.NonZero.{non_zero_u32_get};
 ghost use Rattle.mailbox.specs.FaultNumbers.{NEAR_UIDS_EXHAUSTED};
 
-use crate::told::{told, told_by};
+use crate::reported::{reported, reported_by};
 use mailbox::fault::BoxFault;
 use mailbox::mailbox::Mailbox;
 use mailcore::copy_pieces::CopyPieces;
@@ -70,7 +70,7 @@ impl<F: Folder> NearSide<F> {
         ensures open { self.new.is_open ≡ self.old.is_open }
         ensures whole { OnOk result ((seen_of self.new).is_broken ≡ false) }
     {
-        told_by(self.near.read_waiting(place))
+        reported_by(self.near.read_waiting(place))
     }
 
     /// The bytes that `read_waiting` read last.
@@ -100,7 +100,7 @@ impl<F: Folder + Drop> Mailbox for NearSide<F> {
     ghost use Rattle.mailcore.specs.Spared.{spares};
     ghost use Rattle.near_box.specs.Entries.{asked};
     ghost use Rattle.mailbox.specs.Calls.{IsPlain, Never};
-    ghost use Rattle.mailbox.specs.Operations.{Answers, Appends, HasNumbers, IsCopyText, IsFull, Lists, ListsWithin, NoRoom, TellsValidity};
+    ghost use Rattle.mailbox.specs.Operations.{Answers, Appends, HasNumbers, IsCopyText, IsFull, Lists, ListsWithin, NoRoom, ReportsValidity};
     ghost use Rattle.near_side.specs.NearSides.{Calls, CallsAdmit, Unfit, seen_of};
 
     ghost side = { Near };
@@ -130,7 +130,7 @@ impl<F: Folder + Drop> Mailbox for NearSide<F> {
         ensures keywords { self.new.near.keywords ≡ self.old.near.keywords }
         ensures open { OnOk result (self.new.is_open ≡ true) }
         ensures mailbox { F.is_honest ≡ true → OnOk result (IsMailbox (non_zero_u32_get self.old.fresh) (stored_in self.new.near)) }
-        ensures call { Calls (λ fault _. Unfit self.old fault) (Answers TellsValidity) Nothing self.old self.new result }
+        ensures call { Calls (λ fault _. Unfit self.old fault) (Answers ReportsValidity) Nothing self.old self.new result }
     {
         self.is_open = false;
         match self.near.enter(self.fresh) {
@@ -138,7 +138,7 @@ impl<F: Folder + Drop> Mailbox for NearSide<F> {
                 self.is_open = true;
                 Ok(self.near.meta().validity)
             }
-            Err(fault) => Err(told(fault)),
+            Err(fault) => Err(reported(fault)),
         }
     }
 
@@ -153,15 +153,15 @@ impl<F: Folder + Drop> Mailbox for NearSide<F> {
             ≡ F.reads self.old.near.folder + length (asked (spares spared.now) (seen_of self.old).stored.store.messages)) }
         ensures call { Calls Never (Answers (Lists Near F.visitors.alone 0 (spares spared.now))) Nothing self.old self.new result }
     {
-        told_by(self.near.list_sparing(spared))
+        reported_by(self.near.list_sparing(spared))
     }
 
     fn find_mark(&mut self, mark: Tuid, from: u32) -> Result<Option<Uid>, BoxFault> {
-        told_by(self.near.find_mark(mark, from))
+        reported_by(self.near.find_mark(mark, from))
     }
 
     fn load(&mut self, uid: Uid) -> Result<bool, BoxFault> {
-        told_by(self.near.load(uid))
+        reported_by(self.near.load(uid))
     }
 
     fn body(&self) -> &[u8] {
@@ -179,21 +179,21 @@ impl<F: Folder + Drop> Mailbox for NearSide<F> {
     {
         match self.near.append_copy(copy, flags) {
             Ok(uid) => Ok(Some(uid)),
-            Err(fault) => Err(told(fault)),
+            Err(fault) => Err(reported(fault)),
         }
     }
 
     fn add_flags(&mut self, uid: Uid, flags: Flags) -> Result<(), BoxFault> {
-        told_by(self.near.add_flags(uid, flags))
+        reported_by(self.near.add_flags(uid, flags))
     }
 
     fn remove_flags(&mut self, uid: Uid, flags: Flags) -> Result<(), BoxFault> {
-        told_by(self.near.remove_flags(uid, flags))
+        reported_by(self.near.remove_flags(uid, flags))
     }
 
     fn expunge(&mut self, uid: Uid) -> Result<(), BoxFault> {
         if self.near.is_deleted(uid) {
-            told_by(self.near.expunge(&[uid]))
+            reported_by(self.near.expunge(&[uid]))
         } else {
             Ok(())
         }
@@ -208,7 +208,7 @@ impl<F: Folder + Drop> Mailbox for NearSide<F> {
             → IsErrOf result (BoxFault.Own NEAR_UIDS_EXHAUSTED) }
         ensures call { CallsAdmit self.old self.new result }
     {
-        told_by(self.near.admit())
+        reported_by(self.near.admit())
     }
 
     fn sync(&mut self) -> Result<(), BoxFault>
@@ -217,13 +217,13 @@ impl<F: Folder + Drop> Mailbox for NearSide<F> {
         ensures open { self.new.is_open ≡ self.old.is_open }
         ensures synced { OnOk result (self.old.is_open ≡ true → F.is_synced self.new.near.folder ≡ true) }
         ensures closed { self.old.is_open ≡ false → self.new ≡ self.old }
-        ensures told { IfErr result IsPlain }
+        ensures reported { IfErr result IsPlain }
         ensures call { Calls {T = Unit {0}} Never (λ _ b b'. b' ≡ b) Nothing self.old self.new result }
     {
         if !self.is_open {
             return Ok(());
         }
-        told_by(self.near.sync())
+        reported_by(self.near.sync())
     }
 
     fn reopen(&mut self) {

@@ -39,7 +39,7 @@ pub record AreSparing {T : Type 0} (theirs : Effect Device) (own : T → Effect 
 
 -- others act, and then the call has its effect
 pub followed_spares : (others own : Effect Device) → IsSparing others → IsSparing own → IsSparing (Follows others own)
-followed_spares others own f g d d' h = spares_after d h.mid d' (f d h.mid h.before) (g h.mid d' h.behind)
+followed_spares others own f g d d' h = spares_after d h.mid d' (f d h.mid h.before) (g h.mid d' h.following)
 
 pub leaving_spares : {T : Type 0} (does : T → Effect Device) (part : Effect Device) → ((x : T) → IsSparing (does x)) → IsSparing part → (e : OutsideFault) → IsSparing (LeavesBy does part e)
 leaving_spares does part g k out.Stopped d d' (inl same) = nothing_named d d' same
@@ -55,8 +55,8 @@ leaving_spares does part g k out.NoMemory d d' (inr (inr half)) = k d d' half
 
 -- ---- what calls do
 
-pub telling_spares : {T : Type 0} (tells : T → Device → Type 0) (x : T) → IsSparing (Answers tells x)
-telling_spares tells x d d' t = nothing_named d d' t.0
+pub reporting_spares : {T : Type 0} (states : T → Device → Type 0) (x : T) → IsSparing (Answers states x)
+reporting_spares states x d d' t = nothing_named d d' t.0
 
 pub book_spares : (does : Pending → Effect Files) (opened : Option Opened) → IsSparing (OfBook does opened)
 book_spares does None d d' t = absurd t
@@ -65,7 +65,7 @@ book_spares does (Some o) d d' t = same_boxes d d' t.far t.near t.named
 pub carrying_spares : (direction : Direction) (uid flags : ℕ) (mark : List ℕ) (x : Carried) → IsSparing (Carry direction uid flags mark x)
 carrying_spares direction uid flags mark Absent d d' t = nothing_named d d' t.0
 carrying_spares direction uid flags mark Unfit d d' t = nothing_named d d' t.0
-carrying_spares direction uid flags mark (Made told) d d' t =
+carrying_spares direction uid flags mark (Made reported) d d' t =
     let m = t.makes in
     let copy : Message = copy_of (target direction) m.copy flags mark m.bytes in
     keeping_spares (target direction) (with_copy copy m.next) d d' (copy_keeps copy m.next) (λ is. store_copied (box d (target direction)) copy m.next m.least m.below is) m.now

@@ -4,7 +4,7 @@ use Rattle.device.specs.Calls.{Effect}
 use Rattle.sync_state.specs.declared.fault.BookFault.TheVariants as book
 use Rattle.sync_state.specs.declared.journal.Logged.{Logged}
 use Rattle.book.specs.declared.book.Pending.{Pending}
-use Rattle.book.specs.Books.{TellsOpen}
+use Rattle.book.specs.Books.{ReportsOpen}
 use Rattle.book.specs.BookLogs.{is_refused}
 use Rattle.book.specs.Shelves.{Files}
 use Rattle.outside.specs.declared.fault.OutsideFault.{OutsideFault}
@@ -29,17 +29,17 @@ abbrev pub ReadsBook : Option Opened → Effect Device
 ReadsBook opened d d' = (d' ≡ d) × IsHeld opened d
 
 -- why the files hold no book
-abbrev pub TellsFiles : OutsideFault → Files → Type 0
-TellsFiles Stopped files = Unit {0}
-TellsFiles Refused files = Unit {0}
-TellsFiles (Box side number) files = Unit {0}
-TellsFiles (BadState line) files = TellsOpen files (book.BadState line)
-TellsFiles (BadJournal line) files = TellsOpen files (book.BadJournal line)
-TellsFiles NoMemory files = Unit {0}
+abbrev pub ReportsFiles : OutsideFault → Files → Type 0
+ReportsFiles Stopped files = Unit {0}
+ReportsFiles Refused files = Unit {0}
+ReportsFiles (Box side number) files = Unit {0}
+ReportsFiles (BadState line) files = ReportsOpen files (book.BadState line)
+ReportsFiles (BadJournal line) files = ReportsOpen files (book.BadJournal line)
+ReportsFiles NoMemory files = Unit {0}
 
 -- nothing is changed, and the fault says why
 abbrev pub LeavesUnread : OutsideFault → Effect Device
-LeavesUnread fault d d' = (d' ≡ d) × TellsFiles fault d.files
+LeavesUnread fault d d' = (d' ≡ d) × ReportsFiles fault d.files
 
 -- the UID of the copy is taken
 abbrev pub IsTaken : Option Opened → Logged → Type 0

@@ -15,7 +15,7 @@ use Rattle.rules.specs.Copies.{copy_of}
 use Rattle.outside.specs.declared.outside.Carried.{Carried}
 use Rattle.outside.specs.declared.outside.Carried.TheVariants.{Absent, Unfit, Made}
 use Rattle.mailbox.specs.Operations as ops
-use Rattle.mailbox.specs.Operations.{Tells}
+use Rattle.mailbox.specs.Operations.{Reports}
 use Rattle.outside.specs.Devices.{Device, box, naming, on_box}
 
 -- ---- listings
@@ -70,9 +70,9 @@ pub record MakesCopy (direction : Direction) (uid flags : ℕ) (mark : List ℕ)
   pub below : copy < next
   pub now : d' ≡ on_box (target direction) (with_copy (copy_of (target direction) copy flags mark bytes) next) d
 
-pub record Carries (direction : Direction) (uid flags : ℕ) (mark : List ℕ) (told : Option ℕ) (d d' : Device) : Type 0 where
+pub record Carries (direction : Direction) (uid flags : ℕ) (mark : List ℕ) (reported : Option ℕ) (d d' : Device) : Type 0 where
   pub makes : MakesCopy direction uid flags mark d d'
-  pub tells : Tells told makes.copy
+  pub states : Reports reported makes.copy
 
 -- the source's message is there, but not fit
 pub record IsUnfit (direction : Direction) (uid : ℕ) (d : Device) : Type 0 where
@@ -83,12 +83,12 @@ pub record IsUnfit (direction : Direction) (uid : ℕ) (d : Device) : Type 0 whe
 abbrev pub Carry : Direction → (uid flags : ℕ) → (mark : List ℕ) → Carried → Effect Device
 Carry direction uid flags mark Absent d d' = (d' ≡ d) × (bytes_of uid (box d (source direction)) ≡ None)
 Carry direction uid flags mark Unfit d d' = (d' ≡ d) × IsUnfit direction uid d
-Carry direction uid flags mark (Made told) d d' = Carries direction uid flags mark told d d'
+Carry direction uid flags mark (Made reported) d d' = Carries direction uid flags mark reported d d'
 
 abbrev pub copies_made : Carried → ℕ
 copies_made Absent = 0
 copies_made Unfit = 0
-copies_made (Made told) = 1
+copies_made (Made reported) = 1
 
 -- the next UID of a side may be raised
 pub record SetsAside (side : Side) (d d' : Device) : Type 0 where

@@ -13,7 +13,7 @@ pub record Seen : Type 0 where
   pub device : Device
   pub is_broken : Bool
   pub stops : ℕ
-  pub told : List OutsideFault
+  pub reported : List OutsideFault
   pub appends : ℕ
   pub reopened : List Device
 
@@ -29,32 +29,32 @@ IsStop fault = fault ≡ Stopped
 
 -- a call that answered has made so many copies
 pub record CountsCopies (copies : ℕ) (old new : Seen) : Type 0 where
-  pub told : new.told ≡ old.told
+  pub reported : new.reported ≡ old.reported
   pub appends : new.appends ≡ old.appends + copies
   pub reopened : new.reopened ≡ old.reopened
 
 -- how many stops a fault reports
-abbrev pub stops_told : OutsideFault → ℕ
-stops_told Stopped = 1
-stops_told Refused = 0
-stops_told (Box side number) = 0
-stops_told (BadState line) = 0
-stops_told (BadJournal line) = 0
-stops_told NoMemory = 0
+abbrev pub stops_reported : OutsideFault → ℕ
+stops_reported Stopped = 1
+stops_reported Refused = 0
+stops_reported (Box side number) = 0
+stops_reported (BadState line) = 0
+stops_reported (BadJournal line) = 0
+stops_reported NoMemory = 0
 
 -- A call that ended with a fault, which is one that it may report. It is noted as it is reported, and a stop is counted once, and nothing
 -- else is; where the outside was broken nothing is.
-pub record CountsFault (may_tell : OutsideFault → Type 0) (fault : OutsideFault) (old new : Seen) : Type 0 where
-  pub told : may_tell fault
-  pub noted : old.is_broken ≡ false → new.told ≡ fault ∷ old.told
-  pub stopped : old.is_broken ≡ false → new.stops ≡ old.stops + stops_told fault
+pub record CountsFault (may_report : OutsideFault → Type 0) (fault : OutsideFault) (old new : Seen) : Type 0 where
+  pub reported : may_report fault
+  pub noted : old.is_broken ≡ false → new.reported ≡ fault ∷ old.reported
+  pub stopped : old.is_broken ≡ false → new.stops ≡ old.stops + stops_reported fault
   pub appends : new.appends ≡ old.appends
   pub reopened : new.reopened ≡ old.reopened
   pub stuck : old.is_broken ≡ true → new ≡ old
 
-abbrev pub Counts : {T : Type 0} → (copies : T → ℕ) → (may_tell : OutsideFault → Type 0) → Seen → Seen → Result T OutsideFault → Type 0
-Counts copies may_tell old new (Ok answer) = CountsCopies (copies answer) old new
-Counts copies may_tell old new (Err fault) = CountsFault may_tell fault old new
+abbrev pub Counts : {T : Type 0} → (copies : T → ℕ) → (may_report : OutsideFault → Type 0) → Seen → Seen → Result T OutsideFault → Type 0
+Counts copies may_report old new (Ok answer) = CountsCopies (copies answer) old new
+Counts copies may_report old new (Err fault) = CountsFault may_report fault old new
 
 -- ---- which faults a call may report
 
@@ -99,11 +99,11 @@ FromShelf NoMemory = Unit {0}
 -- Others may act first. A call that answers has its effect; one that does not leaves what its fault says, and from then on the
 -- outside is broken. Whatever a call does, the device goes on. It is said where server, folder and shelf have behaved as specified; what is
 -- counted holds without that.
-pub record Call {T : Type 0} (honest : Type 0) (others : Effect Device) (copies : T → ℕ) (may_tell : OutsideFault → Type 0)
+pub record Call {T : Type 0} (honest : Type 0) (others : Effect Device) (copies : T → ℕ) (may_report : OutsideFault → Type 0)
     (does : T → Effect Device) (leaves : OutsideFault → Effect Device) (old new : Seen) (result : Result T OutsideFault) : Type 0 where
   pub acts : Acts honest IsStop (Between others) does leaves (as_device old) (as_device new) result
   pub goes_on : honest → GoesOn old.device new.device
-  pub counts : Counts copies may_tell old new result
+  pub counts : Counts copies may_report old new result
 
 -- the effect, with some answer
 pub record DoesSome {T : Type 0} (does : T → Effect Device) (d d' : Device) : Type 0 where
@@ -124,16 +124,16 @@ abbrev pub Changes : {T : Type 0} → (honest : Type 0) → (others : Effect Dev
 Changes honest others does part old new result = Call honest others (λ _. 0) FromBox does (LeavesBy does part) old new result
 
 -- a call of a box that changes nothing and answers what is so
-abbrev pub Reads : {T : Type 0} → (honest : Type 0) → (others : Effect Device) → (tells : T → Device → Type 0) → Seen → Seen → Result T OutsideFault → Type 0
-Reads honest others tells old new result = Call honest others (λ _. 0) FromBox (Answers tells) (λ fault. Stays) old new result
+abbrev pub Reads : {T : Type 0} → (honest : Type 0) → (others : Effect Device) → (states : T → Device → Type 0) → Seen → Seen → Result T OutsideFault → Type 0
+Reads honest others states old new result = Call honest others (λ _. 0) FromBox (Answers states) (λ fault. Stays) old new result
 
 -- the same of a call before the steps of a plan
-abbrev pub Opens : {T : Type 0} → (honest : Type 0) → (others : Effect Device) → (tells : T → Device → Type 0) → Seen → Seen → Result T OutsideFault → Type 0
-Opens honest others tells old new result = Call honest others (λ _. 0) FromOpening (Answers tells) (λ fault. Stays) old new result
+abbrev pub Opens : {T : Type 0} → (honest : Type 0) → (others : Effect Device) → (states : T → Device → Type 0) → Seen → Seen → Result T OutsideFault → Type 0
+Opens honest others states old new result = Call honest others (λ _. 0) FromOpening (Answers states) (λ fault. Stays) old new result
 
 -- a call of the book that changes the files
-abbrev pub Writes : (honest : Type 0) → (others : Effect Device) → (may_tell : OutsideFault → Type 0) → (does part : Effect Device) → Seen → Seen → Result (Unit {0}) OutsideFault → Type 0
-Writes honest others may_tell does part old new result = Call honest others (λ _. 0) may_tell (λ _. does) (LeavesBy {T = Unit {0}} (λ _. does) part) old new result
+abbrev pub Writes : (honest : Type 0) → (others : Effect Device) → (may_report : OutsideFault → Type 0) → (does part : Effect Device) → Seen → Seen → Result (Unit {0}) OutsideFault → Type 0
+Writes honest others may_report does part old new result = Call honest others (λ _. 0) may_report (λ _. does) (LeavesBy {T = Unit {0}} (λ _. does) part) old new result
 
 -- ---- a run that is not to go on
 
@@ -143,11 +143,11 @@ opened_again old = record old { is_broken = false; reopened = old.device ∷ old
 
 -- the same outside after a call that stopped before it had an effect
 abbrev pub stopped : Seen → Seen
-stopped old = if old.is_broken then old else record old { is_broken = true; stops = old.stops + 1; told = Stopped ∷ old.told }
+stopped old = if old.is_broken then old else record old { is_broken = true; stops = old.stops + 1; reported = Stopped ∷ old.reported }
 
 -- ---- what was reported
 
 -- this fault is the last that was reported, and it was reported since
 pub record IsLast (fault : OutsideFault) (old new : Seen) : Type 0 where
   pub since : List OutsideFault
-  pub now : new.told ≡ fault ∷ (since ++ old.told)
+  pub now : new.reported ≡ fault ∷ (since ++ old.reported)

@@ -11,7 +11,7 @@ use Rattle.rules.specs.declared.entry.Entry.{Entry}
 use Rattle.rules.specs.Entries.{ArePairs, uid_of, uid_on}
 use Rattle.rules.proofs.Walks.{find_some, find_only, only_one, list_any_some, Contains-cases, Contains-none}
 use Rattle.planner.proofs.Passing.{find_none_of}
-use Rattle.planner.specs.declared.places.Place.{Place}
+use Rattle.planner.specs.declared.places.EntryPlace.{EntryPlace}
 use Rattle.planner.specs.declared.standings.Standing.{Standing}
 use Rattle.planner.specs.Index.{IsPlaceOf, IsIndex}
 use Rattle.planner.specs.Merging.{holder}
@@ -45,10 +45,10 @@ once_standing side sts pairs i j d less within =
     (subst (λ (y : Entry). uid_on side (get_or (entries_of sts) i d.entry) ≡ uid_on side y → uid_on side (get_or (entries_of sts) i d.entry) ≡ None) b h)
 
 -- the one at the place of the UID names it
-pub holder_found : (side : Side) (sts : List Standing) (ps : List Place) (u : ℕ) (p : Place) (st : Standing) → ArePairs (entries_of sts) → IsIndex side (entries_of sts) ps → 0 < u
+pub holder_found : (side : Side) (sts : List Standing) (ps : List EntryPlace) (u : ℕ) (p : EntryPlace) (st : Standing) → ArePairs (entries_of sts) → IsIndex side (entries_of sts) ps → 0 < u
     → find (λ p. p.uid == u) ps ≡ Some p → st ≡ get_or sts p.at st → Some st ≡ holder side sts u
 holder_found side sts ps u p st pairs index positive found here =
-    let f = find_some (λ (q : Place). q.uid == u) ps p found in
+    let f = find_some (λ (q : EntryPlace). q.uid == u) ps p found in
     let place : IsPlaceOf side (entries_of sts) p = All-contains (IsPlaceOf side (entries_of sts)) ps p index.named f.0 in
     let within : p.at < length sts = let b = place.bound in omega (arith, length-map sts (λ (st : Standing). st.entry)) in
     let entry : get_or (entries_of sts) p.at st.entry ≡ st.entry = get_or-map (λ (x : Standing). x.entry) sts p.at st st.entry within ∙ ap (λ (x : Standing). x.entry) (sym here) in
@@ -74,14 +74,14 @@ pub found_not : {X : Type 0} (p : X → Bool) (xs : List X) → find p xs ≡ No
 found_not p xs h x c t = let r = found p xs x c t in none-some r.0 (sym h ∙ r.1)
 
 -- where no place has the UID, nothing names it
-pub holder_none : (side : Side) (sts : List Standing) (ps : List Place) (u : ℕ) → IsIndex side (entries_of sts) ps → find (λ p. p.uid == u) ps ≡ None → None ≡ holder side sts u
+pub holder_none : (side : Side) (sts : List Standing) (ps : List EntryPlace) (u : ℕ) → IsIndex side (entries_of sts) ps → find (λ p. p.uid == u) ps ≡ None → None ≡ holder side sts u
 holder_none side sts ps u index none = sym (find_none_at sts (λ k d within. ne_eqb (uid_of side (get_or sts k d).entry) u (λ e.
-    let r = list_any_some (λ (p : Place). p.at == k) ps (index.whole k (omega (arith, length-map sts (λ (st : Standing). st.entry)))) in
+    let r = list_any_some (λ (p : EntryPlace). p.at == k) ps (index.whole k (omega (arith, length-map sts (λ (st : Standing). st.entry)))) in
     let at : r.0.at ≡ k = eqb-true r.0.at k r.2 in
     let place : IsPlaceOf side (entries_of sts) r.0 = All-contains (IsPlaceOf side (entries_of sts)) ps r.0 index.named r.1 in
     let entry : get_or (entries_of sts) r.0.at d.entry ≡ (get_or sts k d).entry = ap (λ (n : ℕ). get_or (entries_of sts) n d.entry) at ∙ get_or-map (λ (x : Standing). x.entry) sts k d d.entry within in
     let uid : r.0.uid ≡ u = sym (place.named d.entry) ∙ ap (λ (x : Entry). uid_of side x) entry ∙ e in
-    found_not (λ (p : Place). p.uid == u) ps none r.0 r.1 (eq-eqb r.0.uid u uid))))
+    found_not (λ (p : EntryPlace). p.uid == u) ps none r.0 r.1 (eq-eqb r.0.uid u uid))))
   where
     find_none_at : (xs : List Standing) → All (λ (st : Standing). (uid_of side st.entry == u) ≡ false) xs → find (λ (st : Standing). uid_of side st.entry == u) xs ≡ None
     find_none_at xs h = find_none_of (λ (st : Standing). uid_of side st.entry == u) xs h

@@ -23,12 +23,12 @@ items_rise is rising i j d order within = elim (cases_lt i j) [
 -- ---- places
 
 -- what fails in front is skipped
-pub filter_behind : {X : Type 0} (test : X → Bool) (xs : List X) (k : ℕ) → k ≤ length xs → AllWithin (λ x. test x ≡ false) xs 0 k → filter test xs ≡ filter test (drop k xs)
-filter_behind test xs zero within fail = refl
-filter_behind test [] (suc k) within fail = refl
-filter_behind test (x ∷ xs) (suc k) within fail =
+pub filter_after : {X : Type 0} (test : X → Bool) (xs : List X) (k : ℕ) → k ≤ length xs → AllWithin (λ x. test x ≡ false) xs 0 k → filter test xs ≡ filter test (drop k xs)
+filter_after test xs zero within fail = refl
+filter_after test [] (suc k) within fail = refl
+filter_after test (x ∷ xs) (suc k) within fail =
     let first : test x ≡ false = fail 0 x (omega arith) (omega arith) in
-    rw first (filter_behind test xs k (omega arith) (λ j d a b. fail (suc j) d (omega arith) (omega arith)))
+    rw first (filter_after test xs k (omega arith) (λ j d a b. fail (suc j) d (omega arith) (omega arith)))
 
 pub find_none_of : {X : Type 0} (test : X → Bool) (xs : List X) → All (λ x. test x ≡ false) xs → find test xs ≡ None
 find_none_of test [] fail = refl

@@ -7,9 +7,9 @@ ghost use Rattle.mailcore.specs.Listed.{IsRising};
 ghost use Rattle.rules.specs.Entries.{ArePairs, uid_of};
 ghost use Rattle.planner.specs.Index.{IsIndex};
 ghost use Rattle.planner.specs.Merging.{holder, met_by};
-ghost use Rattle.planner.specs.declared.places.Place.{Place};
+ghost use Rattle.planner.specs.declared.places.EntryPlace.{EntryPlace};
 
-use crate::places::{Place, first_place_from};
+use crate::places::{EntryPlace, first_place_from};
 use crate::standings::Standing;
 use crate::turns::Turns;
 use mailcore::listing::Item;
@@ -28,7 +28,7 @@ pub struct Met {
 /// What names this UID, whose place is the one here if it has one.
 fn holder_here(
     side: Side,
-    places: &[Place],
+    places: &[EntryPlace],
     at: usize,
     uid: u32,
     standings: &[Standing],
@@ -36,7 +36,7 @@ fn holder_here(
     requires positive { 0 < uid }
     requires pairs { ArePairs (map (λ st. st.entry) standings.now) }
     requires index { IsIndex side (map (λ st. st.entry) standings.now) places.now }
-    requires reached { (d : Place) → at < length places.now → uid ≤ (slice_index_or places.now at d).uid }
+    requires reached { (d : EntryPlace) → at < length places.now → uid ≤ (slice_index_or places.now at d).uid }
     requires passed { find (λ p. p.uid == uid) (drop at places.now) ≡ find (λ p. p.uid == uid) places.now }
     ensures { result ≡ holder side standings.now uid }
 {
@@ -52,7 +52,7 @@ pub fn meet(
     alloc: Global,
     side: Side,
     items: &[Item],
-    places: &[Place],
+    places: &[EntryPlace],
     standings: &[Standing],
     turns: &mut Turns,
 ) -> Result<Vec<Met>, AllocError>

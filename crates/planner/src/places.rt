@@ -4,7 +4,7 @@ ghost use Rattle.std.specs.Prelude.{◌≡◌, ◌<◌, ◌≤◌, ◌^◌, ◌+
 ghost use Rattle.std.specs.List.{slice_index_or};
 ghost use Rattle.rules.specs.Entries.{ArePairs};
 ghost use Rattle.planner.specs.Index.{IsIndex, places_from};
-ghost use Rattle.planner.specs.declared.places.Place.{Place};
+ghost use Rattle.planner.specs.declared.places.EntryPlace.{EntryPlace};
 
 use crate::turns::Turns;
 use mailcore::side::Side;
@@ -13,7 +13,7 @@ use std::alloc::{AllocError, Global};
 
 /// The UID that an entry names, 0 where the side has vanished, and where the entry stands.
 #[derive(Clone, Copy, PartialEq, Eq)]
-pub struct Place {
+pub struct EntryPlace {
     /// The number of the UID.
     pub uid: u32,
     /// How many entries stand before it.
@@ -26,7 +26,7 @@ pub fn places(
     side: Side,
     entries: &[Entry],
     turns: &mut Turns,
-) -> Result<Vec<Place>, AllocError>
+) -> Result<Vec<EntryPlace>, AllocError>
     requires room { turns.old + length entries.now < 2 ^ 64 }
     ensures places { IfOk result (λ v. v.items ≡ places_from 0 side entries.now) }
     ensures count { IfOk result (λ v. length v.items ≡ length entries.now) }
@@ -36,7 +36,7 @@ pub fn places(
     let mut places = Vec::with_capacity(alloc, entries.len())?;
     for (at, entry) in entries.iter().enumerate() {
         turns.tick();
-        places.push(Place {
+        places.push(EntryPlace {
             uid: entry.number(side),
             at,
         })?;
@@ -49,7 +49,7 @@ pub fn far_places(
     alloc: Global,
     entries: &[Entry],
     turns: &mut Turns,
-) -> Result<Vec<Place>, AllocError>
+) -> Result<Vec<EntryPlace>, AllocError>
     requires pairs { ArePairs entries.now }
     requires room { turns.old + length entries.now < 2 ^ 64 }
     ensures index { IfOk result (λ v. IsIndex Side.Far entries.now v.items) }
@@ -66,7 +66,7 @@ pub fn near_places(
     alloc: Global,
     entries: &[Entry],
     turns: &mut Turns,
-) -> Result<Vec<Place>, AllocError>
+) -> Result<Vec<EntryPlace>, AllocError>
     requires room { turns.old + length entries.now < 2 ^ 64 }
     ensures index { IfOk result (λ v. IsIndex Side.Near entries.now v.items) }
     ensures count { IfOk result (λ v. length v.items ≡ length entries.now) }
@@ -79,7 +79,7 @@ pub fn near_places(
 }
 
 /// The first of these places, from one on, whose UID is at least this one.
-pub fn first_place_from(places: &[Place], from: usize, uid: u32, turns: &mut Turns) -> usize
+pub fn first_place_from(places: &[EntryPlace], from: usize, uid: u32, turns: &mut Turns) -> usize
     requires within { from ≤ length places.now }
     requires room { turns.old + length places.now < 2 ^ 64 + from }
     ensures from { from ≤ result }
@@ -87,7 +87,7 @@ pub fn first_place_from(places: &[Place], from: usize, uid: u32, turns: &mut Tur
     ensures turns { turns.new + from ≡ turns.old + result }
     ensures passed { (u : ℕ) → uid ≤ u →
         find (λ p. p.uid == u) (drop result places.now) ≡ find (λ p. p.uid == u) (drop from places.now) }
-    ensures reached { (d : Place) → result < length places.now → uid ≤ (slice_index_or places.now result d).uid }
+    ensures reached { (d : EntryPlace) → result < length places.now → uid ≤ (slice_index_or places.now result d).uid }
 {
     let mut at = from;
     while at < places.len() && places[at].uid < uid {

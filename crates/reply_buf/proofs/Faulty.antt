@@ -35,11 +35,11 @@ module _ (xs : List ℕ) (result : Result (Read Reply) WireFault) (takes : Takes
     | inr f ↦ whole_none r front f.more h fits f.is
   ]
 
-pub fault_tells : (xs : List ℕ) (f : WireFault) → TakesEach seen ReplyText xs (Err f) → WaitsForMore {T = Reply} ReplyText xs (Err f) → IsBreach f xs
-fault_tells xs (faults.Syntax at) t w = faulty xs (Err (faults.Syntax at)) t w (λ a n h. h) (λ h. h)
-fault_tells xs faults.LineTooLong t w = faulty xs (Err faults.LineTooLong) t w (λ a n h. h) (λ h. h)
-fault_tells xs (faults.LiteralTooLong at) t w = faulty xs (Err (faults.LiteralTooLong at)) t w (λ a n h. h) (λ h. h)
-fault_tells xs faults.NoMemory t w = tt
+pub fault_reports : (xs : List ℕ) (f : WireFault) → TakesEach seen ReplyText xs (Err f) → WaitsForMore {T = Reply} ReplyText xs (Err f) → IsBreach f xs
+fault_reports xs (faults.Syntax at) t w = faulty xs (Err (faults.Syntax at)) t w (λ a n h. h) (λ h. h)
+fault_reports xs faults.LineTooLong t w = faulty xs (Err faults.LineTooLong) t w (λ a n h. h) (λ h. h)
+fault_reports xs (faults.LiteralTooLong at) t w = faulty xs (Err (faults.LiteralTooLong at)) t w (λ a n h. h) (λ h. h)
+fault_reports xs faults.NoMemory t w = tt
 
 -- ---- bytes after those at which a fault was reported
 

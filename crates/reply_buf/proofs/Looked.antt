@@ -14,11 +14,11 @@ whole_longer bytes more len w = record {
   spells = subst (Spells w.reply) (sym (take-append-le len bytes more w.within)) w.spells;
 }
 
-looks_on : (part behind : List ℕ) (answer : Result (Read (Unit {0})) WireFault) → (answer ≡ Ok Partial → ⊥) → Looks part answer → Looks (part ++ behind) answer
-looks_on part behind (Ok (Whole u len)) n h = whole_longer part behind len h
-looks_on part behind (Ok (WantsLiteral k)) n h = h
-looks_on part behind (Ok Partial) n h = absurd (n refl)
-looks_on part behind (Err fault) n h = breach_longer fault part behind h
+looks_on : (part following : List ℕ) (answer : Result (Read (Unit {0})) WireFault) → (answer ≡ Ok Partial → ⊥) → Looks part answer → Looks (part ++ following) answer
+looks_on part following (Ok (Whole u len)) n h = whole_longer part following len h
+looks_on part following (Ok (WantsLiteral k)) n h = h
+looks_on part following (Ok Partial) n h = absurd (n refl)
+looks_on part following (Err fault) n h = breach_longer fault part following h
 
 pub looks_longer : (bytes : List ℕ) (end : ℕ) (answer : Result (Read (Unit {0})) WireFault) → (answer ≡ Ok Partial → ⊥) → Looks (take end bytes) answer → Looks bytes answer
 looks_longer bytes end answer n h = subst (λ (l : List ℕ). Looks l answer) (take-append-drop end bytes) (looks_on (take end bytes) (drop end bytes) answer n h)

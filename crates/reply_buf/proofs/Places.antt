@@ -16,5 +16,5 @@ within : (bytes : List ℕ) (at : ℕ) (s : Scanner) (n : ℕ) → place_from at
 within [] at s n e = cc
 within (b ∷ bytes) at s n e = within_by (is_place s b) b bytes at s n (λ h. within bytes (suc at) (after s b) n h) e
 
-pub place_within : (bytes behind : List ℕ) (from n : ℕ) (s : Scanner) → length behind + from ≡ length bytes → Some n ≡ place_from 0 s behind → from + n ≤ length bytes
-place_within bytes behind from n s long e = let h = within behind 0 s n (sym e) in omega (arith, h, long)
+pub place_within : (bytes following : List ℕ) (from n : ℕ) (s : Scanner) → length following + from ≡ length bytes → Some n ≡ place_from 0 s following → from + n ≤ length bytes
+place_within bytes following from n s long e = let h = within following 0 s n (sym e) in omega (arith, h, long)

@@ -50,18 +50,18 @@ module _ (xs : List ℕ) (none : NoneWhole xs) (r : Reply) (front back : List �
   at_seam : (more : List ℕ) → xs ++ more ≡ front → more ≡ [] → ⊥
   at_seam more e n = none r front [] h fits (sym (append-nil xs) ∙ ap (λ (l : List ℕ). xs ++ l) (sym n) ∙ e ∙ sym (append-nil front))
 
-  behind_by : (p more : List ℕ) → xs ++ more ≡ front → front ≡ p ++ 10 ∷ [] → is_in (phase Plain p) ≡ false → NoPlace xs (more ++ back) → (l : List ℕ) → p ++ l ≡ xs → 10 ∷ [] ≡ l ++ more → ⊥
-  behind_by p more e parts out n [] is rest =
+  after_by : (p more : List ℕ) → xs ++ more ≡ front → front ≡ p ++ 10 ∷ [] → is_in (phase Plain p) ≡ false → NoPlace xs (more ++ back) → (l : List ℕ) → p ++ l ≡ xs → 10 ∷ [] ≡ l ++ more → ⊥
+  after_by p more e parts out n [] is rest =
       let same : p ≡ xs = sym (append-nil p) ∙ is in
       no_end xs [] back (subst (λ (m : List ℕ). NoPlace xs (m ++ back)) (sym rest) n) (ap (λ (l : List ℕ). is_in (phase Plain l)) (append-nil xs ∙ sym same) ∙ out)
-  behind_by p more e parts out n (b ∷ l) is rest = at_seam more e (empty_back l more 10 b rest)
+  after_by p more e parts out n (b ∷ l) is rest = at_seam more e (empty_back l more 10 b rest)
 
   pub ends_at_place : (more : List ℕ) → xs ++ more ≡ front → NoPlace xs (more ++ back) → ⊥
   ends_at_place more e n =
       let ends = end_law reply_part reply_feed r front h in
       elim (fronts xs more ends.front (10 ∷ []) (e ∙ ends.parts)) [
         | inl f ↦ no_end xs f.more back (subst (λ (l : List ℕ). NoPlace xs l) (ap (λ (m : List ℕ). m ++ back) f.rest ∙ append_assoc f.more (10 ∷ []) back) n) (ap (λ (l : List ℕ). is_in (phase Plain l)) f.is ∙ ends.outside)
-        | inr f ↦ behind_by ends.front more e ends.parts ends.outside n f.more f.is f.rest
+        | inr f ↦ after_by ends.front more e ends.parts ends.outside n f.more f.is f.rest
       ]
 
 -- after bytes in which none is whole no place has come

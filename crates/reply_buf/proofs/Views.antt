@@ -47,7 +47,7 @@ last_is bytes same read start end len some within e short f =
 -- ---- one reply more is read
 
 module _ (bytes now : List ℕ) (start end next len : ℕ) (some : start ≤ end) (apart : end ≤ next) (within : next + len ≤ length bytes)
-    (front : take (end + len) now ≡ take end bytes ++ take len (drop next bytes)) (behind : drop (next + len) now ≡ drop (next + len) bytes) where
+    (front : take (end + len) now ≡ take end bytes ++ take len (drop next bytes)) (following : drop (next + len) now ≡ drop (next + len) bytes) where
   pub more_read : take (end + len - start) (drop start now) ≡ take (end - start) (drop start bytes) ++ take len (drop next bytes)
   more_read =
       let same : start + (end + len - start) ≡ end + len = omega arith in
@@ -59,7 +59,7 @@ module _ (bytes now : List ℕ) (start end next len : ℕ) (some : start ≤ end
       ∙ ap (λ (l : List ℕ). l ++ take len (drop next bytes)) (sym (part_is bytes start end some (omega arith)))
 
   pub less_unread : drop (next + len) now ≡ drop len (drop next bytes)
-  less_unread = behind ∙ sym (drop-drop len next bytes)
+  less_unread = following ∙ sym (drop-drop len next bytes)
 
 -- ---- what was dropped is let go of
 
@@ -67,13 +67,13 @@ pub kept_alone : (bytes mid now : List ℕ) (start end next left : ℕ) → star
     → take (0 + (end - start)) mid ≡ take 0 bytes ++ take (end - start) (drop start bytes) → drop (start + (end - start)) mid ≡ drop (start + (end - start)) bytes
     → take (end - start + left) now ≡ take (end - start) mid ++ take left (drop next mid)
     → take (end - start + left) now ≡ take (end - start) (drop start bytes) ++ drop next bytes
-kept_alone bytes mid now start end next left some apart long front behind all =
+kept_alone bytes mid now start end next left some apart long front following all =
     let zero_first : 0 + (end - start) ≡ end - start = omega arith in
     let place : start + (end - start) + (next - (start + (end - start))) ≡ next = omega arith in
     let first : take (end - start) mid ≡ take (end - start) (drop start bytes) = ap (λ (n : ℕ). take n mid) (sym zero_first) ∙ front in
     let past : drop next mid ≡ drop next bytes =
     ap (λ (n : ℕ). drop n mid) (sym place) ∙ sym (drop-drop (next - (start + (end - start))) (start + (end - start)) mid)
-    ∙ ap (drop (next - (start + (end - start)))) behind
+    ∙ ap (drop (next - (start + (end - start)))) following
     ∙ drop-drop (next - (start + (end - start))) (start + (end - start)) bytes ∙ ap (λ (n : ℕ). drop n bytes) place in
     all ∙ ap (λ (l : List ℕ). l ++ take left (drop next mid)) first
     ∙ ap (λ (l : List ℕ). take (end - start) (drop start bytes) ++ take left l) past

@@ -4,7 +4,7 @@ ghost use Rattle.std.specs.Prelude.{◌≡◌, ◌≤◌, ◌-◌, ◌+◌, ◌+
 ghost use Rattle.imap_replies.specs.declared.reply.Reply.{Reply};
 ghost use Rattle.imap_replies.specs.Replies.{ReplyText, seen};
 ghost use Rattle.wire_reader.specs.Answers.{Answers, TakesEach, WaitsForMore};
-ghost use Rattle.wire_reader.specs.declared.side.Side.TheVariants.{Replies};
+ghost use Rattle.wire_reader.specs.declared.side.Speaker.TheVariants.{Replies};
 ghost use Rattle.wire_reader.specs.declared.answer.Read.TheVariants.{Partial};
 ghost use Rattle.reply_buf.specs.Buffers.{empty, held_in, drops_last, reads, Moves};
 ghost use Rattle.reply_buf.specs.Fronts.{BeginsAtPlaces, IsWhole, Looks, Spells};

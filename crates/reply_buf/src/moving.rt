@@ -21,7 +21,7 @@ pub(crate) fn move_down(bytes: &mut Vec<u8>, from: usize, to: usize, len: usize)
     requires down { to ≤ from }
     requires within { from + len ≤ length bytes.old.items }
     ensures front { take (to + len) bytes.new.items ≡ take to bytes.old.items ++ take len (drop from bytes.old.items) }
-    ensures behind { drop (from + len) bytes.new.items ≡ drop (from + len) bytes.old.items }
+    ensures following { drop (from + len) bytes.new.items ≡ drop (from + len) bytes.old.items }
     ensures long { length bytes.new.items ≡ length bytes.old.items }
 {
     if to < from {

@@ -183,9 +183,9 @@ only_one Q f x clash (z ∷ zs) p c y d e = elim (Contains-cases z x zs c) [
     | inl there ↦ sym there ∙ here
     | inr later ↦ absurd (clash z y (AllPairs-head Q z zs p y later) (ap f here) e)
   ]
-  | inr behind ↦ elim (Contains-cases z y zs d) [
-    | inl there ↦ absurd (clash z x (AllPairs-head Q z zs p x behind) (ap f there ∙ e) refl)
-    | inr later ↦ only_one Q f x clash zs (AllPairs-tail Q z zs p) behind y later e
+  | inr following ↦ elim (Contains-cases z y zs d) [
+    | inl there ↦ absurd (clash z x (AllPairs-head Q z zs p x following) (ap f there ∙ e) refl)
+    | inr later ↦ only_one Q f x clash zs (AllPairs-tail Q z zs p) following y later e
   ]
 ]
 

@@ -6,8 +6,8 @@ use Rattle.mailcore.specs.declared.side.Direction.{Direction}
 use Rattle.mailcore.specs.declared.side.Direction.TheVariants.{Pull, Push}
 use Rattle.rules.specs.declared.options.Cells.{Cells}
 use Rattle.rules.specs.declared.options.Directions.{Directions}
-use Rattle.rules.specs.declared.sync_words.Kind.{Kind}
-use Rattle.rules.specs.declared.sync_words.Kind.TheVariants.{New, Gone, Flags}
+use Rattle.rules.specs.declared.sync_words.SyncType.{SyncType}
+use Rattle.rules.specs.declared.sync_words.SyncType.TheVariants.{New, Gone, Flags}
 use Rattle.rules.specs.declared.sync_words.SyncFault.{SyncFault}
 use Rattle.rules.specs.declared.sync_words.SyncFault.TheVariants.{BadWord, CellTwice}
 use Rattle.rules.specs.declared.sync_words.SyncWord.{SyncWord}
@@ -28,7 +28,7 @@ word_text (Compound Push New) = codes "PushNew"
 word_text (Compound Push Gone) = codes "PushGone"
 word_text (Compound Push Flags) = codes "PushFlags"
 
-abbrev pub all_cells : List (Direction × Kind)
+abbrev pub all_cells : List (Direction × SyncType)
 all_cells = (Pull, New) ∷ (Pull, Gone) ∷ (Pull, Flags) ∷ (Push, New) ∷ (Push, Gone) ∷ (Push, Flags) ∷ []
 
 abbrev pub all_words : List SyncWord
@@ -56,7 +56,7 @@ is_way Pull Push = false
 is_way Push Pull = false
 is_way Push Push = true
 
-abbrev pub is_kind : Kind → Kind → Bool
+abbrev pub is_kind : SyncType → SyncType → Bool
 is_kind New New = true
 is_kind Gone Gone = true
 is_kind Flags Flags = true
@@ -68,7 +68,7 @@ is_kind Flags New = false
 is_kind Flags Gone = false
 
 -- a word asserts a cell
-abbrev pub asserts : Direction → Kind → SyncWord → Bool
+abbrev pub asserts : Direction → SyncType → SyncWord → Bool
 asserts d k Nothing = false
 asserts d k Full = true
 asserts d k (Way way) = is_way way d
@@ -96,7 +96,7 @@ unfoldable pub says_type : List (List ℕ) → Bool
 says_type texts = says texts (Sort New) || says texts (Sort Gone) || says texts (Sort Flags)
 
 -- how many of the words that are said assert a cell
-unfoldable pub asserting : List (List ℕ) → Direction → Kind → ℕ
+unfoldable pub asserting : List (List ℕ) → Direction → SyncType → ℕ
 asserting texts d k = count_by (λ word. asserts d k word && says texts word) all_words
 
 unfoldable pub is_cell_twice : List (List ℕ) → Bool
@@ -114,13 +114,13 @@ unfoldable pub is_twice : List (List ℕ) → Bool
 is_twice texts = is_word_twice texts || (says texts Nothing && nat_lt 1 (length texts)) || is_asserted_twice texts
 
 -- the words choose a cell: None chooses none; in the first style both its direction and its type are chosen, where no word of a class means all of that class
-unfoldable pub is_on : List (List ℕ) → Direction → Kind → Bool
+unfoldable pub is_on : List (List ℕ) → Direction → SyncType → Bool
 is_on texts d k =
     if says texts Nothing then false
     else if says_compound texts then nat_lt 0 (asserting texts d k)
     else (says texts (Way d) || not (says_way texts)) && (says texts (Sort k) || not (says_type texts))
 
-unfoldable pub directions_on : List (List ℕ) → Kind → Directions
+unfoldable pub directions_on : List (List ℕ) → SyncType → Directions
 directions_on texts k = record { pull = is_on texts Pull k; push = is_on texts Push k }
 
 -- what the words choose, or why they are refused

@@ -23,7 +23,7 @@ pub enum SyncFault {
 
 /// A type of propagation.
 #[derive(Clone, Copy, PartialEq, Eq)]
-pub enum Kind {
+pub enum SyncType {
     /// New messages.
     New,
     /// Messages that have gone.
@@ -33,13 +33,13 @@ pub enum Kind {
 }
 
 /// The six cells.
-const CELLS: [(Direction, Kind); 6] = [
-    (Direction::Pull, Kind::New),
-    (Direction::Pull, Kind::Gone),
-    (Direction::Pull, Kind::Flags),
-    (Direction::Push, Kind::New),
-    (Direction::Push, Kind::Gone),
-    (Direction::Push, Kind::Flags),
+const CELLS: [(Direction, SyncType); 6] = [
+    (Direction::Pull, SyncType::New),
+    (Direction::Pull, SyncType::Gone),
+    (Direction::Pull, SyncType::Flags),
+    (Direction::Push, SyncType::New),
+    (Direction::Push, SyncType::Gone),
+    (Direction::Push, SyncType::Flags),
 ];
 
 /// A word of Sync.
@@ -52,9 +52,9 @@ pub enum SyncWord {
     /// A direction, as `Pull`.
     Way(Direction),
     /// A type, as `New`.
-    Sort(Kind),
+    Sort(SyncType),
     /// A direction and a type, as `PullNew`.
-    Compound(Direction, Kind),
+    Compound(Direction, SyncType),
 }
 
 impl SyncWord {
@@ -64,15 +64,15 @@ impl SyncWord {
         SyncWord::Full,
         SyncWord::Way(Direction::Pull),
         SyncWord::Way(Direction::Push),
-        SyncWord::Sort(Kind::New),
-        SyncWord::Sort(Kind::Gone),
-        SyncWord::Sort(Kind::Flags),
-        SyncWord::Compound(Direction::Pull, Kind::New),
-        SyncWord::Compound(Direction::Pull, Kind::Gone),
-        SyncWord::Compound(Direction::Pull, Kind::Flags),
-        SyncWord::Compound(Direction::Push, Kind::New),
-        SyncWord::Compound(Direction::Push, Kind::Gone),
-        SyncWord::Compound(Direction::Push, Kind::Flags),
+        SyncWord::Sort(SyncType::New),
+        SyncWord::Sort(SyncType::Gone),
+        SyncWord::Sort(SyncType::Flags),
+        SyncWord::Compound(Direction::Pull, SyncType::New),
+        SyncWord::Compound(Direction::Pull, SyncType::Gone),
+        SyncWord::Compound(Direction::Pull, SyncType::Flags),
+        SyncWord::Compound(Direction::Push, SyncType::New),
+        SyncWord::Compound(Direction::Push, SyncType::Gone),
+        SyncWord::Compound(Direction::Push, SyncType::Flags),
     ];
 
     /// How it is written; words compare without case.
@@ -84,15 +84,15 @@ impl SyncWord {
             SyncWord::Full => b"Full",
             SyncWord::Way(Direction::Pull) => b"Pull",
             SyncWord::Way(Direction::Push) => b"Push",
-            SyncWord::Sort(Kind::New) => b"New",
-            SyncWord::Sort(Kind::Gone) => b"Gone",
-            SyncWord::Sort(Kind::Flags) => b"Flags",
-            SyncWord::Compound(Direction::Pull, Kind::New) => b"PullNew",
-            SyncWord::Compound(Direction::Pull, Kind::Gone) => b"PullGone",
-            SyncWord::Compound(Direction::Pull, Kind::Flags) => b"PullFlags",
-            SyncWord::Compound(Direction::Push, Kind::New) => b"PushNew",
-            SyncWord::Compound(Direction::Push, Kind::Gone) => b"PushGone",
-            SyncWord::Compound(Direction::Push, Kind::Flags) => b"PushFlags",
+            SyncWord::Sort(SyncType::New) => b"New",
+            SyncWord::Sort(SyncType::Gone) => b"Gone",
+            SyncWord::Sort(SyncType::Flags) => b"Flags",
+            SyncWord::Compound(Direction::Pull, SyncType::New) => b"PullNew",
+            SyncWord::Compound(Direction::Pull, SyncType::Gone) => b"PullGone",
+            SyncWord::Compound(Direction::Pull, SyncType::Flags) => b"PullFlags",
+            SyncWord::Compound(Direction::Push, SyncType::New) => b"PushNew",
+            SyncWord::Compound(Direction::Push, SyncType::Gone) => b"PushGone",
+            SyncWord::Compound(Direction::Push, SyncType::Flags) => b"PushFlags",
         }
     }
 
@@ -104,7 +104,7 @@ impl SyncWord {
     }
 
     /// Whether it asserts this cell.
-    fn asserts(self, direction: Direction, kind: Kind) -> bool
+    fn asserts(self, direction: Direction, kind: SyncType) -> bool
         ensures { result ≡ asserts direction kind self }
     {
         match self {
@@ -184,14 +184,14 @@ fn says_way(texts: &[&[u8]]) -> bool
 fn says_type(texts: &[&[u8]]) -> bool
     ensures { result ≡ says_type (map (λ t. t.now) texts.now) }
 {
-    says(texts, SyncWord::Sort(Kind::New))
-        || says(texts, SyncWord::Sort(Kind::Gone))
-        || says(texts, SyncWord::Sort(Kind::Flags))
+    says(texts, SyncWord::Sort(SyncType::New))
+        || says(texts, SyncWord::Sort(SyncType::Gone))
+        || says(texts, SyncWord::Sort(SyncType::Flags))
 }
 
 /// How many of the words that are said assert a cell.
 #[tactic(auto, unfolding(crate::specs::SyncWords::asserting))]
-fn asserting(texts: &[&[u8]], direction: Direction, kind: Kind) -> usize
+fn asserting(texts: &[&[u8]], direction: Direction, kind: SyncType) -> usize
     ensures { result ≡ asserting (map (λ t. t.now) texts.now) direction kind }
 {
     SyncWord::ALL
@@ -236,7 +236,7 @@ fn is_twice(texts: &[&[u8]]) -> bool
 }
 
 #[tactic(auto, unfolding(crate::specs::SyncWords::is_on))]
-fn is_on(texts: &[&[u8]], direction: Direction, kind: Kind) -> bool
+fn is_on(texts: &[&[u8]], direction: Direction, kind: SyncType) -> bool
     ensures { result ≡ is_on (map (λ t. t.now) texts.now) direction kind }
 {
     if says(texts, SyncWord::Nothing) {
@@ -250,7 +250,7 @@ fn is_on(texts: &[&[u8]], direction: Direction, kind: Kind) -> bool
 }
 
 #[tactic(auto, unfolding(crate::specs::SyncWords::directions_on))]
-fn directions_on(texts: &[&[u8]], kind: Kind) -> Directions
+fn directions_on(texts: &[&[u8]], kind: SyncType) -> Directions
     ensures { result ≡ directions_on (map (λ t. t.now) texts.now) kind }
 {
     Directions {
@@ -275,8 +275,8 @@ pub fn sync_ops(words: &[&[u8]]) -> Result<Cells, SyncFault>
         return Err(SyncFault::CellTwice);
     }
     Ok(Cells {
-        new: directions_on(words, Kind::New),
-        gone: directions_on(words, Kind::Gone),
-        flags: directions_on(words, Kind::Flags),
+        new: directions_on(words, SyncType::New),
+        gone: directions_on(words, SyncType::Gone),
+        flags: directions_on(words, SyncType::Flags),
     })
 }

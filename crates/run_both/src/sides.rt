@@ -23,7 +23,7 @@ use std::num::NonZeroU32;
 
 /// The far mailbox, the folder of the near one, and the shelf of the book.
 #[derive(Drop)]
-pub struct Sides<L: Link, F: Folder, S: Shelf> {
+pub struct BothSides<L: Link, F: Folder, S: Shelf> {
     /// The far mailbox.
     pub far: FarSide<L>,
     /// The folder of the near mailbox.
@@ -32,7 +32,7 @@ pub struct Sides<L: Link, F: Folder, S: Shelf> {
     pub shelf: S,
 }
 
-impl<L: Link + Drop, F: Folder + Drop, S: Shelf + Drop> Sides<L, F, S> {
+impl<L: Link + Drop, F: Folder + Drop, S: Shelf + Drop> BothSides<L, F, S> {
     /// The outside of a run over them, the near mailbox under the far one's map of keywords. Nothing is open, and no call was made. The
     /// UIDVALIDITY of the near mailbox is `fresh` where its folder has no meta file.
     pub fn together(self, alloc: Global, fresh: NonZeroU32, keywords: Keywords) -> Both<L, F, S>
@@ -42,7 +42,7 @@ impl<L: Link + Drop, F: Folder + Drop, S: Shelf + Drop> Sides<L, F, S> {
         ensures opened { opened_of result ≡ None }
         ensures keywords { result.far.far.keywords ≡ keywords }
     {
-        let Sides { far, folder, shelf } = self;
+        let BothSides { far, folder, shelf } = self;
         let near = NearSide::new(alloc, folder, fresh, keywords);
         Pair::new(alloc, far, near, BookPart::new(alloc, shelf))
     }
@@ -54,7 +54,7 @@ impl<L: Link + Drop, F: Folder + Drop, S: Shelf + Drop> Sides<L, F, S> {
         ensures shelf { S.seen result.shelf ≡ seen_of_book both.book }
     {
         let (far, near, book) = both.into_parts();
-        Sides {
+        BothSides {
             far,
             folder: near.into_folder(),
             shelf: book.into_shelf(),

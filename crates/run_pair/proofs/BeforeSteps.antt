@@ -12,12 +12,12 @@ use Rattle.outside.specs.declared.fault.OutsideFault.{OutsideFault}
 use Rattle.outside.specs.Calls.{Call, FromBox, FromOpening}
 use Rattle.outside.specs.Calls as outside
 use Rattle.outside.specs.Devices.{Device}
-use Rattle.run_pair.specs.Faults.{OrRefusal, told_by, unstepped}
+use Rattle.run_pair.specs.Faults.{OrRefusal, reported_by, unstepped}
 
 -- ---- in the words of the mailbox
 
 left_so : {others one two : Effect Mailbox} {b b' : Mailbox} → ((m : Mailbox) → one m b' → two m b') → Follows others one b b' → Follows others two b b'
-left_so f h = record { mid = h.mid; before = h.before; behind = f h.mid h.behind }
+left_so f h = record { mid = h.mid; before = h.before; following = f h.mid h.following }
 
 pub unstepped_call : {T : Type 0} (own ended : Type 0) (others : Effect Mailbox) (because : BoxFault → Mailbox → Type 0) (does : T → Effect Mailbox) (part : Effect Mailbox) (s s' : Seen) (answer : Result T BoxFault)
     → calls.Call own ended others because does part s s' answer → calls.Call own ended others (OrRefusal because) does part s s' (unstepped answer)
@@ -29,29 +29,29 @@ unstepped_call own ended others because does part s s' (Err boxes.NoMemory) h = 
 
 -- ---- in those of the outside
 
-retold : {T : Type 0} {honest : Type 0} {others : Effect Device} {copies : T → ℕ} {may may' : OutsideFault → Type 0} {does : T → Effect Device} {leaves : OutsideFault → Effect Device} {old new : outside.Seen} (e : OutsideFault) → may' e
+restated : {T : Type 0} {honest : Type 0} {others : Effect Device} {copies : T → ℕ} {may may' : OutsideFault → Type 0} {does : T → Effect Device} {leaves : OutsideFault → Effect Device} {old new : outside.Seen} (e : OutsideFault) → may' e
     → Call honest others copies may does leaves old new (Err e) → Call honest others copies may' does leaves old new (Err e)
-retold e may' h =
+restated e may' h =
     let c = h.counts in
     record {
       acts = h.acts;
       goes_on = h.goes_on;
-      counts = record { told = may'; noted = c.noted; stopped = c.stopped; appends = c.appends; reopened = c.reopened; stuck = c.stuck };
+      counts = record { reported = may'; noted = c.noted; stopped = c.stopped; appends = c.appends; reopened = c.reopened; stuck = c.stuck };
     }
 
 -- no step was refused
 pub opening_call : {T : Type 0} {honest : Type 0} {others : Effect Device} {copies : T → ℕ} {does : T → Effect Device} {leaves : OutsideFault → Effect Device} {old new : outside.Seen} (side : Side) (answer : Result T BoxFault) (result : Result T OutsideFault)
-    → result ≡ told_by side (unstepped answer) → Call honest others copies FromBox does leaves old new result → Call honest others copies FromOpening does leaves old new result
+    → result ≡ reported_by side (unstepped answer) → Call honest others copies FromBox does leaves old new result → Call honest others copies FromOpening does leaves old new result
 opening_call {T} {honest} {others} {copies} {does} {leaves} {old} {new} side answer result same h =
     subst (λ (r : Result T OutsideFault). Call honest others copies FromOpening does leaves old new r) (sym same)
     (by_answer answer (subst (λ (r : Result T OutsideFault). Call honest others copies FromBox does leaves old new r) same h))
   where
-    by_answer : (a : Result T BoxFault) → Call honest others copies FromBox does leaves old new (told_by side (unstepped a)) → Call honest others copies FromOpening does leaves old new (told_by side (unstepped a))
+    by_answer : (a : Result T BoxFault) → Call honest others copies FromBox does leaves old new (reported_by side (unstepped a)) → Call honest others copies FromOpening does leaves old new (reported_by side (unstepped a))
     by_answer (Ok x) h = record { acts = h.acts; goes_on = h.goes_on; counts = h.counts }
-    by_answer (Err boxes.Stopped) h = retold _ tt h
-    by_answer (Err boxes.Refused) h = retold _ tt h
-    by_answer (Err (boxes.Own number)) h = retold _ tt h
-    by_answer (Err boxes.NoMemory) h = retold _ tt h
+    by_answer (Err boxes.Stopped) h = restated _ tt h
+    by_answer (Err boxes.Refused) h = restated _ tt h
+    by_answer (Err (boxes.Own number)) h = restated _ tt h
+    by_answer (Err boxes.NoMemory) h = restated _ tt h
 
 -- ---- its answer
 

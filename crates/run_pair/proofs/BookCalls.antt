@@ -104,7 +104,7 @@ of_book f n l (Some k) does far near files files' named h = record { far = refl;
 
 -- ---- a call of the book, after what others did
 
-module _ (honest own : Type 0) (others : Effect Device) (may_tell : OutsideFault → Type 0) (does part : Effect Files) (does' part' : Effect Device) (put : Files → Device) (files files' : Files)
+module _ (honest own : Type 0) (others : Effect Device) (may_report : OutsideFault → Type 0) (does part : Effect Files) (does' part' : Effect Device) (put : Files → Device) (files files' : Files)
     (all : does files files' → does' (put files) (put files')) (some : part files files' → part' (put files) (put files')) (sparing : AreSparing {T = Unit {0}} others (λ _. does') (LeavesBy {T = Unit {0}} (λ _. does') part')) where
   left_so : (e : OutsideFault) → LeavesSome {T = Unit {0}} (λ _. does) part e files files' → LeavesBy {T = Unit {0}} (λ _. does') part' e (put files) (put files')
   left_so fault.Stopped (inl h) = inl (ap put h)
@@ -120,14 +120,14 @@ module _ (honest own : Type 0) (others : Effect Device) (may_tell : OutsideFault
 
   -- others act first, on the device as it was
   files_call : (d : Device) (c : Counts) (answer : Result (Unit {0}) OutsideFault)
-      → (honest → FilesGoOn d.files (put files').files) → (honest → own) → (honest → others d (put files)) → c.is_broken ≡ false → IfErr answer may_tell → (honest → PartChanges own (λ (x : Unit {0}). does) part files files' answer)
-      → Writes honest others may_tell does' part' (seen_with d c) (seen_with (put files') (ended (λ _. 0) answer c)) answer
+      → (honest → FilesGoOn d.files (put files').files) → (honest → own) → (honest → others d (put files)) → c.is_broken ≡ false → IfErr answer may_report → (honest → PartChanges own (λ (x : Unit {0}). does) part files files' answer)
+      → Writes honest others may_report does' part' (seen_with d c) (seen_with (put files') (ended (λ _. 0) answer c)) answer
   files_call d c (Ok x) goes kept before whole may p =
-      done_call {T = Unit {0}} honest others (λ _. 0) may_tell (λ _. does') (LeavesBy {T = Unit {0}} (λ _. does') part') d (put files') c whole sparing goes x
-      (λ h. record { mid = put files; before = before h; behind = all (p h (kept h)) })
+      done_call {T = Unit {0}} honest others (λ _. 0) may_report (λ _. does') (LeavesBy {T = Unit {0}} (λ _. does') part') d (put files') c whole sparing goes x
+      (λ h. record { mid = put files; before = before h; following = all (p h (kept h)) })
   files_call d c (Err e) goes kept before whole may p =
-      failed_call {T = Unit {0}} honest others (λ _. 0) may_tell (λ _. does') (LeavesBy {T = Unit {0}} (λ _. does') part') d (put files') c whole sparing goes e may
-      (λ h. record { mid = put files; before = before h; behind = left_so e (p h (kept h)) })
+      failed_call {T = Unit {0}} honest others (λ _. 0) may_report (λ _. does') (LeavesBy {T = Unit {0}} (λ _. does') part') d (put files') c whole sparing goes e may
+      (λ h. record { mid = put files; before = before h; following = left_so e (p h (kept h)) })
 
 -- ---- why it stops
 
@@ -148,9 +148,9 @@ from_log f n l (Some k) logged (fault.BadState line) h = h
 from_log f n l k logged (fault.BadJournal line) h = absurd h
 from_log f n l k logged fault.NoMemory h = tt
 
-pub tells_log : (f n : Bool) (l : List Device) (k : Option Kept) (logged : Logged) (answer : Result (Unit {0}) OutsideFault) → IfErr answer (FromLog k logged) → IfErr answer (there.FromLog (opened_with f n l k) logged)
-tells_log f n l k logged (Ok x) h = tt
-tells_log f n l k logged (Err e) h = from_log f n l k logged e h
+pub reports_log : (f n : Bool) (l : List Device) (k : Option Kept) (logged : Logged) (answer : Result (Unit {0}) OutsideFault) → IfErr answer (FromLog k logged) → IfErr answer (there.FromLog (opened_with f n l k) logged)
+reports_log f n l k logged (Ok x) h = tt
+reports_log f n l k logged (Err e) h = from_log f n l k logged e h
 
 -- ---- the book is read
 
@@ -162,21 +162,21 @@ reads_so f n l k far near files files' named h =
 -- ---- the call of the book is that of the outside
 
 -- what the outside says of a call of the book
-pub record BookEnds (honest : Type 0) (others : Effect Device) (may_tell : OutsideFault → Type 0) (does part : Effect Device) (d d' : Device) (c c' : Counts) (result : Result (Unit {0}) OutsideFault) : Type 0 where
-  pub call : Writes honest others may_tell does part (seen_with d c) (seen_with d' c') result
+pub record BookEnds (honest : Type 0) (others : Effect Device) (may_report : OutsideFault → Type 0) (does part : Effect Device) (d d' : Device) (c c' : Counts) (result : Result (Unit {0}) OutsideFault) : Type 0 where
+  pub call : Writes honest others may_report does part (seen_with d c) (seen_with d' c') result
   pub tallied : Tallied {T = Unit {0}} (ended no_copies) result c c'
 
 module _ {F N S : Type 0} {fars : mailbox.Ghosts F} {nears : mailbox.Ghosts N} {shelves : shelf.Ghosts S} (p : Pair F N S fars nears shelves) where
   -- the near mailbox and the book are as they are now
-  pub book_ends : (does part : Pending → Effect Files) (may_tell : OutsideFault → Type 0) (near : N) (book : BookPart S shelves) (c' : Counts) (answer result : Result (Unit {0}) OutsideFault)
-      → LeadsOn does (kept_of p.book) × LeadsOn part (kept_of p.book) → p.tally.is_broken ≡ false → result ≡ answer → c' ≡ ended no_copies answer p.tally → IfErr answer may_tell
+  pub book_ends : (does part : Pending → Effect Files) (may_report : OutsideFault → Type 0) (near : N) (book : BookPart S shelves) (c' : Counts) (answer result : Result (Unit {0}) OutsideFault)
+      → LeadsOn does (kept_of p.book) × LeadsOn part (kept_of p.book) → p.tally.is_broken ≡ false → result ≡ answer → c' ≡ ended no_copies answer p.tally → IfErr answer may_report
       → (nears.honest near → box.Arrives side.Near nears.ours nears.alone (nears.seen p.near).stored (nears.seen near).stored)
       → (nears.honest near → PartChanges (shelves.is_honest ≡ true) (λ (x : Unit {0}). OfKept does (kept_of p.book)) (OfKept part (kept_of p.book)) (files_of p.book) (files_of book) answer)
-      → BookEnds (fars.honest p.far × nears.honest near × (shelves.is_honest ≡ true)) (Arrives (both fars.ours nears.ours) (fars.alone && nears.alone)) may_tell
+      → BookEnds (fars.honest p.far × nears.honest near × (shelves.is_honest ≡ true)) (Arrives (both fars.ours nears.ours) (fars.alone && nears.alone)) may_report
       (there.OfBook does (opened_of p)) (there.OfBook part (opened_of p)) (device_of p) (device_with (fars.seen p.far).stored (nears.seen near).stored (files_of book) c'.named) p.tally c' result
-  book_ends does part may_tell near book c' answer result leads whole same now may before changes = record {
-    call = tallied honest others (λ _. 0) may_tell (λ _. there.OfBook does (opened_of p)) (LeavesBy {T = Unit {0}} (λ _. there.OfBook does (opened_of p)) (there.OfBook part (opened_of p))) d (device_with (fars.seen p.far).stored (nears.seen near).stored (files_of book)) p.tally c' answer result same now
-        (files_call honest (shelves.is_honest ≡ true) others may_tell (OfKept does k) (OfKept part k) (there.OfBook does (opened_of p)) (there.OfBook part (opened_of p)) with_files (files_of p.book) (files_of book)
+  book_ends does part may_report near book c' answer result leads whole same now may before changes = record {
+    call = tallied honest others (λ _. 0) may_report (λ _. there.OfBook does (opened_of p)) (LeavesBy {T = Unit {0}} (λ _. there.OfBook does (opened_of p)) (there.OfBook part (opened_of p))) d (device_with (fars.seen p.far).stored (nears.seen near).stored (files_of book)) p.tally c' answer result same now
+        (files_call honest (shelves.is_honest ≡ true) others may_report (OfKept does k) (OfKept part k) (there.OfBook does (opened_of p)) (there.OfBook part (opened_of p)) with_files (files_of p.book) (files_of book)
         (of_book f n l k does _ _ _ _ p.tally.named) (of_book f n l k part _ _ _ _ p.tally.named) sparing d p.tally answer
         (λ h. goes_by does part (shelves.is_honest ≡ true) (files_of p.book) (files_of book) k (is_at p.book (p.book_whole whole) h.2) leads.0 leads.1 answer h.2 (changes h.1)) (λ h. h.2) (λ h. arrives h.1) whole may (λ h. changes h.1));
     tallied = tally (ended no_copies) answer result p.tally c' whole same now;
@@ -254,7 +254,7 @@ module _ {F N S : Type 0} {fars : mailbox.Ghosts F} {nears : mailbox.Ghosts N} {
           → Call honest others (λ _. 0) FromShelf does there.LeavesUnread (seen_with (device_of p) p.tally) (seen_with (with_files (files_of book)) (ended (λ _. 0) a p.tally)) a
       by_answer (Ok x) h r =
           done_call honest others (λ _. 0) FromShelf does there.LeavesUnread (device_of p) (with_files (files_of book)) p.tally whole sparing (λ y. files_stay (files_of p.book) (files_of book) (r y.2).0) x
-          (λ y. record { mid = device_of p; before = quiet _ _ _; behind = reads_so (fars.is_open p.far) (nears.is_open p.near) p.listed.devices (kept_of book) _ _ (files_of p.book) (files_of book) p.tally.named (r y.2) })
+          (λ y. record { mid = device_of p; before = quiet _ _ _; following = reads_so (fars.is_open p.far) (nears.is_open p.near) p.listed.devices (kept_of book) _ _ (files_of p.book) (files_of book) p.tally.named (r y.2) })
       by_answer (Err e) h r =
           failed_call honest others (λ _. 0) FromShelf does there.LeavesUnread (device_of p) (with_files (files_of book)) p.tally whole sparing (λ y. files_stay (files_of p.book) (files_of book) (r y.2).0) e h
-          (λ y. record { mid = device_of p; before = quiet _ _ _; behind = (ap with_files (r y.2).0, (r y.2).1) })
+          (λ y. record { mid = device_of p; before = quiet _ _ _; following = (ap with_files (r y.2).0, (r y.2).1) })

@@ -25,7 +25,7 @@ use Rattle.outside.proofs.GoingOn.{files_stay}
 use Rattle.outside.proofs.Sparing.{arrivals_spare}
 use Rattle.run_pair.specs.declared.pair.Pair.{Pair}
 use Rattle.run_pair.specs.Copies.{carries, with_two}
-use Rattle.run_pair.specs.Faults.{IsTold}
+use Rattle.run_pair.specs.Faults.{IsReported}
 use Rattle.run_pair.specs.Pairs.{Failed, device_of}
 use Rattle.run_pair.specs.Parts.{IsLess, both, with_named}
 use Rattle.run_pair.specs.Tallies.{Counts, Tallied, ended, seen_with}
@@ -34,34 +34,34 @@ use Rattle.run_pair.proofs.Ending.{done_call, failed_call, if_err, tallied, tall
 
 -- ---- what is reported
 
-told_so : (own cause cause' : Type 0) (side : Side) (because : BoxFault → Mailbox → Type 0) (b : Mailbox) (e : OutsideFault) → (cause → cause') → IsTold own cause side because b e → IsTold own cause' side because b e
-told_so own cause cause' side because b fault.Stopped f h = f h
-told_so own cause cause' side because b fault.Refused f h = h
-told_so own cause cause' side because b (fault.Box s number) f h = h
-told_so own cause cause' side because b (fault.BadState line) f h = h
-told_so own cause cause' side because b (fault.BadJournal line) f h = h
-told_so own cause cause' side because b fault.NoMemory f h = h
+reported_so : (own cause cause' : Type 0) (side : Side) (because : BoxFault → Mailbox → Type 0) (b : Mailbox) (e : OutsideFault) → (cause → cause') → IsReported own cause side because b e → IsReported own cause' side because b e
+reported_so own cause cause' side because b fault.Stopped f h = f h
+reported_so own cause cause' side because b fault.Refused f h = h
+reported_so own cause cause' side because b (fault.Box s number) f h = h
+reported_so own cause cause' side because b (fault.BadState line) f h = h
+reported_so own cause cause' side because b (fault.BadJournal line) f h = h
+reported_so own cause cause' side because b fault.NoMemory f h = h
 
-from_told : (own cause : Type 0) (side : Side) (because : BoxFault → Mailbox → Type 0) (b : Mailbox) (e : OutsideFault) → IsTold own cause side because b e → FromBox e
-from_told own cause side because b fault.Stopped h = tt
-from_told own cause side because b fault.Refused h = tt
-from_told own cause side because b (fault.Box s number) h = tt
-from_told own cause side because b (fault.BadState line) h = absurd h
-from_told own cause side because b (fault.BadJournal line) h = absurd h
-from_told own cause side because b fault.NoMemory h = tt
+from_reported : (own cause : Type 0) (side : Side) (because : BoxFault → Mailbox → Type 0) (b : Mailbox) (e : OutsideFault) → IsReported own cause side because b e → FromBox e
+from_reported own cause side because b fault.Stopped h = tt
+from_reported own cause side because b fault.Refused h = tt
+from_reported own cause side because b (fault.Box s number) h = tt
+from_reported own cause side because b (fault.BadState line) h = absurd h
+from_reported own cause side because b (fault.BadJournal line) h = absurd h
+from_reported own cause side because b fault.NoMemory h = tt
 
 -- what the mailboxes report of a copy, the source first
 module _ (a b ca cb ca' cb' : Type 0) (sa sb : Side) (ra rb : BoxFault → Mailbox → Type 0) (na nb : Mailbox) where
   abbrev Either : (ca cb : Type 0) → OutsideFault → Type 0
-  Either ca cb e = IsTold a ca sa ra na e ⊎ IsTold b cb sb rb nb e
+  Either ca cb e = IsReported a ca sa ra na e ⊎ IsReported b cb sb rb nb e
 
   either_box : (e : OutsideFault) → Either ca cb e → FromBox e
-  either_box e (inl h) = from_told a ca sa ra na e h
-  either_box e (inr h) = from_told b cb sb rb nb e h
+  either_box e (inl h) = from_reported a ca sa ra na e h
+  either_box e (inr h) = from_reported b cb sb rb nb e h
 
   either_so : (ca → ca') → (cb → cb') → (e : OutsideFault) → Either ca cb e → Either ca' cb' e
-  either_so f g e (inl h) = inl (told_so a ca ca' sa ra na e f h)
-  either_so f g e (inr h) = inr (told_so b cb cb' sb rb nb e g h)
+  either_so f g e (inl h) = inl (reported_so a ca ca' sa ra na e f h)
+  either_so f g e (inr h) = inr (reported_so b cb cb' sb rb nb e g h)
 
 -- ---- the whole call
 
@@ -115,12 +115,12 @@ module _ {F N S : Type 0} {fars : mailbox.Ghosts F} {nears : mailbox.Ghosts N} {
   -- what a pull reports, for these causes of stops
   abbrev pulls : (of_far of_near : Type 0) → OutsideFault → Type 0
   pulls of_far of_near e =
-      IsTold (fars.honest far) of_far sides.Far Never (fars.seen far).stored e ⊎ IsTold (nears.honest near) of_near sides.Near (NoRoom sides.Near (λ _. 1)) (nears.seen near).stored e
+      IsReported (fars.honest far) of_far sides.Far Never (fars.seen far).stored e ⊎ IsReported (nears.honest near) of_near sides.Near (NoRoom sides.Near (λ _. 1)) (nears.seen near).stored e
 
   -- what a push reports
   abbrev pushes : (of_near of_far : Type 0) → OutsideFault → Type 0
   pushes of_near of_far e =
-      IsTold (nears.honest near) of_near sides.Near Never (nears.seen near).stored e ⊎ IsTold (fars.honest far) of_far sides.Far (NoRoom sides.Far (λ _. 1)) (fars.seen far).stored e
+      IsReported (nears.honest near) of_near sides.Near Never (nears.seen near).stored e ⊎ IsReported (fars.honest far) of_far sides.Far (NoRoom sides.Far (λ _. 1)) (fars.seen far).stored e
 
   pub pull_ends : IfErr answer (pulls far_cause near_cause)
       → (fars.honest far → nears.honest near → (ours : List ℕ → Bool) (alone : Bool) (d : Device) → IsLess fars.ours ours → IsLess nears.ours ours → (alone ≡ true → fars.alone ≡ true) → (alone ≡ true → nears.alone ≡ true)

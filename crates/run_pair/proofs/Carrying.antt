@@ -20,12 +20,12 @@ use Rattle.outside.specs.declared.fault.OutsideFault.{OutsideFault}
 use Rattle.outside.specs.declared.fault.OutsideFault.TheVariants as fault
 use Rattle.outside.specs.declared.outside.Carried.TheVariants.{Absent, Unfit, Made}
 use Rattle.outside.specs.Arrivals.{Arrives}
-use Rattle.mailbox.specs.Operations.{Tells}
+use Rattle.mailbox.specs.Operations.{Reports}
 use Rattle.outside.specs.BoxCalls.{Carry, SetsAside}
 use Rattle.outside.specs.Calls.{LeavesBy}
 use Rattle.outside.specs.Devices.{Device}
 use Rattle.run_pair.specs.Copies.{with_two}
-use Rattle.run_pair.specs.Faults.{told}
+use Rattle.run_pair.specs.Faults.{reported}
 use Rattle.run_pair.specs.Parts.{IsLess}
 use Rattle.mailbox.proofs.Quiet.{quiet as box_quiet}
 use Rattle.run_pair.proofs.Arriving.{is_foreign}
@@ -65,22 +65,22 @@ module _ (a b ours : List ℕ → Bool) (a1 b1 alone : Bool) (la : IsLess a ours
   }
 
   -- the source was called, and nobody acts on the target
-  pub behind_load : (direction : Direction) (n : Mailbox) {m m' : Mailbox} {own : Effect Mailbox} {own' : Effect Device} → Follows (box.Arrives (source direction) a a1) own m m'
+  pub after_load : (direction : Direction) (n : Mailbox) {m m' : Mailbox} {own : Effect Mailbox} {own' : Effect Device} → Follows (box.Arrives (source direction) a a1) own m m'
       → ((x : Mailbox) → own x m' → own' (with_two direction x n d) (with_two direction m' n d)) → Follows (Arrives ours alone) own' (with_two direction m n d) (with_two direction m' n d)
-  behind_load direction n {m} {m'} e f = record {
+  after_load direction n {m} {m'} e f = record {
     mid = with_two direction e.mid n d;
     before = both_arrive direction m e.mid n n e.before (box_quiet (target direction) b b1 n);
-    behind = f e.mid e.behind;
+    following = f e.mid e.following;
   }
 
   -- the source was called, and then the target
-  pub behind_both : (direction : Direction) {m m' n n' : Mailbox} {own other : Effect Mailbox} {own' : Effect Device} → Follows (box.Arrives (source direction) a a1) own m m'
+  pub after_both : (direction : Direction) {m m' n n' : Mailbox} {own other : Effect Mailbox} {own' : Effect Device} → Follows (box.Arrives (source direction) a a1) own m m'
       → Follows (box.Arrives (target direction) b b1) other n n' → ((x y : Mailbox) → own x m' → other y n' → own' (with_two direction x y d) (with_two direction m' n' d))
       → Follows (Arrives ours alone) own' (with_two direction m n d) (with_two direction m' n' d)
-  behind_both direction {m} {m'} {n} {n'} e h f = record {
+  after_both direction {m} {m'} {n} {n'} e h f = record {
     mid = with_two direction e.mid h.mid d;
     before = both_arrive direction m e.mid n h.mid e.before h.before;
-    behind = f e.mid h.mid e.behind h.behind;
+    following = f e.mid h.mid e.following h.following;
   }
 
 -- ---- what was read of the message
@@ -93,8 +93,8 @@ pub text_so : (mark : List ℕ) {s s' : Side} {n end : LineEnd} {message body te
 text_so mark {s} {s'} {n} {end} {message} {body} {text} {head} et em ee eb en es =
     et ∙ ap (λ (x : List ℕ). copy_text x message end) em ∙ ap (λ (x : List ℕ). copy_text mark x end) eb ∙ ap (λ (x : LineEnd). copy_text mark body x) (ee ∙ en ∙ ap line_end es)
 
-pub told_as : (f : BoxFault) {s s' : Side} {e : OutsideFault} → e ≡ told s f → s ≡ s' → e ≡ told s' f
-told_as f e es = e ∙ ap (λ (s : Side). told s f) es
+pub reported_as : (f : BoxFault) {s s' : Side} {e : OutsideFault} → e ≡ reported s f → s ≡ s' → e ≡ reported s' f
+reported_as f e es = e ∙ ap (λ (s : Side). reported s f) es
 
 -- ---- nothing is done
 
@@ -110,15 +110,15 @@ pub stays_left : {T : Type 0} (does : T → Effect Device) (part : Effect Device
 stays_left does part direction e m m' n d h = left_none does part e _ _ (ap (λ (z : Mailbox). with_two direction z n d) h)
 
 -- a call that reads has changed nothing, whatever it reports
-pub read_stays : {T : Type 0} (because : BoxFault → Mailbox → Type 0) (tells : T → Mailbox → Type 0) (f : BoxFault) (m m' : Mailbox) → calls.LeavesBy (ops.Answers tells) Nothing because f m m' → m' ≡ m
-read_stays because tells boxes.Stopped m m' (inl h) = h
-read_stays because tells boxes.Stopped m m' (inr (inl h)) = h.done.0
-read_stays because tells boxes.Stopped m m' (inr (inr h)) = absurd h
-read_stays because tells boxes.Refused m m' h = h.0
-read_stays because tells (boxes.Own number) m m' h = h.0
-read_stays because tells boxes.NoMemory m m' (inl h) = h
-read_stays because tells boxes.NoMemory m m' (inr (inl h)) = h.done.0
-read_stays because tells boxes.NoMemory m m' (inr (inr h)) = absurd h
+pub read_stays : {T : Type 0} (because : BoxFault → Mailbox → Type 0) (states : T → Mailbox → Type 0) (f : BoxFault) (m m' : Mailbox) → calls.LeavesBy (ops.Answers states) Nothing because f m m' → m' ≡ m
+read_stays because states boxes.Stopped m m' (inl h) = h
+read_stays because states boxes.Stopped m m' (inr (inl h)) = h.done.0
+read_stays because states boxes.Stopped m m' (inr (inr h)) = absurd h
+read_stays because states boxes.Refused m m' h = h.0
+read_stays because states (boxes.Own number) m m' h = h.0
+read_stays because states boxes.NoMemory m m' (inl h) = h
+read_stays because states boxes.NoMemory m m' (inr (inl h)) = h.done.0
+read_stays because states boxes.NoMemory m m' (inr (inr h)) = absurd h
 
 pub absent : (direction : Direction) (uid flags : ℕ) (mark : List ℕ) (m m' n : Mailbox) (d : Device) → m' ≡ m → bytes_of uid m.store ≡ None
     → Carry direction uid flags mark Absent (with_two direction m n d) (with_two direction m' n d)
@@ -132,13 +132,13 @@ unfit Push uid flags mark bytes m m' n d h is bad = (ap (λ (z : Mailbox). with_
 
 -- ---- a copy is made
 
-tells_uid : (told' : Option ℕ) (uid : ℕ) → told' ≡ Some uid → Tells told' uid
-tells_uid told' uid h = subst (λ (o : Option ℕ). Tells o uid) (sym h) refl
+reports_uid : (reported' : Option ℕ) (uid : ℕ) → reported' ≡ Some uid → Reports reported' uid
+reports_uid reported' uid h = subst (λ (o : Option ℕ). Reports o uid) (sym h) refl
 
-pub made : (direction : Direction) (uid flags : ℕ) (mark bytes text : List ℕ) (told' : Option ℕ) (m m' n n' : Mailbox) (d : Device) → m' ≡ m → bytes_of uid m.store ≡ Some bytes → fit (source direction) bytes ≡ true
-    → text ≡ copy_text mark bytes (line_end (target direction)) → ops.Appends (target direction) text flags told' n n'
-    → Carry direction uid flags mark (Made told') (with_two direction m n d) (with_two direction m' n' d)
-made Pull uid flags mark bytes text told' m m' n n' d h is good t a = record {
+pub made : (direction : Direction) (uid flags : ℕ) (mark bytes text : List ℕ) (reported' : Option ℕ) (m m' n n' : Mailbox) (d : Device) → m' ≡ m → bytes_of uid m.store ≡ Some bytes → fit (source direction) bytes ≡ true
+    → text ≡ copy_text mark bytes (line_end (target direction)) → ops.Appends (target direction) text flags reported' n n'
+    → Carry direction uid flags mark (Made reported') (with_two direction m n d) (with_two direction m' n' d)
+made Pull uid flags mark bytes text reported' m m' n n' d h is good t a = record {
   makes = record {
     bytes = bytes;
     is_there = is;
@@ -149,9 +149,9 @@ made Pull uid flags mark bytes text told' m m' n n' d h is good t a = record {
     below = omega arith;
     now = ap (λ (z : Mailbox). with_two Pull z n' d) h ∙ ap (λ (z : Mailbox). with_two Pull m z d) (a.now ∙ ap (λ (x : List ℕ). on_store (added a.uid flags x) n) t);
   };
-  tells = tells_uid told' a.uid a.gives.1;
+  states = reports_uid reported' a.uid a.gives.1;
 }
-made Push uid flags mark bytes text told' m m' n n' d h is good t a = record {
+made Push uid flags mark bytes text reported' m m' n n' d h is good t a = record {
   makes = record {
     bytes = bytes;
     is_there = is;
@@ -162,7 +162,7 @@ made Push uid flags mark bytes text told' m m' n n' d h is good t a = record {
     below = omega arith;
     now = ap (λ (z : Mailbox). with_two Push z n' d) h ∙ ap (λ (z : Mailbox). with_two Push m z d) (a.now ∙ ap (λ (x : List ℕ). on_store (added a.uid flags x) n) t);
   };
-  tells = a.gives.1;
+  states = a.gives.1;
 }
 
 aside : (direction : Direction) (m m' n n' : Mailbox) (d : Device) → m' ≡ m → ops.AppendsPart (target direction) n n' → SetsAside (target direction) (with_two direction m n d) (with_two direction m' n' d)
@@ -171,14 +171,14 @@ aside Push m m' n n' d h a = absurd a
 
 pub not_made : (direction : Direction) (uid flags : ℕ) (mark bytes text : List ℕ) (because : BoxFault → Mailbox → Type 0) (m m' n n' : Mailbox) (d : Device) (f : BoxFault) → m' ≡ m → bytes_of uid m.store ≡ Some bytes → fit (source direction) bytes ≡ true
     → text ≡ copy_text mark bytes (line_end (target direction)) → calls.LeavesBy (ops.Appends (target direction) text flags) (ops.AppendsPart (target direction)) because f n n'
-    → LeavesBy (Carry direction uid flags mark) (SetsAside (target direction)) (told (target direction) f) (with_two direction m n d) (with_two direction m' n' d)
+    → LeavesBy (Carry direction uid flags mark) (SetsAside (target direction)) (reported (target direction) f) (with_two direction m n d) (with_two direction m' n' d)
 not_made direction uid flags mark bytes text because m m' n n' d f h is good t l = by_fault f l
   where
     same : n' ≡ n → with_two direction m' n' d ≡ with_two direction m n d
     same k = ap (λ (z : Mailbox). with_two direction z n' d) h ∙ ap (λ (z : Mailbox). with_two direction m z d) k
 
     by_fault : (f : BoxFault) → calls.LeavesBy (ops.Appends (target direction) text flags) (ops.AppendsPart (target direction)) because f n n'
-        → LeavesBy (Carry direction uid flags mark) (SetsAside (target direction)) (told (target direction) f) (with_two direction m n d) (with_two direction m' n' d)
+        → LeavesBy (Carry direction uid flags mark) (SetsAside (target direction)) (reported (target direction) f) (with_two direction m n d) (with_two direction m' n' d)
     by_fault boxes.Stopped (inl k) = inl (same k)
     by_fault boxes.Stopped (inr (inl k)) = inr (inl (record { answer = Made k.answer; done = made direction uid flags mark bytes text k.answer m m' n n' d h is good t k.done }))
     by_fault boxes.Stopped (inr (inr k)) = inr (inr (aside direction m m' n n' d h k))

@@ -5,12 +5,12 @@ use Rattle.sync_state.specs.declared.fault.BookFault.TheVariants as book
 use Rattle.outside.specs.declared.fault.OutsideFault.{OutsideFault}
 use Rattle.outside.specs.declared.fault.OutsideFault.TheVariants as outside
 
-abbrev pub told : BookFault → OutsideFault
-told book.Stopped = outside.Stopped
-told (book.BadState line) = outside.BadState line
-told (book.BadJournal line) = outside.BadJournal line
-told book.NoMemory = outside.NoMemory
+abbrev pub reported : BookFault → OutsideFault
+reported book.Stopped = outside.Stopped
+reported (book.BadState line) = outside.BadState line
+reported (book.BadJournal line) = outside.BadJournal line
+reported book.NoMemory = outside.NoMemory
 
-abbrev pub told_by : {T : Type 0} → Result T BookFault → Result T OutsideFault
-told_by (Ok answer) = Ok answer
-told_by (Err fault) = Err (told fault)
+abbrev pub reported_by : {T : Type 0} → Result T BookFault → Result T OutsideFault
+reported_by (Ok answer) = Ok answer
+reported_by (Err fault) = Err (reported fault)

@@ -9,15 +9,15 @@ use Rattle.outside.specs.declared.fault.OutsideFault.{OutsideFault}
 use Rattle.outside.specs.declared.fault.OutsideFault.TheVariants as outside
 
 -- a fault of its own is reported with its side
-abbrev pub told : Side → BoxFault → OutsideFault
-told side box.Stopped = outside.Stopped
-told side box.Refused = outside.Refused
-told side (box.Own number) = outside.Box side number
-told side box.NoMemory = outside.NoMemory
+abbrev pub reported : Side → BoxFault → OutsideFault
+reported side box.Stopped = outside.Stopped
+reported side box.Refused = outside.Refused
+reported side (box.Own number) = outside.Box side number
+reported side box.NoMemory = outside.NoMemory
 
-abbrev pub told_by : {T : Type 0} → Side → Result T BoxFault → Result T OutsideFault
-told_by side (Ok answer) = Ok answer
-told_by side (Err fault) = Err (told side fault)
+abbrev pub reported_by : {T : Type 0} → Side → Result T BoxFault → Result T OutsideFault
+reported_by side (Ok answer) = Ok answer
+reported_by side (Err fault) = Err (reported side fault)
 
 -- a call before the steps of a plan: what was refused is a fault of the mailbox
 abbrev pub unstepped : {T : Type 0} → Result T BoxFault → Result T BoxFault
@@ -33,10 +33,10 @@ OrRefusal because fault b = because fault b ⊎ ((fault ≡ box.Own FAR_REFUSED)
 
 -- A call of the mailbox of this side reports this fault. A stop has this cause. A refusal, and a fault of its own, which names this side,
 -- are reported of the mailbox as it is now, for its reason, where the device below has behaved as specified.
-abbrev pub IsTold : (honest cause : Type 0) → Side → (because : BoxFault → Mailbox → Type 0) → (now : Mailbox) → OutsideFault → Type 0
-IsTold honest cause side because now outside.Stopped = cause
-IsTold honest cause side because now outside.Refused = honest → because box.Refused now
-IsTold honest cause side because now (outside.Box named number) = (named ≡ side) × (honest → because (box.Own number) now)
-IsTold honest cause side because now (outside.BadState line) = ⊥
-IsTold honest cause side because now (outside.BadJournal line) = ⊥
-IsTold honest cause side because now outside.NoMemory = Unit {0}
+abbrev pub IsReported : (honest cause : Type 0) → Side → (because : BoxFault → Mailbox → Type 0) → (now : Mailbox) → OutsideFault → Type 0
+IsReported honest cause side because now outside.Stopped = cause
+IsReported honest cause side because now outside.Refused = honest → because box.Refused now
+IsReported honest cause side because now (outside.Box named number) = (named ≡ side) × (honest → because (box.Own number) now)
+IsReported honest cause side because now (outside.BadState line) = ⊥
+IsReported honest cause side because now (outside.BadJournal line) = ⊥
+IsReported honest cause side because now outside.NoMemory = Unit {0}

@@ -15,7 +15,7 @@ use Rattle.book.specs.LostSides.{Lost}
 use Rattle.book.specs.Shelves.{Files}
 use Rattle.outside.specs.declared.fault.OutsideFault.{OutsideFault}
 use Rattle.outside.specs.declared.fault.OutsideFault.TheVariants.{Stopped, Refused, Box, BadState, BadJournal, NoMemory}
-use Rattle.outside.specs.BookCalls.{TellsFiles}
+use Rattle.outside.specs.BookCalls.{ReportsFiles}
 use Rattle.outside.specs.Opened.{journal_in}
 
 pub record Kept : Type 0 where
@@ -104,7 +104,7 @@ ReadsFiles kept old new = (new ≡ old) × IsHeld kept old
 
 -- nothing is changed, and the fault says why
 abbrev pub LeavesUnread : OutsideFault → Effect Files
-LeavesUnread fault old new = (new ≡ old) × TellsFiles fault old
+LeavesUnread fault old new = (new ≡ old) × ReportsFiles fault old
 
 -- the UID of the copy is taken
 abbrev pub IsTaken : Option Kept → Logged → Type 0

@@ -21,7 +21,7 @@ use Rattle.outside.specs.Devices.{Device}
 use Rattle.outside.specs.Opened.{Opened}
 use Rattle.run_pair.specs.BookParts.{files_of, kept_of, standing_of}
 use Rattle.run_pair.specs.declared.pair.Pair.{Pair}
-use Rattle.run_pair.specs.Faults.{IsTold}
+use Rattle.run_pair.specs.Faults.{IsReported}
 use Rattle.run_pair.specs.Parts.{both, device_with, opened_with}
 use Rattle.run_pair.specs.Tallies.{seen_with}
 
@@ -45,26 +45,26 @@ module _ {F N S : Type 0} {fars : mailbox.Ghosts F} {nears : mailbox.Ghosts N} {
   -- ---- what a call does, in the words of the trait
 
   -- any call
-  abbrev pub PairCall : {T : Type 0} → (copies : T → ℕ) → (may_tell : OutsideFault → Type 0) → (does : T → Effect Device) → (leaves : OutsideFault → Effect Device)
+  abbrev pub PairCall : {T : Type 0} → (copies : T → ℕ) → (may_report : OutsideFault → Type 0) → (does : T → Effect Device) → (leaves : OutsideFault → Effect Device)
       → (old new : Pair F N S fars nears shelves) → Result T OutsideFault → Type 0
-  PairCall copies may_tell does leaves old new result = Call (honest_of new) (Arrives (both fars.ours nears.ours) (fars.alone && nears.alone)) copies may_tell does leaves (seen_of old) (seen_of new) result
+  PairCall copies may_report does leaves old new result = Call (honest_of new) (Arrives (both fars.ours nears.ours) (fars.alone && nears.alone)) copies may_report does leaves (seen_of old) (seen_of new) result
 
   -- a call of the book that was read
-  abbrev pub BookCall : (may_tell : OutsideFault → Type 0) → (does part : Pending → Effect Files) → (old new : Pair F N S fars nears shelves) → Result (Unit {0}) OutsideFault → Type 0
-  BookCall may_tell does part old new result =
-      Writes (honest_of new) (Arrives (both fars.ours nears.ours) (fars.alone && nears.alone)) may_tell (OfBook does (opened_of old)) (OfBook part (opened_of old)) (seen_of old) (seen_of new) result
+  abbrev pub BookCall : (may_report : OutsideFault → Type 0) → (does part : Pending → Effect Files) → (old new : Pair F N S fars nears shelves) → Result (Unit {0}) OutsideFault → Type 0
+  BookCall may_report does part old new result =
+      Writes (honest_of new) (Arrives (both fars.ours nears.ours) (fars.alone && nears.alone)) may_report (OfBook does (opened_of old)) (OfBook part (opened_of old)) (seen_of old) (seen_of new) result
 
   -- a call of a mailbox that changes it
   abbrev pub BoxChange : (does part : Effect Device) → (old new : Pair F N S fars nears shelves) → Result (Unit {0}) OutsideFault → Type 0
   BoxChange does part old new result = Changes {T = Unit {0}} (honest_of new) (Arrives (both fars.ours nears.ours) (fars.alone && nears.alone)) (λ _. does) part (seen_of old) (seen_of new) result
 
   -- a call of a mailbox that reports what is so
-  abbrev pub BoxRead : {T : Type 0} → (tells : T → Device → Type 0) → (old new : Pair F N S fars nears shelves) → Result T OutsideFault → Type 0
-  BoxRead tells old new result = Reads (honest_of new) (Arrives (both fars.ours nears.ours) (fars.alone && nears.alone)) tells (seen_of old) (seen_of new) result
+  abbrev pub BoxRead : {T : Type 0} → (states : T → Device → Type 0) → (old new : Pair F N S fars nears shelves) → Result T OutsideFault → Type 0
+  BoxRead states old new result = Reads (honest_of new) (Arrives (both fars.ours nears.ours) (fars.alone && nears.alone)) states (seen_of old) (seen_of new) result
 
   -- the same before the steps of a plan
-  abbrev pub BoxOpens : {T : Type 0} → (tells : T → Device → Type 0) → (old new : Pair F N S fars nears shelves) → Result T OutsideFault → Type 0
-  BoxOpens tells old new result = Opens (honest_of new) (Arrives (both fars.ours nears.ours) (fars.alone && nears.alone)) tells (seen_of old) (seen_of new) result
+  abbrev pub BoxOpens : {T : Type 0} → (states : T → Device → Type 0) → (old new : Pair F N S fars nears shelves) → Result T OutsideFault → Type 0
+  BoxOpens states old new result = Opens (honest_of new) (Arrives (both fars.ours nears.ours) (fars.alone && nears.alone)) states (seen_of old) (seen_of new) result
 
   -- ---- why a call reports a fault
 
@@ -89,7 +89,7 @@ module _ {F N S : Type 0} {fars : mailbox.Ghosts F} {nears : mailbox.Ghosts N} {
 
   -- a call of the mailbox of this side, which has this reason for its refusals and its own faults
   abbrev pub ByBox : Side → (because : BoxFault → Box → Type 0) → (old new : Pair F N S fars nears shelves) → OutsideFault → Type 0
-  ByBox side because old new fault = IsTold (box_honest side new) (Failed old (BoxCause side old new)) side because (box_of side new) fault
+  ByBox side because old new fault = IsReported (box_honest side new) (Failed old (BoxCause side old new)) side because (box_of side new) fault
 
   -- a mailbox cannot be opened, for this reason
   abbrev pub CannotOpen : Side → (old : Pair F N S fars nears shelves) → BoxFault → Box → Type 0

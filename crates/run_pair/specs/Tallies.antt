@@ -2,7 +2,7 @@
 use Rattle.std.specs.Prelude.{◌≡◌, ◌+◌, ℕ, Bool, true, false, List, [], ◌∷◌, Result, Ok, Err}
 use Rattle.outside.specs.declared.fault.OutsideFault.{OutsideFault}
 use Rattle.outside.specs.declared.fault.OutsideFault.TheVariants.{Stopped, Refused, Box, BadState, BadJournal, NoMemory}
-use Rattle.outside.specs.Calls.{Seen, stops_told}
+use Rattle.outside.specs.Calls.{Seen, stops_reported}
 use Rattle.mailcore.specs.declared.side.Side.{Side}
 use Rattle.outside.specs.Devices.{Device, Named}
 
@@ -10,18 +10,18 @@ use Rattle.outside.specs.Devices.{Device, Named}
 -- messages were named, the last first; and how the device was each time it was opened again, the last first
 pub record Counts : Type 0 where
   pub is_broken : Bool
-  pub told : List OutsideFault
+  pub reported : List OutsideFault
   pub copies : ℕ
   pub named : List Named
   pub reopened : List Device
 
 -- no call was made
 abbrev pub untouched : Counts
-untouched = record { is_broken = false; told = []; copies = 0; named = []; reopened = [] }
+untouched = record { is_broken = false; reported = []; copies = 0; named = []; reopened = [] }
 
 -- a call has reported this fault
 abbrev pub failed : OutsideFault → Counts → Counts
-failed fault c = record c { is_broken = true; told = fault ∷ c.told }
+failed fault c = record c { is_broken = true; reported = fault ∷ c.reported }
 
 -- the outside, with this device, is opened again
 abbrev pub counted_again : Device → Counts → Counts
@@ -65,15 +65,15 @@ pub record Tallied {T : Type 0} (ends : Result T OutsideFault → Counts → Cou
 -- how many of these faults are stops
 abbrev pub stops_in : List OutsideFault → ℕ
 stops_in [] = 0
-stops_in (fault ∷ faults) = stops_told fault + stops_in faults
+stops_in (fault ∷ faults) = stops_reported fault + stops_in faults
 
 -- an outside with this device
 abbrev pub seen_with : Device → Counts → Seen
 seen_with device counts = record {
   device = device;
   is_broken = counts.is_broken;
-  stops = stops_in counts.told;
-  told = counts.told;
+  stops = stops_in counts.reported;
+  reported = counts.reported;
   appends = counts.copies;
   reopened = counts.reopened;
 }

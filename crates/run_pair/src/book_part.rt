@@ -3,7 +3,7 @@
 ghost use Rattle.std.specs.Prelude.{◌≡◌, true, false, None, Some, OnOk, IfOk, IfErr};
 ghost use Rattle.std.specs.Option.{option_map};
 
-use crate::book_told::told_by;
+use crate::book_reported::reported_by;
 use book::book::Book;
 use book::lost_sides::LostSides;
 use book::shelf::Shelf;
@@ -57,12 +57,12 @@ impl<S: Shelf + Drop> BookPart<S> {
     /// Reads the shelf. `BadState` and `BadJournal`: its files hold no book, and this is the first line that shows it.
     pub fn open(&mut self) -> Result<(), OutsideFault>
         ensures book { OnOk result (IsBook (kept_of self.new)) }
-        ensures told { IfErr result FromShelf }
+        ensures reported { IfErr result FromShelf }
         ensures stops { Stops self.old self.new result }
         ensures part { Part (S.is_honest ≡ true) (λ _. ReadsFiles (kept_of self.new)) LeavesUnread (files_of self.old) (files_of self.new) result }
     {
         self.is_open = false;
-        told_by(self.book.enter())?;
+        reported_by(self.book.enter())?;
         self.is_open = true;
         Ok(())
     }
@@ -88,36 +88,36 @@ impl<S: Shelf + Drop> BookPart<S> {
     pub fn discard(&mut self) -> Result<(), OutsideFault>
         requires read { IsRead (kept_of self.old) }
         ensures kept { OnOk result (kept_of self.new ≡ turned (λ _. Missing) (kept_of self.old)) }
-        ensures told { IfErr result FromBook }
+        ensures reported { IfErr result FromBook }
         ensures stops { Stops self.old self.new result }
         ensures part { PartChanges (S.is_honest ≡ true) (λ _. OfKept (λ p. Turns p Missing) (kept_of self.old))
             (OfKept (λ p. TurnsHalf p Missing) (kept_of self.old)) (files_of self.old) (files_of self.new) result }
     {
-        told_by(self.book.discard())
+        reported_by(self.book.discard())
     }
 
     /// Takes a torn last line off the journal, if there is one.
     pub fn mend(&mut self) -> Result<(), OutsideFault>
         requires read { IsRead (kept_of self.old) }
         ensures kept { OnOk result (kept_of self.new ≡ turned mended (kept_of self.old)) }
-        ensures told { IfErr result FromBook }
+        ensures reported { IfErr result FromBook }
         ensures stops { Stops self.old self.new result }
         ensures part { PartChanges (S.is_honest ≡ true) (λ _. OfKept (λ p. Turns p (mended p)) (kept_of self.old))
             (OfKept (λ p. TurnsHalf p p) (kept_of self.old)) (files_of self.old) (files_of self.new) result }
     {
-        told_by(self.book.mend())
+        reported_by(self.book.mend())
     }
 
     /// Writes the whole plan of the next run, of which no step is logged.
     pub fn begin(&mut self, plan: Plan) -> Result<(), OutsideFault>
         requires takes { TakesPlan (kept_of self.old) plan }
         ensures kept { OnOk result (kept_of self.new ≡ turned (λ _. begun plan) (kept_of self.old)) }
-        ensures told { IfErr result FromBook }
+        ensures reported { IfErr result FromBook }
         ensures stops { Stops self.old self.new result }
         ensures part { PartChanges (S.is_honest ≡ true) (λ _. OfKept (λ _. Turns Missing (begun plan)) (kept_of self.old))
             (OfKept (λ _. TurnsHalf Missing Useless) (kept_of self.old)) (files_of self.old) (files_of self.new) result }
     {
-        told_by(self.book.begin(plan))
+        reported_by(self.book.begin(plan))
     }
 
     /// Logs the step of this number, counted from 1, as done. A new message has a copy, whose UID this is.
@@ -126,24 +126,24 @@ impl<S: Shelf + Drop> BookPart<S> {
     pub fn done(&mut self, step: usize, copy: Option<Uid>) -> Result<(), OutsideFault>
         requires takes { TakesLog (kept_of self.old) step (as_done copy) }
         ensures kept { OnOk result (kept_of self.new ≡ turned (λ p. logged_more p (as_done copy)) (kept_of self.old)) }
-        ensures told { IfErr result (FromLog (kept_of self.old) (as_done copy)) }
+        ensures reported { IfErr result (FromLog (kept_of self.old) (as_done copy)) }
         ensures stops { Stops self.old self.new result }
         ensures part { PartChanges (S.is_honest ≡ true) (λ _. OfKept (λ p. Turns p (logged_more p (as_done copy))) (kept_of self.old))
             (OfKept (λ p. TurnsHalf p (torn p)) (kept_of self.old)) (files_of self.old) (files_of self.new) result }
     {
-        told_by(self.book.done(step, copy))
+        reported_by(self.book.done(step, copy))
     }
 
     /// Logs the step of this number, counted from 1, as void.
     pub fn void(&mut self, step: usize) -> Result<(), OutsideFault>
         requires takes { TakesLog (kept_of self.old) step Void }
         ensures kept { OnOk result (kept_of self.new ≡ turned (λ p. logged_more p Void) (kept_of self.old)) }
-        ensures told { IfErr result FromBook }
+        ensures reported { IfErr result FromBook }
         ensures stops { Stops self.old self.new result }
         ensures part { PartChanges (S.is_honest ≡ true) (λ _. OfKept (λ p. Turns p (logged_more p Void)) (kept_of self.old))
             (OfKept (λ p. TurnsHalf p (torn p)) (kept_of self.old)) (files_of self.old) (files_of self.new) result }
     {
-        told_by(self.book.void(step))
+        reported_by(self.book.void(step))
     }
 
     /// Puts the state that the finished plan makes in place of the old one, and then removes the journal.
@@ -151,12 +151,12 @@ impl<S: Shelf + Drop> BookPart<S> {
         requires takes { TakesCommit (kept_of self.old) }
         ensures kept { OnOk result (AreCommitted (kept_of self.old) (kept_of self.new)) }
         ensures held { OnOk result (S.is_honest ≡ true → IsHeld (kept_of self.new) (files_of self.new)) }
-        ensures told { IfErr result FromBook }
+        ensures reported { IfErr result FromBook }
         ensures stops { Stops self.old self.new result }
         ensures part { PartChanges (S.is_honest ≡ true) (λ _. OfKept CommitsTo (kept_of self.old)) (OfKept CommitsHalf (kept_of self.old))
             (files_of self.old) (files_of self.new) result }
     {
-        told_by(self.book.commit())
+        reported_by(self.book.commit())
     }
 
     /// Puts the state that is left of the pending plan, where these entries lose a side, in place of the old one, and then removes the journal.
@@ -165,12 +165,12 @@ impl<S: Shelf + Drop> BookPart<S> {
         requires rising { AreRising lost.now }
         ensures kept { OnOk result (AreGivenUp lost.now (kept_of self.old) (kept_of self.new)) }
         ensures held { OnOk result (S.is_honest ≡ true → IsHeld (kept_of self.new) (files_of self.new)) }
-        ensures told { IfErr result FromBook }
+        ensures reported { IfErr result FromBook }
         ensures stops { Stops self.old self.new result }
         ensures part { PartChanges (S.is_honest ≡ true) (λ _. OfKept (GivesUpTo lost.now) (kept_of self.old)) (OfKept (GivesUpHalf lost.now) (kept_of self.old))
             (files_of self.old) (files_of self.new) result }
     {
-        told_by(self.book.give_up(lost))
+        reported_by(self.book.give_up(lost))
     }
 
     /// Closes the book, if one is open, and opens the shelf again.

@@ -9,11 +9,11 @@ ghost use Rattle.mailbox.specs.Operations.{NoRoom};
 ghost use Rattle.outside.specs.Arrivals.{Arrives};
 ghost use Rattle.outside.specs.Devices.{Device};
 ghost use Rattle.run_pair.specs.Copies.{carries, with_two};
-ghost use Rattle.run_pair.specs.Faults.{IsTold};
+ghost use Rattle.run_pair.specs.Faults.{IsReported};
 ghost use Rattle.run_pair.specs.Parts.{IsLess};
 ghost use Rattle.rules.specs.Copies.{line_end};
 
-use crate::tally::told;
+use crate::tally::reported;
 use mailbox::mailbox::Mailbox;
 use mailcore::content::fit;
 use mailcore::copy_pieces::{CopyHead, CopyPieces};
@@ -49,9 +49,9 @@ pub(crate) fn copy<A: Mailbox, B: Mailbox>(
     ensures from_whole { OnOk result ((A.seen from.new).is_broken ≡ false) }
     ensures to_whole { OnOk result ((B.seen to.new).is_broken ≡ false) }
     ensures why { IfErr result (λ fault.
-        IsTold (A.honest from.new) (HasCause (A.ended from.old from.new) (A.seen from.old) (A.seen from.new))
+        IsReported (A.honest from.new) (HasCause (A.ended from.old from.new) (A.seen from.old) (A.seen from.new))
         (source direction) Never (A.seen from.new).stored fault
-        ⊎ IsTold (B.honest to.new) (HasCause (B.ended to.old to.new) (B.seen to.old) (B.seen to.new))
+        ⊎ IsReported (B.honest to.new) (HasCause (B.ended to.old to.new) (B.seen to.old) (B.seen to.new))
         (target direction) (NoRoom (target direction) (λ _. 1)) (B.seen to.new).stored fault) }
     ensures effect { A.honest from.new → B.honest to.new → (ours : List ℕ → Bool) (alone : Bool) (d : Device)
         → IsLess A.ours ours → IsLess B.ours ours → (alone ≡ true → A.alone ≡ true) → (alone ≡ true → B.alone ≡ true)
@@ -62,7 +62,7 @@ pub(crate) fn copy<A: Mailbox, B: Mailbox>(
     match from.load(uid) {
         Ok(true) => {}
         Ok(false) => return Ok(Carried::Absent),
-        Err(fault) => return Err(told(direction.source(), fault)),
+        Err(fault) => return Err(reported(direction.source(), fault)),
     }
     let message = from.body();
     if !fit(direction.source(), message) {
@@ -71,7 +71,7 @@ pub(crate) fn copy<A: Mailbox, B: Mailbox>(
     let head = CopyHead::new(mark, line_end(direction.target()));
     match to.append_copy(CopyPieces::new(&head, message), flags) {
         Ok(copy) => Ok(Carried::Made(copy)),
-        Err(fault) => Err(told(direction.target(), fault)),
+        Err(fault) => Err(reported(direction.target(), fault)),
     }
 }
 

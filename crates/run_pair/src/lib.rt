@@ -5,7 +5,7 @@
 
 mod apart;
 pub mod book_part;
-mod book_told;
+mod book_reported;
 mod copying;
 pub mod device_history;
 mod listings;

@@ -13,7 +13,7 @@ ghost use Rattle.run_pair.specs.BookParts.{files_of, kept_of, standing_of};
 ghost use Rattle.run_pair.specs.Kept.{OfKept, TakesPlan, turned};
 
 use crate::book_part::BookPart;
-use crate::tally::told;
+use crate::tally::reported;
 use book::shelf::Shelf;
 use mailbox::mailbox::Mailbox;
 use mailcore::side::Side;
@@ -37,7 +37,7 @@ pub(crate) fn begin_synced<N: Mailbox, S: Shelf + Drop>(
     ensures whole { OnOk result ((N.seen near.new).is_broken ≡ false) }
     ensures ready { OnOk result ((standing_of book.new).is_ready ≡ true) }
     ensures kept { OnOk result (kept_of book.new ≡ turned (λ _. begun plan) (kept_of book.old)) }
-    ensures told { IfErr result FromBook }
+    ensures reported { IfErr result FromBook }
     ensures arrives { N.honest near.new → Arrives sides.Near N.ours N.alone (N.seen near.old).stored (N.seen near.new).stored }
     ensures cause { IsErrOf result OutsideFault.Stopped → HasCause (N.ended near.old near.new) (N.seen near.old) (N.seen near.new)
         ⊎ ((standing_of book.old).stops < (standing_of book.new).stops) }
@@ -46,6 +46,6 @@ pub(crate) fn begin_synced<N: Mailbox, S: Shelf + Drop>(
 {
     match near.sync() {
         Ok(()) => book.begin(plan),
-        Err(fault) => Err(told(Side::Near, fault)),
+        Err(fault) => Err(reported(Side::Near, fault)),
     }
 }

@@ -12,7 +12,7 @@ ghost use Rattle.run_pair.specs.BookParts.{files_of, kept_of, standing_of};
 ghost use Rattle.run_pair.specs.Kept.{AreGivenUp, IsHeld, OfKept, TakesGivingUp};
 
 use crate::book_part::BookPart;
-use crate::tally::told;
+use crate::tally::reported;
 use book::lost_sides::LostSides;
 use book::shelf::Shelf;
 use mailbox::mailbox::Mailbox;
@@ -38,7 +38,7 @@ pub(crate) fn give_up_synced<N: Mailbox, S: Shelf + Drop>(
     ensures ready { OnOk result ((standing_of book.new).is_ready ≡ true) }
     ensures kept { OnOk result (AreGivenUp lost.now (kept_of book.old) (kept_of book.new)) }
     ensures held { OnOk result (S.is_honest ≡ true → IsHeld (kept_of book.new) (files_of book.new)) }
-    ensures told { IfErr result FromBook }
+    ensures reported { IfErr result FromBook }
     ensures arrives { N.honest near.new → Arrives sides.Near N.ours N.alone (N.seen near.old).stored (N.seen near.new).stored }
     ensures cause { IsErrOf result OutsideFault.Stopped → HasCause (N.ended near.old near.new) (N.seen near.old) (N.seen near.new)
         ⊎ ((standing_of book.old).stops < (standing_of book.new).stops) }
@@ -47,6 +47,6 @@ pub(crate) fn give_up_synced<N: Mailbox, S: Shelf + Drop>(
 {
     match near.sync() {
         Ok(()) => book.give_up(lost),
-        Err(fault) => Err(told(Side::Near, fault)),
+        Err(fault) => Err(reported(Side::Near, fault)),
     }
 }

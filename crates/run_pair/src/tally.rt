@@ -3,7 +3,7 @@
 ghost use Rattle.std.specs.Prelude.{◌≡◌, false};
 ghost use Rattle.outside.specs.BoxCalls.{copies_made};
 ghost use Rattle.outside.specs.Devices.{Device};
-ghost use Rattle.run_pair.specs.Faults.{told, told_by, unstepped};
+ghost use Rattle.run_pair.specs.Faults.{reported, reported_by, unstepped};
 ghost use Rattle.run_pair.specs.Tallies.{counted_again, ended, ended_naming, failed, no_copies, untouched};
 
 use crate::book_part::BookPart;
@@ -24,7 +24,7 @@ use std::marker::Model;
 #[derive(Drop)]
 pub struct Tally {
     is_broken: bool,
-    told: History<OutsideFault>,
+    reported: History<OutsideFault>,
     copies: History<Carried>,
     named: History<(Side, Uid)>,
     reopened: DeviceHistory,
@@ -38,7 +38,7 @@ impl Model for Tally {
 
     ghost view = { λ t. record {
       is_broken = t.is_broken;
-      told = t.told.items;
+      reported = t.reported.items;
       copies = length t.copies.items;
       named = map (λ message. record { side = message.0; uid = message.1 }) t.named.items;
       reopened = t.reopened.devices;
@@ -52,7 +52,7 @@ impl Tally {
     {
         Tally {
             is_broken: false,
-            told: History::new(),
+            reported: History::new(),
             copies: History::new(),
             named: History::new(),
             reopened: DeviceHistory::new(),
@@ -79,13 +79,13 @@ impl Tally {
 
     /// The same of a call of the mailbox of this side.
     pub fn end_at<T>(&mut self, side: Side, answer: Result<T, BoxFault>) -> Result<T, OutsideFault>
-        ensures same { result ≡ told_by side answer }
-        ensures now { self.new ≡ ended no_copies (told_by side answer) self.old }
+        ensures same { result ≡ reported_by side answer }
+        ensures now { self.new ≡ ended no_copies (reported_by side answer) self.old }
     {
         match answer {
             Ok(answer) => Ok(answer),
             Err(fault) => {
-                let fault = told(side, fault);
+                let fault = reported(side, fault);
                 self.fail(fault);
                 Err(fault)
             }
@@ -98,8 +98,8 @@ impl Tally {
         side: Side,
         answer: Result<T, BoxFault>,
     ) -> Result<T, OutsideFault>
-        ensures same { result ≡ told_by side (unstepped answer) }
-        ensures now { self.new ≡ ended no_copies (told_by side (unstepped answer)) self.old }
+        ensures same { result ≡ reported_by side (unstepped answer) }
+        ensures now { self.new ≡ ended no_copies (reported_by side (unstepped answer)) self.old }
     {
         match answer {
             Err(BoxFault::Refused) => self.end_at(side, Err(BoxFault::Own(FAR_REFUSED))),
@@ -115,8 +115,8 @@ impl Tally {
         uid: Uid,
         answer: Result<T, BoxFault>,
     ) -> Result<T, OutsideFault>
-        ensures same { result ≡ told_by side answer }
-        ensures now { self.new ≡ ended_naming side uid (told_by side answer) self.old }
+        ensures same { result ≡ reported_by side answer }
+        ensures now { self.new ≡ ended_naming side uid (reported_by side answer) self.old }
     {
         match &answer {
             Err(BoxFault::Refused | BoxFault::Own(_)) => {}
@@ -171,13 +171,13 @@ impl Tally {
         ensures { self.new ≡ failed fault self.old }
     {
         self.is_broken = true;
-        self.told = self.told.and(&fault);
+        self.reported = self.reported.and(&fault);
     }
 }
 
 /// How a fault of the mailbox of a side is reported.
-pub(crate) fn told(side: Side, fault: BoxFault) -> OutsideFault
-    ensures { result ≡ told side fault }
+pub(crate) fn reported(side: Side, fault: BoxFault) -> OutsideFault
+    ensures { result ≡ reported side fault }
 {
     match fault {
         BoxFault::Stopped => OutsideFault::Stopped,

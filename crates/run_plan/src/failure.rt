@@ -13,7 +13,7 @@ use worlds::fault::WorldFault;
 
 /// Why there is no plan, as the program reports it.
 #[derive(Clone, Copy, Debug, PartialEq, Eq, Error)]
-pub(crate) enum Failure {
+pub(crate) enum PlanFailure {
     #[error("usage")]
     Usage,
     #[error("cannot read")]
@@ -28,7 +28,7 @@ pub(crate) enum Failure {
     NoMemory,
 }
 
-impl Failure {
+impl PlanFailure {
     ghost use Rattle.run_plan.specs.Failures.{status_of};
 
     /// The program's exit status.
@@ -36,70 +36,70 @@ impl Failure {
         ensures { result ≡ status_of self }
     {
         match self {
-            Failure::Usage | Failure::World(_) => 2,
+            PlanFailure::Usage | PlanFailure::World(_) => 2,
             _ => 1,
         }
     }
 }
 
-impl From<AllocError> for Failure {
-    ghost use Rattle.run_plan.specs.declared.failure.Failure.TheVariants.{NoMemory};
+impl From<AllocError> for PlanFailure {
+    ghost use Rattle.run_plan.specs.declared.failure.PlanFailure.TheVariants.{NoMemory};
 
     ghost from_gives = { λ _ e. e ≡ NoMemory };
 
-    fn from(_fault: AllocError) -> Failure {
-        Failure::NoMemory
+    fn from(_fault: AllocError) -> PlanFailure {
+        PlanFailure::NoMemory
     }
 }
 
-impl From<WorldFault> for Failure {
+impl From<WorldFault> for PlanFailure {
     ghost use Rattle.run_plan.specs.Failures.{of_world};
 
     ghost from_gives = { λ fault e. e ≡ of_world fault };
 
-    fn from(fault: WorldFault) -> Failure {
+    fn from(fault: WorldFault) -> PlanFailure {
         match fault {
-            WorldFault::Line(line) => Failure::World(line),
-            WorldFault::NoMemory => Failure::NoMemory,
+            WorldFault::Line(line) => PlanFailure::World(line),
+            WorldFault::NoMemory => PlanFailure::NoMemory,
         }
     }
 }
 
-impl From<PlanFault> for Failure {
+impl From<PlanFault> for PlanFailure {
     ghost use Rattle.run_plan.specs.Failures.{of_plan};
 
     ghost from_gives = { λ fault e. e ≡ of_plan fault };
 
-    fn from(fault: PlanFault) -> Failure {
+    fn from(fault: PlanFault) -> PlanFailure {
         match fault {
-            PlanFault::ValidityChanged(side) => Failure::ValidityChanged(side),
-            PlanFault::NoMemory => Failure::NoMemory,
+            PlanFault::ValidityChanged(side) => PlanFailure::ValidityChanged(side),
+            PlanFault::NoMemory => PlanFailure::NoMemory,
         }
     }
 }
 
-impl From<CoreFault> for Failure {
+impl From<CoreFault> for PlanFailure {
     ghost use Rattle.run_plan.specs.Failures.{of_marks};
 
     ghost from_gives = { λ fault e. e ≡ of_marks fault };
 
-    fn from(fault: CoreFault) -> Failure {
+    fn from(fault: CoreFault) -> PlanFailure {
         match fault {
-            CoreFault::MarksRepeat => Failure::MarksRepeat,
-            CoreFault::NoMemory => Failure::NoMemory,
+            CoreFault::MarksRepeat => PlanFailure::MarksRepeat,
+            CoreFault::NoMemory => PlanFailure::NoMemory,
         }
     }
 }
 
-impl From<io::Error> for Failure {
+impl From<io::Error> for PlanFailure {
     ghost use Rattle.run_plan.specs.Failures.{OfInput};
 
     ghost from_gives = { λ _ e. OfInput e };
 
-    fn from(fault: io::Error) -> Failure {
+    fn from(fault: io::Error) -> PlanFailure {
         match fault.kind() {
-            ErrorKind::OutOfMemory => Failure::NoMemory,
-            _ => Failure::Input,
+            ErrorKind::OutOfMemory => PlanFailure::NoMemory,
+            _ => PlanFailure::Input,
         }
     }
 }

@@ -3,7 +3,7 @@
 ghost use Rattle.std.specs.Prelude.{◌≡◌, ◌≤◌, ◌<◌, IsErr};
 ghost use Rattle.std.specs.Io.KnownBytes.{Keeps};
 
-use crate::failure::Failure;
+use crate::failure::PlanFailure;
 use mailcore::marks::draw_marks;
 use mailcore::side::Side;
 use mailcore::uid::Uid;
@@ -20,7 +20,7 @@ use worlds::trial_generator::TrialGenerator;
 
 /// Whether a program is given arguments.
 #[derive(Clone, Copy, PartialEq, Eq)]
-pub enum Arguments {
+pub enum PlanArguments {
     /// None.
     Absent,
     /// One or more.
@@ -35,14 +35,14 @@ pub enum Arguments {
 /// that has changed, where memory ran out, and where reading or writing failed.
 pub fn run_plan<I: Read, O: Write, E: Write>(
     alloc: Global,
-    arguments: Arguments,
+    arguments: PlanArguments,
     input: &mut I,
     out: &mut O,
     err: &mut E,
 ) -> u8
     ensures status { result ≤ 2 }
-    ensures none_taken { arguments ≡ Arguments.Given → 0 < result }
-    ensures nothing_told { result ≡ 0 → Keeps (E.contents err.old) (E.contents err.new) }
+    ensures none_taken { arguments ≡ PlanArguments.Given → 0 < result }
+    ensures nothing_reported { result ≡ 0 → Keeps (E.contents err.old) (E.contents err.new) }
     ensures nothing_printed { result ≡ 2 → Keeps (O.contents out.old) (O.contents out.new) }
 {
     match plan_text(alloc, arguments, input) {
@@ -63,32 +63,36 @@ fn print<O: Write>(out: &mut O, text: &[u8]) -> io::Result<()> {
 }
 
 /// The lines of the plan of the world that is read.
-fn plan_text<I: Read>(alloc: Global, arguments: Arguments, input: &mut I) -> Result<String, Failure>
-    ensures { arguments ≡ Arguments.Given → IsErr result }
+fn plan_text<I: Read>(
+    alloc: Global,
+    arguments: PlanArguments,
+    input: &mut I,
+) -> Result<String, PlanFailure>
+    ensures { arguments ≡ PlanArguments.Given → IsErr result }
 {
-    if arguments == Arguments::Given {
-        return Err(Failure::Usage);
+    if arguments == PlanArguments::Given {
+        return Err(PlanFailure::Usage);
     }
     let world = input_world(alloc, input)?;
     plan_lines(alloc, &world)
 }
 
 /// The world whose text is read. The text is let go before there is a plan.
-fn input_world<I: Read>(alloc: Global, input: &mut I) -> Result<ListedWorld, Failure> {
+fn input_world<I: Read>(alloc: Global, input: &mut I) -> Result<ListedWorld, PlanFailure> {
     let mut text = Vec::new(alloc);
     input.read_to_end(&mut text)?;
     Ok(read_listed_world(alloc, &text)?)
 }
 
 /// The lines of the plan of a world.
-fn plan_lines(alloc: Global, world: &ListedWorld) -> Result<String, Failure> {
+fn plan_lines(alloc: Global, world: &ListedWorld) -> Result<String, PlanFailure> {
     let plan = trial_plan(alloc, world)?;
     let unfit = unfit(alloc, &world.far, &world.near, &world.state, &world.options)?;
     Ok(lines_of(alloc, &plan, &unfit)?)
 }
 
 /// The plan of a world, with marks of the trial generator.
-fn trial_plan(alloc: Global, world: &ListedWorld) -> Result<Plan, Failure> {
+fn trial_plan(alloc: Global, world: &ListedWorld) -> Result<Plan, PlanFailure> {
     let ListedWorld {
         options,
         far,

@@ -16,7 +16,7 @@ use Rattle.rules.specs.Called.{before, after}
 use Rattle.rules.specs.Outcome.{news}
 use Rattle.rules.proofs.Walks.{All-filter_map}
 use Rattle.planner.specs.Written.{all_steps, gone_step, gone_steps, flags_step, flags_steps, expunge_step, expunge_steps}
-use Rattle.planner.proofs.Behind.{new_steps_all, gone_given, flags_given, expunge_given}
+use Rattle.planner.proofs.Following.{new_steps_all, gone_given, flags_given, expunge_given}
 use Rattle.run_states.proofs.FlagFacts.{AreApart}
 
 abbrev IsApart : Step → Type 0

@@ -31,7 +31,7 @@ use Rattle.law_steps.proofs.Copying.{uid_given-new}
 use Rattle.law_steps.proofs.Fold.{fit-more, given-more, rises-more}
 use Rattle.law_steps.proofs.OwnPlan.{plan_step_own, not_found, found_after}
 use Rattle.law_outcome.specs.CommitLaws.{results_of}
-use Rattle.mailbox.specs.Operations.{Tells}
+use Rattle.mailbox.specs.Operations.{Reports}
 use Rattle.outside.specs.BoxCalls.{Carries, IsUnfit, with_copy}
 use Rattle.outside.specs.Devices.{Device, Named, box, on_box}
 use Rattle.run_states.specs.Plans.{IsPlanned, begun, first_uid, next_of}
@@ -157,13 +157,13 @@ module _ (ours : List ℕ → Bool) (alone : Bool) (earlier : List Named) (w : W
   }
 
   by_logged : (r : Logged) (d : Device) (found : Option ℕ) → found ≡ marked_from mark (first_uid plan (target dir)) (box d (target dir)) → Midway ours alone earlier w options version plan log false (log ++ r ∷ []) false d → IsSought ours alone earlier w options version plan log found d
-  by_logged (Copied copy) d found told at = subst (λ (o : Option ℕ). IsSought ours alone earlier w options version plan log o d) (sym (told ∙ copy_found false copy d at)) at
-  by_logged Done d found told at = absurd (both_ways false refl (fit_last plan.steps log s Done at.fit is))
-  by_logged Void d found told at = absurd (both_ways false refl (fit_last plan.steps log s Void at.fit is))
+  by_logged (Copied copy) d found reported at = subst (λ (o : Option ℕ). IsSought ours alone earlier w options version plan log o d) (sym (reported ∙ copy_found false copy d at)) at
+  by_logged Done d found reported at = absurd (both_ways false refl (fit_last plan.steps log s Done at.fit is))
+  by_logged Void d found reported at = absurd (both_ways false refl (fit_last plan.steps log s Void at.fit is))
 
   pub sought : (d : Device) → Stands ours alone earlier w options version plan log false d → (found : Option ℕ) → found ≡ marked_from mark (first_uid plan (target dir)) (box d (target dir)) → IsSought ours alone earlier w options version plan log found d
-  sought d (inl k) found told = let at = not_half false k.0 d k.1 in subst (λ (o : Option ℕ). IsSought ours alone earlier w options version plan log o d) (sym (told ∙ none_found false d at)) at
-  sought d (inr k) found told = by_logged k.0 d found told k.1
+  sought d (inl k) found reported = let at = not_half false k.0 d k.1 in subst (λ (o : Option ℕ). IsSought ours alone earlier w options version plan log o d) (sym (reported ∙ none_found false d at)) at
+  sought d (inr k) found reported = by_logged k.0 d found reported k.1
 
   -- ---- its source
 
@@ -230,7 +230,7 @@ module _ (ours : List ℕ → Bool) (alone : Bool) (earlier : List Named) (w : W
           nobody = λ a. (ap (λ (x : Boxes). own test x) is_step ∙ among test (boxes_at d) s (Some copy) own_step ∙ ap (λ (x : Boxes). step_after x s (Some copy)) (at.nobody a).0 ∙ sym is_step, copied_waiting dir message next d ∙ (at.nobody a).1);
         }
 
-  pub brought : (torn : Bool) (told : Option ℕ) (d d' : Device) → Midway ours alone earlier w options version plan log torn log false d → Carries dir uid flags mark told d d' → (copy : ℕ) × Midway ours alone earlier w options version plan log torn (log ++ Copied copy ∷ []) false d' × Tells told copy
-  brought torn told d d' at c =
+  pub brought : (torn : Bool) (reported : Option ℕ) (d d' : Device) → Midway ours alone earlier w options version plan log torn log false d → Carries dir uid flags mark reported d d' → (copy : ℕ) × Midway ours alone earlier w options version plan log torn (log ++ Copied copy ∷ []) false d' × Reports reported copy
+  brought torn reported d d' at c =
       let m = c.makes in
-      (m.copy, subst (λ (x : Device). Midway ours alone earlier w options version plan log torn (log ++ Copied m.copy ∷ []) false x) (sym m.now) (copied_now torn d m.copy m.next m.bytes at m.is_there m.least m.below), c.tells)
+      (m.copy, subst (λ (x : Device). Midway ours alone earlier w options version plan log torn (log ++ Copied m.copy ∷ []) false x) (sym m.now) (copied_now torn d m.copy m.next m.bytes at m.is_there m.least m.below), c.states)

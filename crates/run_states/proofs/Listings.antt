@@ -22,8 +22,8 @@ use Rattle.law_steps.specs.Steps.{Boxes, Fit, boxes_of, own}
 use Rattle.law_steps.specs.OwnLaws.{is_own}
 use Rattle.law_steps.proofs.Fold.{after-none, given-none}
 use Rattle.law_steps.proofs.OwnPlan.{opening_own}
-use Rattle.mailbox.specs.Operations.{TellsNext}
-use Rattle.mailbox.proofs.Listed.{told_alone, told_least, told_store}
+use Rattle.mailbox.specs.Operations.{ReportsNext}
+use Rattle.mailbox.proofs.Listed.{reported_alone, reported_least, reported_store}
 use Rattle.outside.specs.Arrivals.{Arrives}
 use Rattle.outside.specs.Devices.{Device, Named, box}
 use Rattle.run_states.specs.Openings.{Grows, listed_world, world_at}
@@ -34,16 +34,16 @@ use Rattle.run_states.proofs.Moves.{same_boxes}
 use Rattle.run_states.proofs.Naming.{named_none}
 
 -- it has grown, and the files that have their UIDs in it are those of the near listing
-pub listed_with : (P : List Waiting → Type 0) (alone : Bool) (w : World) (s : SyncState) (far : Listing) (d m : Device) → Grows alone w (world_at d s) → (h : Grows alone w (world_at m s)) → P h.named → TellsNext alone w.far.next far d.far
+pub listed_with : (P : List Waiting → Type 0) (alone : Bool) (w : World) (s : SyncState) (far : Listing) (d m : Device) → Grows alone w (world_at d s) → (h : Grows alone w (world_at m s)) → P h.named → ReportsNext alone w.far.next far d.far
     → (g : Grows alone w (listed_world s far.next d m)) × P g.named
-listed_with P alone w s far d m g h p told =
+listed_with P alone w s far d m g h p reported =
     let v = g.validity in
     let n = h.validity in
     let grown : Grows alone w (listed_world s far.next d m) = record {
-      in_order = record { far = told_store alone w.far.next far d.far told g.in_order.far; near = h.in_order.near; pairs = h.in_order.pairs };
+      in_order = record { far = reported_store alone w.far.next far d.far reported g.in_order.far; near = h.in_order.near; pairs = h.in_order.pairs };
       state = h.state;
       validity = two (λ side. (store (listed_world s far.next d m) side).validity ≡ (store w side).validity) (v Far) (n Near);
-      far_next = told_least alone w.far.next far d.far g.far_next told;
+      far_next = reported_least alone w.far.next far d.far g.far_next reported;
       far_added = g.far_added;
       far = g.far;
       uids = h.uids;
@@ -53,7 +53,7 @@ listed_with P alone w s far d m g h p told =
       gathered = h.gathered;
       each = h.each;
       near = h.near;
-      nobody = λ e. (ap (λ (n : ℕ). record d.far { next = n }) (told_alone alone w.far.next far d.far told e) ∙ (g.nobody e).0, (h.nobody e).1);
+      nobody = λ e. (ap (λ (n : ℕ). record d.far { next = n }) (reported_alone alone w.far.next far d.far reported e) ∙ (g.nobody e).0, (h.nobody e).1);
     } in
     (grown, p)
 

@@ -23,7 +23,7 @@ use Rattle.rules.proofs.LookUps.{full_found}
 use Rattle.rules.proofs.Walks.{All-filter_map, All-from_contains, Contains-cases, Contains-none}
 use Rattle.rules.proofs.WorldLemmas.{store_is}
 use Rattle.planner.specs.Written.{all_steps, expunge_step, expunge_steps, flags_step, flags_steps, gone_step, gone_steps}
-use Rattle.planner.proofs.Behind.{expunge_given, flags_given, flags_step_of, gone_given, new_steps_all, pair_far, pair_near}
+use Rattle.planner.proofs.Following.{expunge_given, flags_given, flags_step_of, gone_given, new_steps_all, pair_far, pair_near}
 use Rattle.sync_state.specs.declared.journal.Logged.{Logged}
 use Rattle.outside.specs.Devices.{Named}
 use Rattle.run_states.specs.Plans.{NamedBy, names_of, next_of}

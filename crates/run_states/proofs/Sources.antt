@@ -26,7 +26,7 @@ use Rattle.rules.proofs.Walks.{Contains-map, list_any_some, map_contains}
 use Rattle.rules.proofs.WorldLemmas.{store_is}
 use Rattle.planner.specs.Listed.{of_step, of_note}
 use Rattle.planner.specs.Written.{all_steps, all_notes, all_new}
-use Rattle.planner.proofs.Behind.{new_steps_all}
+use Rattle.planner.proofs.Following.{new_steps_all}
 use Rattle.planner.proofs.Sound.{sound}
 use Rattle.law_steps.specs.Steps.{Boxes, box, boxes_of, bytes_at, step_after, after, makes_copy, Test, own_in}
 use Rattle.law_steps.proofs.Fold.{after-none, after-split}

@@ -12,7 +12,7 @@ use Rattle.book.specs.Shelves.{Files}
 use Rattle.mem_link.specs.declared.arrivals.Arrival.{Arrival}
 use Rattle.mem_link.specs.Others.{BearAsSaid}
 use Rattle.run_trial.specs.declared.arrival.FarArrival.{FarArrival}
-use Rattle.run_trial.specs.declared.setting.Setting.{Setting}
+use Rattle.run_trial.specs.declared.setting.TrialSetting.{TrialSetting}
 use Rattle.run_trial.specs.Settings.{device_at, device_in}
 use Rattle.rules.specs.declared.options.Options.{Options}
 use Rattle.rules.specs.World.{World}
@@ -24,7 +24,7 @@ use Rattle.run_states.specs.Conditions.{IsOver, Underway}
 use Rattle.law_alike.specs.Beginnings.{HoldsWorld, opening_of}
 use Rattle.law_alike.specs.Others.{OthersLeft}
 use Rattle.runner.specs.declared.fault.RunFault.{RunFault}
-use Rattle.runner.specs.Attempts.{HasNoNext, TellsNoNext}
+use Rattle.runner.specs.Attempts.{HasNoNext, ReportsNoNext}
 use Rattle.runner.specs.Faults.{LeavesRun}
 use Rattle.runner.specs.Validities.{IsKept}
 use Rattle.run_trial.specs.Openings.{AreOurs}
@@ -52,13 +52,13 @@ module _ (marks : ℕ) (none : marks ≡ 0) where
 -- after the greatest number
 module _ {A T E : Type 0} (device : A → Device) (w : World) (d : Device) where
   pub greatest_among : (r : Result (A × Result T RunFault) E) → IfOk r (λ run. HasNoNext (Unit {0}) false d (device run.0) run.1) → HoldsWorld w d → w.state.run + 1 ≡ 2 ^ 64
-      → d ≡ device_of w → IfOk r (λ run. IsErrAnd run.1 TellsNoNext × IsKept false (device_of w) (device run.0))
+      → d ≡ device_of w → IfOk r (λ run. IsErrAnd run.1 ReportsNoNext × IsKept false (device_of w) (device run.0))
   greatest_among (Ok run) none held last same = let parts = none tt w.state Missing held.files last in (parts.0, subst (λ (x : Device). IsKept false x (device run.0)) same parts.1)
   greatest_among (Err failure) none held last same = tt
 
 -- ---- what is taken over of a setting
 
-pub device_kept : (s : Setting) (options : Options) (server : Server) (folder : Stored) (shelf : Files) → options ≡ s.options → server ≡ s.far.server.server → folder ≡ stored_in s.folder → shelf ≡ files_of s.shelf → device_at options.keywords server folder shelf ≡ device_in s
+pub device_kept : (s : TrialSetting) (options : Options) (server : Server) (folder : Stored) (shelf : Files) → options ≡ s.options → server ≡ s.far.server.server → folder ≡ stored_in s.folder → shelf ≡ files_of s.shelf → device_at options.keywords server folder shelf ≡ device_in s
 device_kept s options server folder shelf asked there files kept =
     ap (λ (x : Options). device_at x.keywords server folder shelf) asked ∙ ap (λ (x : Server). device_at s.options.keywords x folder shelf) there
     ∙ ap (λ (x : Stored). device_at s.options.keywords s.far.server.server x shelf) files ∙ ap (λ (x : Files). device_at s.options.keywords s.far.server.server (stored_in s.folder) x) kept

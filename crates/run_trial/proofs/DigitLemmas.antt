@@ -29,8 +29,8 @@ same_prefix (x ∷ front) a b =
 less_first : (x y : ℕ) (a b : List ℕ) → x < y → slice_cmp nat_cmp (x ∷ a) (y ∷ b) ≡ Less
 less_first x y a b less = ap (λ (t : Bool). ordering_then (cond t Less (cond (eqb x y) Equal Greater)) (slice_cmp nat_cmp a b)) (lt-ltb x y less)
 
-behind_same : (front front' a b : List ℕ) → front ≡ front' → slice_cmp nat_cmp a b ≡ Less → slice_cmp nat_cmp (front ++ a) (front' ++ b) ≡ Less
-behind_same front front' a b same less = ap (λ (l : List ℕ). slice_cmp nat_cmp (front ++ a) (l ++ b)) (sym same) ∙ same_prefix front a b ∙ less
+after_same : (front front' a b : List ℕ) → front ≡ front' → slice_cmp nat_cmp a b ≡ Less → slice_cmp nat_cmp (front ++ a) (front' ++ b) ≡ Less
+after_same front front' a b same less = ap (λ (l : List ℕ). slice_cmp nat_cmp (front ++ a) (l ++ b)) (sym same) ∙ same_prefix front a b ∙ less
 
 pub both_moved : (a a' b b' : List ℕ) → a ≡ a' → b ≡ b' → slice_cmp nat_cmp a' b' ≡ Less → slice_cmp nat_cmp a b ≡ Less
 both_moved a a' b b' same same' less = ap (λ (l : List ℕ). slice_cmp nat_cmp l b) same ∙ ap (λ (l : List ℕ). slice_cmp nat_cmp a' l) same' ∙ less
@@ -58,7 +58,7 @@ digits_rise (suc count) a b s t less small =
     (λ (rise : a / 10 < b / 10). digits_rise count (a / 10) (b / 10) ((48 + a % 10) ∷ s) ((48 + b % 10) ∷ t) rise (div_below b 10 (beyond count) (omega arith) small))
     (λ (not_less : b / 10 ≤ a / 10).
     let last = last_rises a b less not_less in
-    behind_same (digits count (a / 10)) (digits count (b / 10)) ((48 + a % 10) ∷ s) ((48 + b % 10) ∷ t) (ap (digits count) last.same)
+    after_same (digits count (a / 10)) (digits count (b / 10)) ((48 + a % 10) ∷ s) ((48 + b % 10) ∷ t) (ap (digits count) last.same)
     (less_first (48 + a % 10) (48 + b % 10) s t last.less))
     (cases_lt (a / 10) (b / 10)))
 

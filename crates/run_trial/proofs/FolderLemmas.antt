@@ -151,14 +151,14 @@ module _ (keywords : List Keyword) where
       let file : File = waiting_file keywords number f in
       let read = waiting_is_read keywords number f.flags fits in
       let stay : without Cur file.name files ≡ files = stays number files f small fits waits.each in
-      let behind : waiting_files (files ++ file ∷ []) ≡ waiting_files files ++ file ∷ [] =
+      let following : waiting_files (files ++ file ∷ []) ≡ waiting_files files ++ file ∷ [] =
       ap (sorted is_before) (filter-append (λ (x : File). is_waiting x.name) files (file ∷ []) ∙ one_waits files file read.waits)
       ∙ sorted_last is_before file (filter (λ (x : File). is_waiting x.name) files) [] (all_before number files f small waits.each) (All-nil (λ (y : File). is_before file y ≡ false))
       ∙ ap (λ (l : List File). sorted is_before l ++ file ∷ []) (append-nil (filter (λ (x : File). is_waiting x.name) files)) in
       subst (λ (l : List File). Waits messages (waiting ++ f ∷ []) (l ++ file ∷ [])) (sym stay)
       (record {
         are = ap by_uid (unnumbered_made (message_in keywords) (λ m. m.uid) (λ file uid. refl) files [] file read.uid ∙ ap (messages_in keywords) (append-nil files)) ∙ waits.are;
-        wait = ap (map (waiting_of keywords)) behind ∙ map-append (waiting_of keywords) (waiting_files files) (file ∷ [])
+        wait = ap (map (waiting_of keywords)) following ∙ map-append (waiting_of keywords) (waiting_files files) (file ∷ [])
             ∙ ap (λ (l : List Waiting). l ++ waiting_of keywords file ∷ []) waits.wait ∙ ap (λ (w : Waiting). waiting ++ w ∷ []) (waiting_is_file keywords number f fits);
         each = subst (λ (n : ℕ). All (Either n) (files ++ file ∷ [])) (sym (length_push files file))
             (All-append (Either (number + 1)) files (file ∷ []) (All-weaker (Either number) (Either (number + 1)) (either_above number) files waits.each)

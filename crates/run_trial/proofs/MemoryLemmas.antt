@@ -34,7 +34,7 @@ use Rattle.run_states.specs.Endings.{IsDone}
 use Rattle.run_states.specs.Openings.{Opening, world_at}
 use Rattle.law_alike.specs.Beginnings.{Begins, HoldsWorld, opening_of}
 use Rattle.runner.specs.declared.fault.RunFault.{RunFault}
-use Rattle.runner.specs.Attempts.{HasNoNext, TellsNoNext}
+use Rattle.runner.specs.Attempts.{HasNoNext, ReportsNoNext}
 use Rattle.run_trial.specs.declared.trial.Trial.{Trial}
 use Rattle.run_trial.specs.Folders.{folder_of}
 use Rattle.run_trial.specs.Memory.{EndsRun, LeavesOpening, LeavesWorld}
@@ -47,7 +47,7 @@ use Rattle.run_trial.proofs.Picks.{picked, picked_begun}
 use Rattle.run_trial.proofs.RunLemmas.{stands_world}
 use Rattle.run_trial.proofs.ShelfLemmas.{shelf_holds}
 use Rattle.run_trial.proofs.WorldLemmas.{few_files, near_in_range}
-use Rattle.run_trial.specs.declared.setting.Setting.{Setting}
+use Rattle.run_trial.specs.declared.setting.TrialSetting.{TrialSetting}
 use Rattle.run_trial.specs.Settings.{IsSettingOf, device_at, device_in}
 
 -- ---- the world stands there
@@ -62,7 +62,7 @@ each_seen keywords (m ∷ ms) h =
 all_seen : (keywords : List Keyword) (s : Store) → All (λ m. IsWithin keywords m.flags) s.messages → seen_through keywords s ≡ s
 all_seen keywords s h = ap (λ (ms : List Message). record s { messages = ms }) (each_seen keywords s.messages h)
 
-pub found : (trial : Trial) (s : Setting) → IsSettingOf trial s → device_in s ≡ devices_of trial
+pub found : (trial : Trial) (s : TrialSetting) → IsSettingOf trial s → device_in s ≡ devices_of trial
 found trial s holds =
     let k : List Keyword = trial.world.options.keywords in
     let far : Store = store_of trial.world.far in
@@ -72,7 +72,7 @@ found trial s holds =
     ∙ ap (λ (f : Stored). device_with (settled (seen_through k far)) (near_of 1 k f) (files_of s.shelf) []) holds.folder
     ∙ ap (λ (f : Files). device_with (settled (seen_through k far)) (near_of 1 k folder) f []) holds.shelf
 
-stands_so : (trial : Trial) (s : Setting) → IsSettingOf trial s → IsStart trial → FitsWords (world_of trial.world) → device_in s ≡ device_of (world_of trial.world)
+stands_so : (trial : Trial) (s : TrialSetting) → IsSettingOf trial s → IsStart trial → FitsWords (world_of trial.world) → device_in s ≡ device_of (world_of trial.world)
 stands_so trial s holds start fits =
     let w : World = world_of trial.world in
     let k : List Keyword = trial.world.options.keywords in
@@ -84,7 +84,7 @@ stands_so trial s holds start fits =
     (folder_holds k 1 w.near w.waiting start.opening.world.in_order.near (near_in_range w start.opening fits) start.named.near (few_files w start.opening fits))
     ∙ ap (λ (j : Option (Vec ℕ Global)). device_with (settled w.far) near (shelf_of w.state (bytes_of j)) []) start.none
 
-pub stands : (trial : Trial) (s : Setting) (w : World) → w ≡ world_of trial.world → IsSettingOf trial s → IsStart trial → FitsWords w → device_in s ≡ device_of w
+pub stands : (trial : Trial) (s : TrialSetting) (w : World) → w ≡ world_of trial.world → IsSettingOf trial s → IsStart trial → FitsWords w → device_in s ≡ device_of w
 stands trial s w same holds start = subst (λ (x : World). FitsWords x → device_in s ≡ device_of x) (sym same) (stands_so trial s holds start)
 
 pub holds_world : (w : World) (d : Device) → IsOpening w → FitsWords w → d ≡ device_of w → HoldsWorld w d
@@ -96,7 +96,7 @@ pub parts_seen : (keywords : List Keyword) (server there : Server) (folder : Sto
 parts_seen keywords server there folder shelf seen same is = is ∙ ap (λ (v : Server). seen_with (device_at keywords v folder shelf) untouched) same
 
 -- that over a setting
-pub setting_seen : (s : Setting) (server : Server) (seen : Seen) → server ≡ s.far.server.server
+pub setting_seen : (s : TrialSetting) (server : Server) (seen : Seen) → server ≡ s.far.server.server
     → seen ≡ seen_with (device_at s.options.keywords server (stored_in s.folder) (files_of s.shelf)) untouched → seen ≡ seen_with (device_in s) untouched
 setting_seen s server seen same is = parts_seen s.options.keywords server s.far.server.server (stored_in s.folder) (files_of s.shelf) seen same is
 
@@ -126,7 +126,7 @@ over_device honest alone old d new r same kept no_next = λ one. subst (λ (x : 
 module _ {A T E : Type 0} (device : A → Device) (w : World) (options : Options) (d : Device) where
   last_done : (r : Result (A × Result T RunFault) E) → IfOk r (λ run. HasNoNext (Unit {0}) true d (device run.0) run.1) → HoldsWorld w d → w.state.run + 1 ≡ 2 ^ 64
       → IfOk r (λ run. OnOk run.1 (IsDone w options (device run.0)))
-  last_done (Ok run) none held last = no_answer (IsDone w options (device run.0)) TellsNoNext run.1 (none tt w.state Missing held.files last).0
+  last_done (Ok run) none held last = no_answer (IsDone w options (device run.0)) ReportsNoNext run.1 (none tt w.state Missing held.files last).0
   last_done (Err failure) none held last = tt
 
   pub done_where : (r : Result (A × Result T RunFault) E) → (Begins w d → IfOk r (λ run. OnOk run.1 (IsDone w options (device run.0))))
@@ -137,7 +137,7 @@ module _ {A T E : Type 0} (device : A → Device) (w : World) (options : Options
       (λ (last : 2 ^ 64 ≤ w.state.run + 1). last_done r none held (omega arith)) (cases_lt (w.state.run + 1) (2 ^ 64))
 
   pub greatest_where : (r : Result (A × Result T RunFault) E) → IfOk r (λ run. HasNoNext (Unit {0}) true d (device run.0) run.1) → HoldsWorld w d → w.state.run + 1 ≡ 2 ^ 64
-      → d ≡ device_of w → IfOk r (λ run. IsErrAnd run.1 TellsNoNext × (device run.0 ≡ device_of w))
+      → d ≡ device_of w → IfOk r (λ run. IsErrAnd run.1 ReportsNoNext × (device run.0 ≡ device_of w))
   greatest_where (Ok run) none held last same = let parts = none tt w.state Missing held.files last in (parts.0, parts.1.same refl ∙ same)
   greatest_where (Err failure) none held last same = tt
 
@@ -166,12 +166,12 @@ module _ {A T E : Type 0} (seen : A → Seen) (d : Device) (r : Result (A × Res
   begun_left w options opening same leaves begins = subst (λ (o : Opening nobody.ours nobody.alone). Leaves options o) same leaves (stands_world nobody.ours nobody.alone w options d begins)
 
 -- where it stands is known of the trial
-pub stands_found : (opening : Opening nobody.ours nobody.alone) (trial : Trial) (s : Setting) → IsSettingOf trial s → StandsAt opening trial.world.options (devices_of trial) → StandsAt opening s.options (device_in s)
+pub stands_found : (opening : Opening nobody.ours nobody.alone) (trial : Trial) (s : TrialSetting) → IsSettingOf trial s → StandsAt opening trial.world.options (devices_of trial) → StandsAt opening s.options (device_in s)
 stands_found opening trial s holds at =
     subst (StandsAt opening s.options) (sym (found trial s holds)) (subst (λ (o : Options). StandsAt opening o (devices_of trial)) (sym holds.options) at)
 
 -- the opening that is picked where there is no journal
-pub picked_start : (trial : Trial) (s : Setting) (w : World) (given : Opening nobody.ours nobody.alone) → w ≡ world_of trial.world → IsSettingOf trial s → IsStart trial → FitsWords w
+pub picked_start : (trial : Trial) (s : TrialSetting) (w : World) (given : Opening nobody.ours nobody.alone) → w ≡ world_of trial.world → IsSettingOf trial s → IsStart trial → FitsWords w
     → picked (files_of s.shelf).journal (opening_of nobody.ours nobody.alone (world_at (device_in s) s.state) s.options) given ≡ opening_of nobody.ours nobody.alone w s.options
 picked_start trial s w given same holds start fits =
     picked_begun (files_of s.shelf) trial.world.state trial.course.journal (opening_of nobody.ours nobody.alone (world_at (device_in s) s.state) s.options) given holds.shelf start.none

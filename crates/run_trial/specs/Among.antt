@@ -18,14 +18,14 @@ use Rattle.law_alike.specs.Others.{OthersLeft}
 use Rattle.runner.specs.declared.fault.RunFault.{RunFault}
 use Rattle.runner.specs.Faults.{LeavesRun}
 use Rattle.run_trial.specs.declared.arrival.FarArrival.{FarArrival}
-use Rattle.run_trial.specs.declared.stop.Command.{Command}
-use Rattle.run_trial.specs.declared.stop.Command.TheVariants as trial
-use Rattle.run_trial.specs.declared.setting.Setting.{Setting}
+use Rattle.run_trial.specs.declared.stop.StopCommand.{StopCommand}
+use Rattle.run_trial.specs.declared.stop.StopCommand.TheVariants as trial
+use Rattle.run_trial.specs.declared.setting.TrialSetting.{TrialSetting}
 
 -- ---- what comes
 
 -- a command by the name that a link has for it
-abbrev pub name_of : Command → CommandName
+abbrev pub name_of : StopCommand → CommandName
 name_of trial.Capability = link.Capability
 name_of trial.Login = link.Login
 name_of trial.Enable = link.Enable
@@ -40,7 +40,7 @@ abbrev pub arrival_of : FarArrival → Arrival
 arrival_of a = record { at = record { name = name_of a.command; number = a.number }; flags = a.flags; bytes = a.bytes }
 
 -- the shelf and the state of a setting
-abbrev pub AreKept : Setting → MemShelf → SyncState → Type 0
+abbrev pub AreKept : TrialSetting → MemShelf → SyncState → Type 0
 AreKept setting shelf state = (files_of shelf ≡ files_of setting.shelf) × (state ≡ setting.state)
 
 -- ---- what it leaves

@@ -4,9 +4,9 @@ use Rattle.maildir.specs.declared.mem_folder.FolderCall.{FolderCall}
 use Rattle.maildir.specs.declared.mem_folder.FolderCall.TheVariants as folder
 use Rattle.book.specs.declared.mem_shelf.ShelfCall.{ShelfCall}
 use Rattle.book.specs.declared.mem_shelf.ShelfCall.TheVariants as shelf
-use Rattle.run_trial.specs.declared.stop.Command.{Command}
-use Rattle.run_trial.specs.declared.stop.Command.TheVariants as command
-use Rattle.run_trial.specs.declared.stop.LinkStop.TheVariants as links
+use Rattle.run_trial.specs.declared.stop.StopCommand.{StopCommand}
+use Rattle.run_trial.specs.declared.stop.StopCommand.TheVariants as command
+use Rattle.run_trial.specs.declared.stop.FarStop.TheVariants as links
 use Rattle.run_trial.specs.declared.stop.DeviceStop.{DeviceStop}
 use Rattle.run_trial.specs.declared.stop.DeviceStop.TheVariants as devices
 
@@ -33,7 +33,7 @@ shelf_verb shelf.Remove = codes "remove"
 abbrev pub shelf_word : ShelfCall → List ℕ
 shelf_word call = codes "shelf." ++ shelf_verb call
 
-abbrev pub command_word : Command → List ℕ
+abbrev pub command_word : StopCommand → List ℕ
 command_word command.Capability = codes "CAPABILITY"
 command_word command.Login = codes "LOGIN"
 command_word command.Enable = codes "ENABLE"

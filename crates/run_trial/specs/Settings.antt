@@ -1,7 +1,7 @@
 -- What the run of a trial is made over, before there is a link to the server.
 use Rattle.std.specs.Prelude.{◌≡◌, List, [], ◌∷◌, map, codes}
 use Rattle.mailcore.specs.declared.keywords.Keyword.{Keyword}
-use Rattle.mailcore.specs.declared.mailbox.Mailbox.{Mailbox}
+use Rattle.mailcore.specs.declared.mailbox.StoredMailbox.{StoredMailbox}
 use Rattle.imap_session.specs.Mailboxes.{FarMailbox}
 use Rattle.imap_session.specs.Servers.{Server}
 use Rattle.maildir.specs.Folders.{Stored}
@@ -16,21 +16,21 @@ use Rattle.run_trial.specs.declared.trial.Trial.{Trial}
 use Rattle.run_trial.specs.Folders.{folder_of}
 use Rattle.run_trial.specs.Shelves.{shelf_of}
 use Rattle.run_trial.specs.Worlds.{store_of, waiting_of}
-use Rattle.run_trial.specs.declared.setting.Setting.{Setting}
+use Rattle.run_trial.specs.declared.setting.TrialSetting.{TrialSetting}
 
 -- a server's mailboxes where this one is its INBOX, and it has no other
-abbrev pub inbox_of : Mailbox → List FarMailbox
+abbrev pub inbox_of : StoredMailbox → List FarMailbox
 inbox_of far = record { name = codes "INBOX"; store = store_of far } ∷ []
 
 -- what a run by this map over a server with this INBOX, a folder and a shelf finds
 abbrev pub device_at : List Keyword → Server → (folder : Stored) → (shelf : Files) → Device
 device_at keywords server folder shelf = device_with (box_at keywords (codes "INBOX") server) (near_of 1 keywords folder) shelf []
 
-abbrev pub device_in : Setting → Device
+abbrev pub device_in : TrialSetting → Device
 device_in s = device_at s.options.keywords s.far.server.server (stored_in s.folder) (files_of s.shelf)
 
 -- they hold what the trial says
-pub record IsSettingOf (trial : Trial) (s : Setting) : Type 0 where
+pub record IsSettingOf (trial : Trial) (s : TrialSetting) : Type 0 where
   pub far : s.far.server.server.mailboxes ≡ inbox_of trial.world.far
   pub folder : stored_in s.folder ≡ folder_of trial.world.options.keywords (store_of trial.world.near) (map waiting_of trial.world.waiting.items)
   pub state : s.state ≡ trial.world.state

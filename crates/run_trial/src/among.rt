@@ -11,7 +11,7 @@ ghost use Rattle.maildir.specs.MemFolders.{stored_in};
 ghost use Rattle.book.specs.MemShelves.{files_of};
 ghost use Rattle.run_pair.specs.Pairs.{seen_of};
 ghost use Rattle.law_alike.specs.Beginnings.{Begins};
-ghost use Rattle.runner.specs.Attempts.{HasNoNext, TellsNoNext};
+ghost use Rattle.runner.specs.Attempts.{HasNoNext, ReportsNoNext};
 ghost use Rattle.runner.specs.Validities.{IsKept};
 ghost use Rattle.run_trial.specs.Trials.{HasNext, IsLast, IsStart};
 ghost use Rattle.run_trial.specs.Worlds.{device_of, world_of};
@@ -19,7 +19,7 @@ ghost use Rattle.run_trial.specs.Among.{IsOverAmong, LeavesAmong, OthersLeftAmon
 ghost use Rattle.run_trial.specs.Settings.{device_at};
 
 use crate::devices::{Run, settle_all, together};
-use crate::failure::Failure;
+use crate::failure::TrialError;
 use crate::setting::setting_of;
 use crate::trial::Trial;
 use crate::visited::{NearSetting, VisitedSetting, visited};
@@ -38,7 +38,7 @@ use std::alloc::Global;
 pub(crate) fn run_among<const MARKS: u32>(
     alloc: Global,
     trial: Trial,
-) -> Result<Run<VisitedLink<MARKS>, VisitedFolder<MARKS>>, Failure>
+) -> Result<Run<VisitedLink<MARKS>, VisitedFolder<MARKS>>, TrialError>
     requires said { MARKS ≡ 0 → All (λ a. mark_of a.bytes ≡ None) trial.course.arrivals.far.items }
     ensures over { MARKS ≡ 0 → IsStart trial → HasNext trial
         → IfOk result (λ run. OnOk run.1 (IsOverAmong (world_of trial.world) trial.world.options (seen_of run.0).device)) }
@@ -47,7 +47,7 @@ pub(crate) fn run_among<const MARKS: u32>(
     ensures left { MARKS ≡ 0 → IsStart trial → HasNext trial → (let w = world_of trial.world in
         IfOk result (λ run. IfErr run.1 (λ fault. LeavesAmong w trial.world.options (device_of w) fault (seen_of run.0)))) }
     ensures greatest { IsStart trial → IsLast trial
-        → IfOk result (λ run. IsErrAnd run.1 TellsNoNext × IsKept false (device_of (world_of trial.world)) (seen_of run.0).device) }
+        → IfOk result (λ run. IsErrAnd run.1 ReportsNoNext × IsKept false (device_of (world_of trial.world)) (seen_of run.0).device) }
     ensures stopped { IfOk result (λ run. IsErrOf run.1 RunFault.Stopped → (seen_of run.0).stops ≡ trial.course.tries) }
     ensures map { IfOk result (λ run. run.0.far.far.keywords ≡ trial.world.options.keywords) }
 {
@@ -62,7 +62,7 @@ fn run_visited<const MARKS: u32>(
     alloc: Global,
     setting: VisitedSetting<MARKS>,
     tries: u32,
-) -> Result<Run<VisitedLink<MARKS>, VisitedFolder<MARKS>>, Failure>
+) -> Result<Run<VisitedLink<MARKS>, VisitedFolder<MARKS>>, TrialError>
     requires served { AreServed setting.far.server.server.mailboxes }
     requires letters { HasMap setting.options.keywords setting.far.server.server }
     requires said { BearAsSaid MARKS setting.arrivals.list.items }

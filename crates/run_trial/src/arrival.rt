@@ -7,13 +7,13 @@ ghost use Rattle.worlds.specs.Lines.{IsOf};
 
 use crate::count::read_ordinal;
 use crate::folder::arrival_name;
-use crate::stop::{Command, command_of, folder_call_of};
+use crate::stop::{StopCommand, command_of, folder_call_of};
 use mailcore::copies::mark_of;
 use mailcore::flags::Flags;
 use mailcore::keywords::Keywords;
 use mailcore::octets::Octets;
 use mailcore::side::Side;
-use maildir::visited_folder::Arrival;
+use maildir::visited_folder::ArrivingFile;
 use std::alloc::Global;
 use texts::lines::Line;
 use worlds::fault::WorldFault;
@@ -24,7 +24,7 @@ use worlds::words::{read_named, split_word};
 #[derive(Drop)]
 pub struct FarArrival {
     /// The command before which it comes.
-    pub command: Command,
+    pub command: StopCommand,
     /// Before which command of this name, counted from 1 over the trial.
     pub number: u64,
     /// Its flags.
@@ -35,11 +35,11 @@ pub struct FarArrival {
 
 /// What others add in a trial, in the order of the lines.
 #[derive(Drop)]
-pub struct Arrivals {
+pub struct TrialArrivals {
     /// The messages that come to the far mailbox.
     pub far: Vec<FarArrival>,
     /// The files that come to the folder of the near one.
-    pub near: Vec<Arrival>,
+    pub near: Vec<ArrivingFile>,
 }
 
 /// When something comes, and what it is: the words of its line.
@@ -53,10 +53,10 @@ struct Coming<'a> {
     text: &'a [u8],
 }
 
-impl Arrivals {
+impl TrialArrivals {
     /// Nothing.
     pub fn new(alloc: Global) -> Self {
-        Arrivals {
+        TrialArrivals {
             far: Vec::new(alloc),
             near: Vec::new(alloc),
         }
@@ -146,7 +146,7 @@ impl Arrivals {
         let number = self.near.len().saturating_add(1);
         let name = arrival_name(alloc, number, coming.flags, keywords)?;
         Ok(
-            self.near.push(Arrival {
+            self.near.push(ArrivingFile {
                 call,
                 number: coming.number,
                 name: Octets::from_vec(name),

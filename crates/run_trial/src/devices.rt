@@ -19,7 +19,7 @@ ghost use Rattle.run_trial.specs.Openings.{AreOurs, StandsAt};
 ghost use Rattle.run_trial.specs.Settings.{device_at};
 
 use crate::attempts::settle_trial;
-use crate::failure::Failure;
+use crate::failure::TrialError;
 use crate::folder::contents_of;
 use crate::server::{TrialLink, account_of};
 use crate::shelf::state_in;
@@ -35,7 +35,7 @@ use outside::outside::Outside;
 use rules::options::Options;
 use rules::state::SyncState;
 use run_both::both::Both;
-use run_both::sides::Sides;
+use run_both::sides::BothSides;
 use runner::fault::RunFault;
 use runner::pass::Settled;
 use std::alloc::Global;
@@ -133,7 +133,7 @@ pub fn together<L: TrialLink + Drop, F: Folder + Drop>(
     folder: F,
     shelf: MemShelf,
     keywords: &Keywords,
-) -> Result<Both<L, F, MemShelf>, Failure>
+) -> Result<Both<L, F, MemShelf>, TrialError>
     requires letters { L.honest link → HasMap keywords.now (L.line link).end.server }
     ensures seen { IfOk result (λ both. seen_of both
         ≡ seen_with (device_at keywords.now (L.line link).end.server (F.seen folder).stored (files_of shelf)) untouched) }
@@ -142,7 +142,7 @@ pub fn together<L: TrialLink + Drop, F: Folder + Drop>(
     let account = account_of(alloc)?;
     let far_map = keywords.try_clone(alloc)?;
     let near_map = keywords.try_clone(alloc)?;
-    let sides = Sides {
+    let sides = BothSides {
         far: FarSide::new(alloc, account, link, far_map),
         folder,
         shelf,
@@ -178,19 +178,19 @@ impl<L: TrialLink + Drop> Devices<L> {
         ensures shelf { files_of result.shelf ≡ files_in outside.book }
         ensures map { result.keywords ≡ outside.far.far.keywords }
     {
-        let Sides { far, folder, shelf } = Sides::of(outside);
+        let BothSides { far, folder, shelf } = BothSides::of(outside);
         Devices::over(far, folder, shelf)
     }
 
     /// The same where others add files to the folder: it has all that has come.
     pub(crate) fn among<const MARKS: u32>(
         outside: Both<L, VisitedFolder<MARKS>, MemShelf>,
-    ) -> Result<Self, Failure>
+    ) -> Result<Self, TrialError>
         ensures link { IfOk result (λ devices. devices.link ≡ outside.far.far.session.wire.link) }
         ensures folder { IfOk result (λ devices. AddsAlone (others_with MARKS) (seen_in outside.near.near.folder.folder) (seen_in devices.folder)) }
         ensures shelf { IfOk result (λ devices. files_of devices.shelf ≡ files_in outside.book) }
     {
-        let Sides { far, folder, shelf } = Sides::of(outside);
+        let BothSides { far, folder, shelf } = BothSides::of(outside);
         let folder = folder.into_folder()?;
         Ok(Devices::over(far, folder, shelf))
     }
@@ -212,7 +212,7 @@ impl<L: TrialLink + Drop> Devices<L> {
     }
 
     /// The outside of another run over these devices, which are reopened. All that the run before left stands there, the journal too.
-    pub fn again(self, alloc: Global) -> Result<Both<L, MemFolder, MemShelf>, Failure>
+    pub fn again(self, alloc: Global) -> Result<Both<L, MemFolder, MemShelf>, TrialError>
         ensures seen { IfOk result (λ both. seen_of both ≡ seen_with
             (device_at self.keywords (L.line self.link).end.server (stored_in self.folder) (files_of self.shelf)) untouched) }
         ensures keywords { IfOk result (λ both. both.far.far.keywords ≡ self.keywords) }
@@ -237,12 +237,12 @@ impl<L: TrialLink + Drop> Devices<L> {
     }
 
     /// Adds the world that stands in them, from its line `far` on. `NoWorld`: what a device holds is none. This does not come of a trial.
-    pub fn write(&self, alloc: Global, text: &mut String) -> Result<(), Failure> {
+    pub fn write(&self, alloc: Global, text: &mut String) -> Result<(), TrialError> {
         let Some(far) = self.link.server().mailboxes().first() else {
-            return Err(Failure::NoWorld);
+            return Err(TrialError::NoWorld);
         };
         let Some(meta) = self.folder.meta().and_then(Meta::read) else {
-            return Err(Failure::NoWorld);
+            return Err(TrialError::NoWorld);
         };
         let state = state_in(alloc, &self.shelf)?;
         let near = contents_of(alloc, &self.folder, &self.keywords)?;

@@ -13,7 +13,7 @@ use worlds::fault::WorldFault;
 
 /// Why nothing is reported of a trial, as the program reports it.
 #[derive(Clone, Copy, Debug, PartialEq, Eq, Error)]
-pub enum Failure {
+pub enum TrialError {
     /// The arguments are none that the program takes.
     #[error("usage")]
     Usage,
@@ -31,60 +31,60 @@ pub enum Failure {
     NoMemory,
 }
 
-impl Failure {
+impl TrialError {
     /// The program's exit status.
     pub fn status(self) -> u8
         ensures { result ≡ failure_status self }
     {
         match self {
-            Failure::Usage | Failure::World(_) => 2,
+            TrialError::Usage | TrialError::World(_) => 2,
             _ => 1,
         }
     }
 }
 
-impl From<AllocError> for Failure {
-    fn from(_fault: AllocError) -> Failure {
-        Failure::NoMemory
+impl From<AllocError> for TrialError {
+    fn from(_fault: AllocError) -> TrialError {
+        TrialError::NoMemory
     }
 }
 
-impl<T: Drop> From<AllocFailed<T>> for Failure {
-    fn from(_fault: AllocFailed<T>) -> Failure {
-        Failure::NoMemory
+impl<T: Drop> From<AllocFailed<T>> for TrialError {
+    fn from(_fault: AllocFailed<T>) -> TrialError {
+        TrialError::NoMemory
     }
 }
 
 /// Of a folder in memory that takes in what others have added.
-impl From<DeviceFault> for Failure {
-    fn from(_fault: DeviceFault) -> Failure {
-        Failure::NoMemory
+impl From<DeviceFault> for TrialError {
+    fn from(_fault: DeviceFault) -> TrialError {
+        TrialError::NoMemory
     }
 }
 
-impl From<WorldFault> for Failure {
-    fn from(fault: WorldFault) -> Failure {
+impl From<WorldFault> for TrialError {
+    fn from(fault: WorldFault) -> TrialError {
         match fault {
-            WorldFault::Line(line) => Failure::World(line),
-            WorldFault::NoMemory => Failure::NoMemory,
+            WorldFault::Line(line) => TrialError::World(line),
+            WorldFault::NoMemory => TrialError::NoMemory,
         }
     }
 }
 
-impl From<BookFault> for Failure {
-    fn from(fault: BookFault) -> Failure {
+impl From<BookFault> for TrialError {
+    fn from(fault: BookFault) -> TrialError {
         match fault {
-            BookFault::NoMemory => Failure::NoMemory,
-            _ => Failure::NoWorld,
+            BookFault::NoMemory => TrialError::NoMemory,
+            _ => TrialError::NoWorld,
         }
     }
 }
 
-impl From<io::Error> for Failure {
-    fn from(fault: io::Error) -> Failure {
+impl From<io::Error> for TrialError {
+    fn from(fault: io::Error) -> TrialError {
         match fault.kind() {
-            ErrorKind::OutOfMemory => Failure::NoMemory,
-            _ => Failure::Input,
+            ErrorKind::OutOfMemory => TrialError::NoMemory,
+            _ => TrialError::Input,
         }
     }
 }

@@ -5,10 +5,10 @@ ghost use Rattle.maildir.specs.MemFolders.{seen_of, stored_in, with_file};
 ghost use Rattle.run_trial.specs.Folders.{digits, folder_of, message_name, put_message, put_waiting, waiting_name};
 ghost use Rattle.run_trial.specs.Worlds.{store_of, waiting_of};
 
-use device::schedule::Stop;
+use device::schedule::CallStop;
 use mailcore::flags::Flags;
 use mailcore::keywords::Keywords;
-use mailcore::mailbox::{Mailbox, Message};
+use mailcore::mailbox::{Message, StoredMailbox};
 use mailcore::octets::Octets;
 use maildir::file_list::FileList;
 use maildir::folder::{File, Place};
@@ -30,9 +30,9 @@ const ARRIVAL_DIGITS: u32 = 8;
 /// already as `w00000000000000000009:2,LETTERS`, and there is a meta file. Its calls stop as the schedule says.
 pub fn folder_with(
     alloc: Global,
-    near: Mailbox,
+    near: StoredMailbox,
     waiting: Vec<WaitingFile>,
-    schedule: Vec<Stop<FolderCall>>,
+    schedule: Vec<CallStop<FolderCall>>,
     keywords: &Keywords,
 ) -> Result<MemFolder, AllocError>
     ensures { IfOk result (λ folder. seen_of folder ≡ record {

@@ -12,7 +12,7 @@ ghost use Rattle.run_pair.specs.Pairs.{seen_of};
 ghost use Rattle.run_states.specs.Conditions.{IsOver};
 ghost use Rattle.run_states.specs.Endings.{IsDone};
 ghost use Rattle.run_states.specs.Openings.{Opening};
-ghost use Rattle.runner.specs.Attempts.{HasNoNext, TellsNoNext};
+ghost use Rattle.runner.specs.Attempts.{HasNoNext, ReportsNoNext};
 ghost use Rattle.run_trial.specs.Openings.{StandsAt};
 ghost use Rattle.run_trial.specs.Trials.{HasNext, IsLast, IsStart, Resumes, devices_of};
 ghost use Rattle.run_trial.specs.Worlds.{device_of, world_of};
@@ -20,8 +20,8 @@ ghost use Rattle.run_trial.specs.Memory.{EndsRun, Interrupted, LeavesOpening, Le
 ghost use Rattle.run_trial.specs.Settings.{device_at, device_in};
 
 use crate::devices::{Devices, Run, settle_from, together};
-use crate::failure::Failure;
-use crate::setting::{FarSetting, Setting, setting_of};
+use crate::failure::TrialError;
+use crate::setting::{FarSetting, TrialSetting, setting_of};
 use crate::trial::Trial;
 use maildir::mem_folder::MemFolder;
 use mem_link::mem_link::MemLink;
@@ -40,14 +40,14 @@ use std::alloc::Global;
 /// there, all alike to the outcome of its world, and a fault leaves it underway.
 ///
 /// It is reported as stopped only where as many calls stopped as there were attempts.
-pub fn run_in_memory(alloc: Global, trial: Trial) -> Result<Run<MemLink, MemFolder>, Failure>
+pub fn run_in_memory(alloc: Global, trial: Trial) -> Result<Run<MemLink, MemFolder>, TrialError>
     ghost opening: { Opening nobody.ours nobody.alone }
     ensures done { IsStart trial
         → IfOk result (λ run. OnOk run.1 (IsDone (world_of trial.world) trial.world.options (seen_of run.0).device)) }
     ensures left { IsStart trial → HasNext trial → (let w = world_of trial.world in
         IfOk result (λ run. IfErr run.1 (λ fault. LeavesWorld w trial.world.options (device_of w) fault (seen_of run.0)))) }
     ensures greatest { IsStart trial → IsLast trial
-        → IfOk result (λ run. IsErrAnd run.1 TellsNoNext × ((seen_of run.0).device ≡ device_of (world_of trial.world))) }
+        → IfOk result (λ run. IsErrAnd run.1 ReportsNoNext × ((seen_of run.0).device ≡ device_of (world_of trial.world))) }
     ensures resumed { Resumes opening trial → IfOk result (λ run. OnOk run.1 (EndsRun opening (seen_of run.0).device)) }
     ensures pending { Resumes opening trial
         → IfOk result (λ run. IfErr run.1 (λ fault. LeavesOpening opening (devices_of trial) fault (seen_of run.0))) }
@@ -70,7 +70,7 @@ pub fn run_again(
     devices: Devices<MemLink>,
     options: Options,
     tries: u32,
-) -> Result<Run<MemLink, MemFolder>, Failure>
+) -> Result<Run<MemLink, MemFolder>, TrialError>
     ghost opening: { Opening nobody.ours nobody.alone }
     requires map { devices.keywords ≡ options.keywords }
     ensures resumed { (left : Device) → (let server = (line_of devices.link).end.server in
@@ -92,7 +92,11 @@ pub fn run_again(
 }
 
 /// Makes one run over a setting, from an opening at which its devices stand, and gives its outside beside what it came to.
-fn run_over(alloc: Global, setting: Setting, tries: u32) -> Result<Run<MemLink, MemFolder>, Failure>
+fn run_over(
+    alloc: Global,
+    setting: TrialSetting,
+    tries: u32,
+) -> Result<Run<MemLink, MemFolder>, TrialError>
     ghost opening: { Opening nobody.ours nobody.alone }
     requires served { AreServed setting.far.server.server.mailboxes }
     requires letters { HasMap setting.options.keywords setting.far.server.server }
@@ -104,7 +108,7 @@ fn run_over(alloc: Global, setting: Setting, tries: u32) -> Result<Run<MemLink, 
     ensures stopped { IfOk result (λ run. IsErrOf run.1 RunFault.Stopped → (seen_of run.0).stops ≡ tries) }
     ensures map { IfOk result (λ run. run.0.far.far.keywords ≡ setting.options.keywords) }
 {
-    let Setting {
+    let TrialSetting {
         far,
         folder,
         shelf,

@@ -5,10 +5,10 @@ ghost use Rattle.worlds.specs.Lines.{IsOf, IsUpTo};
 ghost use Rattle.texts.specs.Lines.{line_count, line_ends};
 ghost use Rattle.run_trial.specs.Worlds.{IsNamed, world_of};
 
-use crate::arrival::Arrivals;
+use crate::arrival::TrialArrivals;
 use crate::count::read_ordinal;
 use crate::stop::{DeviceStop, Stops, read_cut, read_stop};
-use crate::trial::{Course, Trial};
+use crate::trial::{Trial, TrialCourse};
 use mailcore::keywords::Keywords;
 use std::alloc::Global;
 use texts::lines::{Line, Lines};
@@ -37,15 +37,15 @@ fn read_course(
     alloc: Global,
     keywords: &Keywords,
     lines: &mut Lines<'_>,
-) -> Result<Course, WorldFault>
+) -> Result<TrialCourse, WorldFault>
     ensures fault { IfErr result (IsUpTo (line_count lines.old + 1)) }
 {
-    let mut course = Course {
+    let mut course = TrialCourse {
         tries: take_tries(lines)?,
         journal: None,
         stops: Stops::new(alloc),
         mutes: Vec::new(alloc),
-        arrivals: Arrivals::new(alloc),
+        arrivals: TrialArrivals::new(alloc),
     };
     match take_course(alloc, keywords, &mut course, lines) {
         Ok(()) => Ok(course),
@@ -71,7 +71,7 @@ pub fn take_tries(lines: &mut Lines<'_>) -> Result<u32, WorldFault>
 fn take_course(
     alloc: Global,
     keywords: &Keywords,
-    course: &mut Course,
+    course: &mut TrialCourse,
     lines: &mut Lines<'_>,
 ) -> Result<(), WorldFault>
     ensures fault { IfErr result (IsUpTo (line_count lines.old + 1)) }
@@ -90,7 +90,7 @@ fn take_course(
 fn add_line(
     alloc: Global,
     keywords: &Keywords,
-    course: &mut Course,
+    course: &mut TrialCourse,
     line: Line<'_>,
 ) -> Result<(), WorldFault>
     ensures { IfErr result (IsOf line.entry.number) }
@@ -113,7 +113,7 @@ fn add_line(
 /// Adds the journal. A trial has one at most.
 fn add_journal(
     alloc: Global,
-    course: &mut Course,
+    course: &mut TrialCourse,
     text: &[u8],
     line: Line<'_>,
 ) -> Result<(), WorldFault>
@@ -127,7 +127,7 @@ fn add_journal(
 }
 
 /// Adds the number of an APPEND whose reply comes without APPENDUID.
-fn add_mute(course: &mut Course, text: &[u8], line: Line<'_>) -> Result<(), WorldFault>
+fn add_mute(course: &mut TrialCourse, text: &[u8], line: Line<'_>) -> Result<(), WorldFault>
     ensures { IfErr result (IsOf line.entry.number) }
 {
     match read_ordinal(text) {

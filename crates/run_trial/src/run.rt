@@ -5,7 +5,7 @@ ghost use Rattle.imap_client.specs.Seen.{HasMap};
 
 use crate::among::run_among;
 use crate::devices::{Devices, settle_all, together};
-use crate::failure::Failure;
+use crate::failure::TrialError;
 use crate::memory::run_in_memory;
 use crate::read::read_trial;
 use crate::report::Ending;
@@ -29,7 +29,7 @@ use std::rc::Rc;
 
 /// What a program is asked for by its arguments.
 #[derive(Clone, Copy, PartialEq, Eq)]
-pub enum Request {
+pub enum TrialRequest {
     /// A trial whose far mailbox is reached in memory: there are no arguments.
     Memory,
     /// The same, where at most so many bytes are received at once. No argument asks for it.
@@ -49,15 +49,15 @@ pub enum Request {
 /// reading or writing failed.
 pub fn run_trial<R: Net + AllocGlobal + Clone + Drop, I: Read, O: Write, E: Write>(
     rt: R,
-    request: Request,
+    request: TrialRequest,
     input: &mut I,
     out: &mut O,
     err: &mut E,
 ) -> u8
     ensures at_most { result ≤ 2 }
-    ensures asked { request ≡ Request.Unknown → 1 ≤ result }
+    ensures asked { request ≡ TrialRequest.Unknown → 1 ≤ result }
 {
-    match told(rt, request, input) {
+    match reported(rt, request, input) {
         Ok((text, status)) => match print(out, text.as_bytes()) {
             Ok(()) => status,
             Err(_) => 1,
@@ -75,61 +75,61 @@ fn print<O: Write>(out: &mut O, text: &[u8]) -> io::Result<()> {
 }
 
 /// What is reported of the trial that is read, and the exit status.
-fn told<R: Net + AllocGlobal + Clone + Drop, I: Read>(
+fn reported<R: Net + AllocGlobal + Clone + Drop, I: Read>(
     rt: R,
-    request: Request,
+    request: TrialRequest,
     input: &mut I,
-) -> Result<(String, u8), Failure>
-    ensures status { IfOk result (λ told. told.1 ≤ 1) }
-    ensures asked { request ≡ Request.Unknown → IsErr result }
+) -> Result<(String, u8), TrialError>
+    ensures status { IfOk result (λ reported. reported.1 ≤ 1) }
+    ensures asked { request ≡ TrialRequest.Unknown → IsErr result }
 {
-    if request == Request::Unknown {
-        return Err(Failure::Usage);
+    if request == TrialRequest::Unknown {
+        return Err(TrialError::Usage);
     }
     let alloc = rt.alloc();
     let mut text = Vec::new(alloc);
     input.read_to_end(&mut text)?;
     let trial = read_trial(alloc, &text)?;
-    told_of_trial(rt, request, trial)
+    reported_of_trial(rt, request, trial)
 }
 
 /// What is reported of this trial, and the exit status.
-fn told_of_trial<R: Net + AllocGlobal + Clone + Drop>(
+fn reported_of_trial<R: Net + AllocGlobal + Clone + Drop>(
     rt: R,
-    request: Request,
+    request: TrialRequest,
     trial: Trial,
-) -> Result<(String, u8), Failure>
-    ensures { IfOk result (λ told. told.1 ≤ 1) }
+) -> Result<(String, u8), TrialError>
+    ensures { IfOk result (λ reported. reported.1 ≤ 1) }
 {
     let alloc = rt.alloc();
     match request {
-        Request::Memory | Request::Unknown if trial.course.arrivals.is_empty() => {
+        TrialRequest::Memory | TrialRequest::Unknown if trial.course.arrivals.is_empty() => {
             let (outside, settled) = run_in_memory(alloc, trial)?;
-            told_of(alloc, Devices::of(outside), settled)
+            reported_of(alloc, Devices::of(outside), settled)
         }
-        Request::Memory | Request::Unknown => told_among(alloc, trial),
-        Request::Pieces(piece) => told_in_pieces(alloc, trial, piece),
-        Request::Face => told_over_face(alloc, trial),
-        Request::Loopback => told_over_loopback(rt, trial),
+        TrialRequest::Memory | TrialRequest::Unknown => reported_among(alloc, trial),
+        TrialRequest::Pieces(piece) => reported_in_pieces(alloc, trial, piece),
+        TrialRequest::Face => reported_over_face(alloc, trial),
+        TrialRequest::Loopback => reported_over_loopback(rt, trial),
     }
 }
 
 /// What is reported of this trial, in which others add messages.
-fn told_among(alloc: Global, trial: Trial) -> Result<(String, u8), Failure>
-    ensures { IfOk result (λ told. told.1 ≤ 1) }
+fn reported_among(alloc: Global, trial: Trial) -> Result<(String, u8), TrialError>
+    ensures { IfOk result (λ reported. reported.1 ≤ 1) }
 {
     if trial.course.arrivals.bear_no_mark() {
         let (outside, settled) = run_among::<0>(alloc, trial)?;
-        told_of(alloc, Devices::among(outside)?, settled)
+        reported_of(alloc, Devices::among(outside)?, settled)
     } else {
         let (outside, settled) = run_among::<1>(alloc, trial)?;
-        told_of(alloc, Devices::among(outside)?, settled)
+        reported_of(alloc, Devices::among(outside)?, settled)
     }
 }
 
 /// What is reported of this trial where at most so many bytes are received at once.
-fn told_in_pieces(alloc: Global, trial: Trial, piece: usize) -> Result<(String, u8), Failure>
-    ensures { IfOk result (λ told. told.1 ≤ 1) }
+fn reported_in_pieces(alloc: Global, trial: Trial, piece: usize) -> Result<(String, u8), TrialError>
+    ensures { IfOk result (λ reported. reported.1 ≤ 1) }
 {
     let tries = trial.course.tries;
     let VisitedSetting::<1> {
@@ -140,12 +140,12 @@ fn told_in_pieces(alloc: Global, trial: Trial, piece: usize) -> Result<(String, 
     } = visited(alloc, setting_of(alloc, trial)?)?;
     let link = MemLink::new(alloc, far.server, far.schedule).in_pieces(piece);
     let link = VisitedLink::<1>::new(link, arrivals);
-    told_over(alloc, link, near, &options, tries)
+    reported_over(alloc, link, near, &options, tries)
 }
 
 /// What is reported of this trial through a face.
-fn told_over_face(alloc: Global, trial: Trial) -> Result<(String, u8), Failure>
-    ensures { IfOk result (λ told. told.1 ≤ 1) }
+fn reported_over_face(alloc: Global, trial: Trial) -> Result<(String, u8), TrialError>
+    ensures { IfOk result (λ reported. reported.1 ≤ 1) }
 {
     let tries = trial.course.tries;
     let VisitedSetting::<1> {
@@ -156,7 +156,7 @@ fn told_over_face(alloc: Global, trial: Trial) -> Result<(String, u8), Failure>
     } = visited(alloc, setting_of(alloc, trial)?)?;
     let words = Rc::new(alloc, Words::new(alloc))?;
     let link = VisitedLink::<1>::new(MemLink::new(alloc, far.server, far.schedule), arrivals);
-    told_over(
+    reported_over(
         alloc,
         FaceLink::new(alloc, link, words),
         near,
@@ -166,11 +166,11 @@ fn told_over_face(alloc: Global, trial: Trial) -> Result<(String, u8), Failure>
 }
 
 /// What is reported of this trial over a loopback connection.
-fn told_over_loopback<R: Net + AllocGlobal + Clone + Drop>(
+fn reported_over_loopback<R: Net + AllocGlobal + Clone + Drop>(
     rt: R,
     trial: Trial,
-) -> Result<(String, u8), Failure>
-    ensures { IfOk result (λ told. told.1 ≤ 1) }
+) -> Result<(String, u8), TrialError>
+    ensures { IfOk result (λ reported. reported.1 ≤ 1) }
 {
     let alloc = rt.alloc();
     let tries = trial.course.tries;
@@ -181,19 +181,19 @@ fn told_over_loopback<R: Net + AllocGlobal + Clone + Drop>(
         options,
     } = visited(alloc, setting_of(alloc, trial)?)?;
     let link = LoopLink::new(rt, far.server, far.schedule).among(arrivals);
-    told_over(alloc, link, near, &options, tries)
+    reported_over(alloc, link, near, &options, tries)
 }
 
 /// What is reported of a run over this link and what stands near, while others add files to the folder.
-fn told_over<L: TrialLink + Drop>(
+fn reported_over<L: TrialLink + Drop>(
     alloc: Global,
     link: L,
     near: NearSetting<1>,
     options: &Options,
     tries: u32,
-) -> Result<(String, u8), Failure>
+) -> Result<(String, u8), TrialError>
     requires { L.honest link → HasMap options.now.keywords (L.line link).end.server }
-    ensures { IfOk result (λ told. told.1 ≤ 1) }
+    ensures { IfOk result (λ reported. reported.1 ≤ 1) }
 {
     let NearSetting {
         folder,
@@ -202,16 +202,16 @@ fn told_over<L: TrialLink + Drop>(
     } = near;
     let outside = together(alloc, link, folder, shelf, &options.keywords)?;
     let (outside, settled) = settle_all(alloc, outside, options, tries, &state);
-    told_of(alloc, Devices::among(outside)?, settled)
+    reported_of(alloc, Devices::among(outside)?, settled)
 }
 
 /// What is reported of a run, by what it left, and the exit status.
-fn told_of<L: TrialLink + Drop>(
+fn reported_of<L: TrialLink + Drop>(
     alloc: Global,
     devices: Devices<L>,
     settled: Result<Settled, RunFault>,
-) -> Result<(String, u8), Failure>
-    ensures { IfOk result (λ told. told.1 ≤ 1) }
+) -> Result<(String, u8), TrialError>
+    ensures { IfOk result (λ reported. reported.1 ≤ 1) }
 {
     let ending = Ending {
         settled,

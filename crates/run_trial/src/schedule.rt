@@ -3,8 +3,8 @@
 ghost use Rattle.std.specs.Prelude.{◌≡◌};
 ghost use Rattle.run_trial.specs.Among.{name_of};
 
-use crate::stop::{Command, Cut, LinkStop};
-use device::schedule::{Moment, Stop};
+use crate::stop::{Cut, FarStop, StopCommand};
+use device::schedule::{CallStop, Moment};
 use mem_link::command::{CommandName, Nth};
 use mem_link::schedule as link;
 use std::alloc::{AllocError, Global};
@@ -12,7 +12,7 @@ use std::alloc::{AllocError, Global};
 /// The schedule of these stops, where the replies to the APPENDs of these numbers come without APPENDUID.
 pub(crate) fn schedule_of(
     alloc: Global,
-    stops: &[LinkStop],
+    stops: &[FarStop],
     mutes: Vec<u64>,
 ) -> Result<link::Schedule, AllocError> {
     let mut all = Vec::with_capacity(alloc, stops.len())?;
@@ -25,21 +25,21 @@ pub(crate) fn schedule_of(
 }
 
 /// A stop as a link says it. There are no parts of a command.
-fn stop_of(stop: LinkStop) -> Option<link::LinkStop> {
+fn stop_of(stop: FarStop) -> Option<link::LinkStop> {
     match stop {
-        LinkStop::Command(stop) => command_stop(stop),
-        LinkStop::Append(append, Cut::Reply(bytes)) => Some(link::LinkStop::InReply {
+        FarStop::Command(stop) => command_stop(stop),
+        FarStop::Append(append, Cut::Reply(bytes)) => Some(link::LinkStop::InReply {
             append,
             bytes,
         }),
-        LinkStop::Append(append, Cut::Send(octets)) => Some(link::LinkStop::InLiteral {
+        FarStop::Append(append, Cut::Send(octets)) => Some(link::LinkStop::InLiteral {
             append,
             octets,
         }),
     }
 }
 
-fn command_stop(stop: Stop<Command>) -> Option<link::LinkStop> {
+fn command_stop(stop: CallStop<StopCommand>) -> Option<link::LinkStop> {
     let command = Nth {
         name: name_of(stop.call),
         number: stop.number,
@@ -52,17 +52,17 @@ fn command_stop(stop: Stop<Command>) -> Option<link::LinkStop> {
 }
 
 /// The name of this command, as a link says it.
-pub(crate) fn name_of(command: Command) -> CommandName
+pub(crate) fn name_of(command: StopCommand) -> CommandName
     ensures { result ≡ name_of command }
 {
     match command {
-        Command::Capability => CommandName::Capability,
-        Command::Login => CommandName::Login,
-        Command::Enable => CommandName::Enable,
-        Command::Select => CommandName::Select,
-        Command::Fetch => CommandName::Fetch,
-        Command::Store => CommandName::Store,
-        Command::Expunge => CommandName::Expunge,
-        Command::Append => CommandName::Append,
+        StopCommand::Capability => CommandName::Capability,
+        StopCommand::Login => CommandName::Login,
+        StopCommand::Enable => CommandName::Enable,
+        StopCommand::Select => CommandName::Select,
+        StopCommand::Fetch => CommandName::Fetch,
+        StopCommand::Store => CommandName::Store,
+        StopCommand::Expunge => CommandName::Expunge,
+        StopCommand::Append => CommandName::Append,
     }
 }

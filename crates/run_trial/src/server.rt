@@ -5,14 +5,14 @@ ghost use Rattle.imap_client.specs.Seen.{HasMap};
 ghost use Rattle.imap_server.specs.Boxes.{AreServed};
 ghost use Rattle.run_trial.specs.Settings.{inbox_of};
 
-use crate::failure::Failure;
+use crate::failure::TrialError;
 use far_side::account::Account;
 use imap_link::link::Link;
 use imap_server::served::are_served;
 use imap_server::server::Server;
 use link_face::face_link::FaceLink;
 use mailcore::keywords::Keywords;
-use mailcore::mailbox::Mailbox;
+use mailcore::mailbox::StoredMailbox;
 use mailcore::mailbox_name::MailboxName;
 use mem_link::loop_link::LoopLink;
 use mem_link::mem_link::MemLink;
@@ -30,9 +30,9 @@ pub(crate) const MAILBOX: &[u8] = b"INBOX";
 /// A server with this mailbox, as its INBOX, and with this map of keywords. `NoWorld`: it has a message that cannot be sent.
 pub(crate) fn server_with(
     alloc: Global,
-    far: Mailbox,
+    far: StoredMailbox,
     keywords: Keywords,
-) -> Result<Server, Failure>
+) -> Result<Server, TrialError>
     ensures served { IfOk result (λ server. AreServed server.server.mailboxes) }
     ensures inbox { IfOk result (λ server. server.server.mailboxes ≡ inbox_of far) }
     ensures letters { IfOk result (λ server. HasMap keywords server.server) }
@@ -42,7 +42,7 @@ pub(crate) fn server_with(
     let mut mailboxes = Vec::new(alloc);
     mailboxes.push(inbox)?;
     if !are_served(&mailboxes) {
-        return Err(Failure::NoWorld);
+        return Err(TrialError::NoWorld);
     }
     let user = Vec::from_slice(alloc, USER)?;
     let password = Vec::from_slice(alloc, PASSWORD)?;

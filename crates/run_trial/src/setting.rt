@@ -6,18 +6,18 @@ ghost use Rattle.imap_server.specs.Boxes.{AreServed};
 ghost use Rattle.run_trial.specs.Worlds.{FitsWords, world_of};
 ghost use Rattle.run_trial.specs.Settings.{IsSettingOf, inbox_of};
 
-use crate::arrival::Arrivals;
-use crate::failure::Failure;
+use crate::arrival::TrialArrivals;
+use crate::failure::TrialError;
 use crate::folder::folder_with;
 use crate::schedule::schedule_of;
 use crate::server::server_with;
 use crate::shelf::shelf_with;
-use crate::stop::LinkStop;
-use crate::trial::{Course, Trial};
+use crate::stop::FarStop;
+use crate::trial::{Trial, TrialCourse};
 use book::mem_shelf::MemShelf;
 use imap_server::server::Server;
 use mailcore::keywords::Keywords;
-use mailcore::mailbox::Mailbox;
+use mailcore::mailbox::StoredMailbox;
 use maildir::mem_folder::MemFolder;
 use mem_link::schedule::Schedule;
 use rules::options::Options;
@@ -27,7 +27,7 @@ use worlds::world::World;
 
 /// What the run of a trial is made over, before there is a link to the server.
 #[derive(Drop)]
-pub struct Setting {
+pub struct TrialSetting {
     /// The server with the far mailbox, and where the link to it stops.
     pub far: FarSetting,
     /// The folder of the near mailbox.
@@ -37,7 +37,7 @@ pub struct Setting {
     /// The state that the shelf holds.
     pub state: SyncState,
     /// What others add meanwhile.
-    pub arrivals: Arrivals,
+    pub arrivals: TrialArrivals,
     /// What the run may do, and its map of keywords, which is the server's.
     pub options: Options,
 }
@@ -55,11 +55,11 @@ pub struct FarSetting {
 /// without APPENDUID.
 fn far_with(
     alloc: Global,
-    far: Mailbox,
+    far: StoredMailbox,
     keywords: Keywords,
-    stops: &[LinkStop],
+    stops: &[FarStop],
     mutes: Vec<u64>,
-) -> Result<FarSetting, Failure>
+) -> Result<FarSetting, TrialError>
     ensures served { IfOk result (λ far. AreServed far.server.server.mailboxes) }
     ensures inbox { IfOk result (λ setting. setting.server.server.mailboxes ≡ inbox_of far) }
     ensures letters { IfOk result (λ setting. HasMap keywords setting.server.server) }
@@ -71,7 +71,7 @@ fn far_with(
 
 /// The setting of a trial, from its world and its course. `NoWorld`: it has a message that cannot be sent. This does not come of a trial
 /// that was read.
-pub fn setting_of(alloc: Global, trial: Trial) -> Result<Setting, Failure>
+pub fn setting_of(alloc: Global, trial: Trial) -> Result<TrialSetting, TrialError>
     ensures served { IfOk result (λ setting. AreServed setting.far.server.server.mailboxes) }
     ensures letters { IfOk result (λ setting. HasMap setting.options.keywords setting.far.server.server) }
     ensures holds { IfOk result (λ setting. IsSettingOf trial setting) }
@@ -86,7 +86,7 @@ pub fn setting_of(alloc: Global, trial: Trial) -> Result<Setting, Failure>
         state,
         options,
     } = world;
-    let Course {
+    let TrialCourse {
         journal,
         stops,
         mutes,
@@ -106,7 +106,7 @@ pub fn setting_of(alloc: Global, trial: Trial) -> Result<Setting, Failure>
     let far = far_with(alloc, far, keywords, &stops.link, mutes);
     let folder = folder_with(alloc, near, waiting, stops.folder, &options.keywords);
     let shelf = shelf_with(alloc, &state, journal, stops.shelf);
-    Ok(Setting {
+    Ok(TrialSetting {
         far: far?,
         folder: folder?,
         shelf: shelf?,

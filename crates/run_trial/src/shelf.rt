@@ -7,8 +7,8 @@ ghost use Rattle.book.specs.Shelves.{bytes_of};
 ghost use Rattle.run_trial.specs.Shelves.{shelf_of, state_file};
 
 use book::mem_shelf::{MemShelf, ShelfCall};
-use book::shelf::File;
-use device::schedule::Stop;
+use book::shelf::ShelfFile;
+use device::schedule::CallStop;
 use rules::state::SyncState;
 use std::alloc::Global;
 use sync_state::fault::BookFault;
@@ -19,7 +19,7 @@ pub fn shelf_with(
     alloc: Global,
     state: &SyncState,
     journal: Option<Vec<u8>>,
-    schedule: Vec<Stop<ShelfCall>>,
+    schedule: Vec<CallStop<ShelfCall>>,
 ) -> Result<MemShelf, BookFault>
     ensures { IfOk result (λ shelf. seen_of shelf ≡ record {
       stored = shelf_of state.now (bytes_of journal);
@@ -29,8 +29,8 @@ pub fn shelf_with(
 {
     let text = state_file(alloc, state)?;
     let mut shelf = MemShelf::new(alloc, schedule);
-    shelf.put(File::State, text);
-    shelf.put(File::Journal, journal);
+    shelf.put(ShelfFile::State, text);
+    shelf.put(ShelfFile::Journal, journal);
     Ok(shelf)
 }
 
@@ -51,7 +51,7 @@ fn state_file(alloc: Global, state: &SyncState) -> Result<Option<Vec<u8>>, BookF
 pub fn state_in(alloc: Global, shelf: &MemShelf) -> Result<SyncState, BookFault>
     ensures { IfOk result (HoldsState (files_of shelf.now).state) }
 {
-    match shelf.bytes(File::State) {
+    match shelf.bytes(ShelfFile::State) {
         Some(text) => read_state_text(alloc, text),
         None => Ok(SyncState::none(alloc)),
     }

@@ -13,14 +13,14 @@ ghost use Rattle.run_trial.specs.Calls.{command_word, folder_verb, folder_word, 
 
 use crate::count::{read_count, read_ordinal};
 use book::mem_shelf::ShelfCall;
-use device::schedule::{Moment, Stop};
+use device::schedule::{CallStop, Moment};
 use maildir::mem_folder::FolderCall;
 use std::alloc::{AllocError, Global};
 use worlds::words::split_word;
 
 /// A command of IMAP that a trial can stop (RFC 9051, sections 6.1 to 6.4). Of the UID commands the name after `UID` is reported.
 #[derive(Clone, Copy, PartialEq, Eq)]
-pub enum Command {
+pub enum StopCommand {
     /// CAPABILITY.
     Capability,
     /// LOGIN.
@@ -50,9 +50,9 @@ pub enum Cut {
 
 /// A stop of the far mailbox's connection.
 #[derive(Clone, Copy, PartialEq, Eq)]
-pub enum LinkStop {
+pub enum FarStop {
     /// Of a command: the server does not see it, or does it and no byte of its replies comes back.
-    Command(Stop<Command>),
+    Command(CallStop<StopCommand>),
     /// Of the APPEND of this number, counted from 1 over the trial.
     Append(u64, Cut),
 }
@@ -61,19 +61,19 @@ pub enum LinkStop {
 #[derive(Clone, Copy, PartialEq, Eq)]
 pub enum DeviceStop {
     /// Of the near mailbox's folder.
-    Folder(Stop<FolderCall>),
+    Folder(CallStop<FolderCall>),
     /// Of the shelf with the state and the journal.
-    Shelf(Stop<ShelfCall>),
+    Shelf(CallStop<ShelfCall>),
     /// Of the connection to the far mailbox.
-    Link(LinkStop),
+    Link(FarStop),
 }
 
-impl LinkStop {
+impl FarStop {
     /// The command that it stops, and which one of its name.
-    fn command(&self) -> (Command, u64) {
+    fn command(&self) -> (StopCommand, u64) {
         match *self {
-            LinkStop::Command(stop) => (stop.call, stop.number),
-            LinkStop::Append(number, _) => (Command::Append, number),
+            FarStop::Command(stop) => (stop.call, stop.number),
+            FarStop::Append(number, _) => (StopCommand::Append, number),
         }
     }
 }
@@ -83,11 +83,11 @@ impl LinkStop {
 #[derive(Drop)]
 pub struct Stops {
     /// Those of the near mailbox's folder.
-    pub folder: Vec<Stop<FolderCall>>,
+    pub folder: Vec<CallStop<FolderCall>>,
     /// Those of the shelf.
-    pub shelf: Vec<Stop<ShelfCall>>,
+    pub shelf: Vec<CallStop<ShelfCall>>,
     /// Those of the connection to the far mailbox.
-    pub link: Vec<LinkStop>,
+    pub link: Vec<FarStop>,
 }
 
 impl Stops {
@@ -112,7 +112,7 @@ impl Stops {
     }
 
     /// Whether this command is stopped.
-    fn is_stopped(&self, command: (Command, u64)) -> bool {
+    fn is_stopped(&self, command: (StopCommand, u64)) -> bool {
         self.link.iter().any(|stop| stop.command() == command)
     }
 }
@@ -150,10 +150,10 @@ impl<'a> Halt<'a> {
     }
 
     /// This stop, of a call of some device.
-    pub fn of<C>(&self, call: C) -> Stop<C>
+    pub fn of<C>(&self, call: C) -> CallStop<C>
         ensures { result ≡ record { call = call; number = self.now.number; moment = self.now.moment } }
     {
-        Stop {
+        CallStop {
             call,
             number: self.number,
             moment: self.moment,
@@ -176,7 +176,7 @@ impl<'a> Halt<'a> {
             return Some(DeviceStop::Folder(self.of(call)));
         }
         let command = command_of(self.call)?;
-        Some(DeviceStop::Link(LinkStop::Command(self.of(command))))
+        Some(DeviceStop::Link(FarStop::Command(self.of(command))))
     }
 }
 
@@ -196,7 +196,7 @@ pub fn read_cut(text: &[u8]) -> Option<DeviceStop> {
         b"send" => Cut::Send(bytes),
         _ => return None,
     };
-    Some(DeviceStop::Link(LinkStop::Append(number, cut)))
+    Some(DeviceStop::Link(FarStop::Append(number, cut)))
 }
 
 /// The call of the near mailbox's folder that has this name.
@@ -240,18 +240,18 @@ fn shelf_verb(verb: &[u8]) -> Option<ShelfCall>
 }
 
 /// The command that has this name.
-pub fn command_of(name: &[u8]) -> Option<Command>
+pub fn command_of(name: &[u8]) -> Option<StopCommand>
     ensures { IfSome result (λ command. command_word command ≡ name.now) }
 {
     match name {
-        b"CAPABILITY" => Some(Command::Capability),
-        b"LOGIN" => Some(Command::Login),
-        b"ENABLE" => Some(Command::Enable),
-        b"SELECT" => Some(Command::Select),
-        b"FETCH" => Some(Command::Fetch),
-        b"STORE" => Some(Command::Store),
-        b"EXPUNGE" => Some(Command::Expunge),
-        b"APPEND" => Some(Command::Append),
+        b"CAPABILITY" => Some(StopCommand::Capability),
+        b"LOGIN" => Some(StopCommand::Login),
+        b"ENABLE" => Some(StopCommand::Enable),
+        b"SELECT" => Some(StopCommand::Select),
+        b"FETCH" => Some(StopCommand::Fetch),
+        b"STORE" => Some(StopCommand::Store),
+        b"EXPUNGE" => Some(StopCommand::Expunge),
+        b"APPEND" => Some(StopCommand::Append),
         _ => None,
     }
 }

@@ -2,7 +2,7 @@
 
 ghost use Rattle.std.specs.Prelude.{◌<◌};
 
-use crate::arrival::Arrivals;
+use crate::arrival::TrialArrivals;
 use crate::stop::Stops;
 use worlds::world::World;
 
@@ -12,12 +12,12 @@ pub struct Trial {
     /// The world before the run.
     pub world: World,
     /// What else it says.
-    pub course: Course,
+    pub course: TrialCourse,
 }
 
 /// What a trial says beside its world.
 #[derive(Drop)]
-pub struct Course {
+pub struct TrialCourse {
     /// How many attempts the run has, at least 1. 4294967295 stands for greater numbers too.
     pub tries: u32,
     /// The bytes of the journal before the run, if there is one.
@@ -27,5 +27,5 @@ pub struct Course {
     /// The APPENDs whose replies come without APPENDUID, each by its number, counted from 1 over the trial. That is no stop.
     pub mutes: Vec<u64>,
     /// What others add meanwhile.
-    pub arrivals: Arrivals,
+    pub arrivals: TrialArrivals,
 }

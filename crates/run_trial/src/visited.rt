@@ -9,12 +9,12 @@ ghost use Rattle.run_trial.specs.Among.{AreKept, arrival_of};
 use crate::arrival::FarArrival;
 use crate::schedule::name_of;
 use crate::server::MAILBOX;
-use crate::setting::{FarSetting, Setting};
+use crate::setting::{FarSetting, TrialSetting};
 use book::mem_shelf::MemShelf;
 use mailcore::octets::Octets;
 use maildir::folder::Folder;
 use maildir::mem_folder::MemFolder;
-use maildir::visited_folder::{Arrival as NearArrival, VisitedFolder};
+use maildir::visited_folder::{ArrivingFile as NearArrival, VisitedFolder};
 use mem_link::arrivals::{Arrival, Arrivals};
 use mem_link::command::Nth;
 use rules::options::Options;
@@ -43,7 +43,7 @@ pub(crate) struct NearSetting<const MARKS: u32> {
 /// The setting, with what others add.
 pub(crate) fn visited<const MARKS: u32>(
     alloc: Global,
-    setting: Setting,
+    setting: TrialSetting,
 ) -> Result<VisitedSetting<MARKS>, AllocError>
     requires { AreServed setting.far.server.server.mailboxes }
     ensures served { IfOk result (λ v. AreServed v.far.server.server.mailboxes) }
@@ -54,7 +54,7 @@ pub(crate) fn visited<const MARKS: u32>(
     ensures near { IfOk result (λ v. (stored_in v.near.folder.folder ≡ stored_in setting.folder) × (v.near.folder.arrivals ≡ setting.arrivals.near)) }
     ensures kept { IfOk result (λ v. AreKept setting v.near.shelf v.near.state) }
 {
-    let Setting {
+    let TrialSetting {
         far,
         folder,
         shelf,

@@ -18,5 +18,5 @@ module _ {O : Type 0} (o : Ghosts O) (opening : Opening o.ours o.alone) (options
       → IfOk r (λ pass. o.honest new → AttemptStart opening options stream fixed (o.seen old).device → FindsAt o.ours (o.seen old).device pass)
       → IfOk r (λ pass. o.honest new → AttemptStart opening options stream fixed (o.seen old).device → NamesAt opening pass (o.seen old).device (o.seen new).device)
       → IfOk r (AttemptAnswer o opening options stream fixed old new)
-  attempt_answer (Ok pass) by_files results told found named = record { by_files = by_files; results = results; told = told; found = found; named = named }
-  attempt_answer (Err f) by_files results told found named = tt
+  attempt_answer (Ok pass) by_files results reported found named = record { by_files = by_files; results = results; reported = reported; found = found; named = named }
+  attempt_answer (Err f) by_files results reported found named = tt

@@ -13,7 +13,7 @@ use Rattle.book.proofs.KnownBooks.{book_known}
 use Rattle.outside.specs.declared.fault.OutsideFault.{OutsideFault}
 use Rattle.outside.specs.declared.fault.OutsideFault.TheVariants as out
 use Rattle.outside.specs.Arrivals.{Arrives}
-use Rattle.outside.specs.BookCalls.{TellsFiles}
+use Rattle.outside.specs.BookCalls.{ReportsFiles}
 use Rattle.outside.specs.Calls.{FromShelf, Seen, opened_again}
 use Rattle.outside.specs.Devices.{Device}
 use Rattle.outside.specs.GoingOn.{FilesGoOn, GoesOnTo}
@@ -28,12 +28,12 @@ use Rattle.runner.specs.declared.fault.RunFault.{RunFault}
 use Rattle.runner.specs.declared.pass.Pass.{Pass}
 use Rattle.runner.specs.declared.fault.RunFault.TheVariants as run
 use Rattle.runner.specs.Faults.{IsBeyond, IsCaused, IsLastRun, ReadsLastRun, Reasons, call_fault, stops_met}
-use Rattle.runner.specs.ChangedMaps.{TellsOtherMap}
-use Rattle.runner.specs.Parts.{IsStuck, Left, TellsMore}
+use Rattle.runner.specs.ChangedMaps.{ReportsOtherMap}
+use Rattle.runner.specs.Parts.{IsStuck, Left, ReportsMore}
 use Rattle.runner.specs.Answers.{Answers, Inputs, Moves, as_read, run_of}
-use Rattle.runner.specs.Attempts.{AnswersAt, AtOpening, HasNoNext, HasReached, IsReached, MetBefore, MetStops, Reopens, TellsNoNext, AttemptAt, failed_before, found_by}
-use Rattle.runner.specs.Validities.{IsKept, TellsChanged}
-use Rattle.runner.proofs.PartCalls.{AreReasons, TellsNoBook, broken_or_whole, caused_after, caused_told, more_after, more_none}
+use Rattle.runner.specs.Attempts.{AnswersAt, AtOpening, HasNoNext, HasReached, IsReached, MetBefore, MetStops, Reopens, ReportsNoNext, AttemptAt, failed_before, found_by}
+use Rattle.runner.specs.Validities.{IsKept, ReportsChanged}
+use Rattle.runner.proofs.PartCalls.{AreReasons, ReportsNoBook, broken_or_whole, caused_after, caused_reported, more_after, more_none}
 use Rattle.runner.proofs.Passes.{planned_state, run_of_state, unplanned_state}
 use Rattle.runner.proofs.Readings.{no_line, unread_left}
 use Rattle.runner.proofs.Validities.{changed_before, kept_arrives, kept_next, kept_read}
@@ -83,10 +83,10 @@ module _ {ours : List ℕ → Bool} {alone : Bool} (opening : Opening ours alone
       let t = run_of_state opened last e in
       rw is (omega (arith, r, t), now)
 
-  pub opening_left : (e : OutsideFault) (d m d' : Device) → AtOpening opening d → Arrives ours alone d m → d' ≡ m → TellsFiles e m.files → FromShelf e → TellsNoBook e × AtOpening opening d'
-  opening_left e d m d' k a is tells told =
+  pub opening_left : (e : OutsideFault) (d m d' : Device) → AtOpening opening d → Arrives ours alone d m → d' ≡ m → ReportsFiles e m.files → FromShelf e → ReportsNoBook e × AtOpening opening d'
+  opening_left e d m d' k a is states reported =
       let now = opening_arrives d m a k in
-      let left = unread_left opening e m d' (opening_underway m now) is tells told in
+      let left = unread_left opening e m d' (opening_underway m now) is states reported in
       (left.0, rw is now)
 
   -- ---- between attempts
@@ -111,14 +111,14 @@ fixed_tried {ours} {alone} opening fixed number d e t = subst (λ (x : Option �
 
 -- ---- what one attempt reports, by the files before it was fixed which run is made
 
-pub attempt_changed : (alone : Bool) (h1 h2 : Type 0) (a b c : Device) (side : Side) → (h2 → h1) → (h1 → IsKept alone a b) → TellsChanged h2 alone b c side → TellsChanged h2 alone a c side
-attempt_changed alone h1 h2 a b c side honest kept told = λ h s p held.
+pub attempt_changed : (alone : Bool) (h1 h2 : Type 0) (a b c : Device) (side : Side) → (h2 → h1) → (h1 → IsKept alone a b) → ReportsChanged h2 alone b c side → ReportsChanged h2 alone a c side
+attempt_changed alone h1 h2 a b c side honest kept reported = λ h s p held.
     let k = kept (honest h) in
-    let t = told h s p (subst (λ (f : Files). Holds f s p) (sym k.files) held) in
+    let t = reported h s p (subst (λ (f : Files). Holds f s p) (sym k.files) held) in
     (changed_before (as_read s p) side a b k.validities t.0, kept_next alone a b c k t.1)
 
-pub attempt_map : (now : Option Opened) (alone : Bool) (h1 h2 : Type 0) (keywords : List Keyword) (a b c : Device) → (h2 → h1) → (h1 → IsKept alone a b) → TellsOtherMap now h2 alone keywords b c → TellsOtherMap now h2 alone keywords a c
-attempt_map now alone h1 h2 keywords a b c honest kept told = (told.0, λ h. let t = told.1 h in (t.0, kept_next alone a b c (kept (honest h)) t.1))
+pub attempt_map : (now : Option Opened) (alone : Bool) (h1 h2 : Type 0) (keywords : List Keyword) (a b c : Device) → (h2 → h1) → (h1 → IsKept alone a b) → ReportsOtherMap now h2 alone keywords b c → ReportsOtherMap now h2 alone keywords a c
+attempt_map now alone h1 h2 keywords a b c honest kept reported = (reported.0, λ h. let t = reported.1 h in (t.0, kept_next alone a b c (kept (honest h)) t.1))
 
 pub attempt_answers : {ours : List ℕ → Bool} {alone : Bool} (opening : Opening ours alone) (h1 h2 : Type 0) (options : Options) (stream : Stream) (fixed : Option ℕ) (number : ℕ) (a b : Device) (before : Option ℕ) (r : Result Pass RunFault) → fixed ≡ Some number → (h2 → h1) → (h1 → IsKept alone a b)
     → (h1 → AttemptAt opening before a → AttemptAt opening fixed b)
@@ -139,7 +139,7 @@ kept_none alone d = record { files = refl; named = refl; validities = record { f
 
 -- ---- the greatest number
 
-no_next : (e : OutsideFault) → FromShelf e → TellsNoBook e → TellsNoNext (call_fault e)
+no_next : (e : OutsideFault) → FromShelf e → ReportsNoBook e → ReportsNoNext (call_fault e)
 no_next out.Stopped k t = tt
 no_next out.Refused k t = k
 no_next (out.Box side number) k t = k
@@ -185,8 +185,8 @@ module _ (ours : List ℕ → Bool) (alone : Bool) where
   pub next_read : (opened : Option Opened) (last : SyncState) (d m d' : Device) → state_of opened ≡ Some last → Arrives ours alone d m → d' ≡ m → IsHeld opened m → (s : SyncState) (p : Pending) → Holds d.files s p → (last.run ≡ s.run) × IsKept alone d d'
   next_read opened last d m d' e a is held s p h = (last_read opened last s p m e held (held_since d m a s p h), kept_read ours alone d m d' a is)
 
-  pub next_unread : (e : OutsideFault) (d m d' : Device) → Arrives ours alone d m → d' ≡ m → TellsFiles e m.files → FromShelf e → (s : SyncState) (p : Pending) → Holds d.files s p → TellsNoNext (call_fault e) × IsKept alone d d'
-  next_unread e d m d' a is tells told s p h = (no_next e told (no_line m.files s p e (held_since d m a s p h) told tells), kept_read ours alone d m d' a is)
+  pub next_unread : (e : OutsideFault) (d m d' : Device) → Arrives ours alone d m → d' ≡ m → ReportsFiles e m.files → FromShelf e → (s : SyncState) (p : Pending) → Holds d.files s p → ReportsNoNext (call_fault e) × IsKept alone d d'
+  next_unread e d m d' a is states reported s p h = (no_next e reported (no_line m.files s p e (held_since d m a s p h) reported states), kept_read ours alone d m d' a is)
 
 -- ---- counts
 
@@ -293,12 +293,12 @@ pub stuck_more : {T : Type 0} (n : ℕ) (start now s1 s2 : Seen) (r : Result T R
 stuck_more n start now s1 s2 r first e stuck l b = let k = stuck_first n start now s1 s2 r (omega (arith, l)) first e stuck b in k.1
 
 -- nothing that was reported is lost where the outside is opened again
-pub more_found : (n : ℕ) (start now s1 : Seen) → TellsMore start now → s1 ≡ found_by n now → TellsMore start s1
-more_found n start now s1 p e = more_after start now s1 p (more_none now s1 (ap (λ (s : Seen). s.told) e))
+pub more_found : (n : ℕ) (start now s1 : Seen) → ReportsMore start now → s1 ≡ found_by n now → ReportsMore start s1
+more_found n start now s1 p e = more_after start now s1 p (more_none now s1 (ap (λ (s : Seen). s.reported) e))
 
 -- a fault that is reported in one attempt is reported in all
-pub caused_since : {c : Reasons} (c' : Reasons) (h : Type 0) (a u : Device → Type 0) (f : RunFault) (s0 s1 s2 : Seen) → TellsMore s0 s1 → s0.appends ≤ s1.appends → (f ≡ run.Stopped → ⊥) → Left c h a u f s1 s2 → AreReasons c c' → IsCaused c' f s0 s2
-caused_since {c} c' h a u f s0 s1 s2 more appends other l k = caused_told c c' f s0 s2 k (caused_after c f s0 s1 s2 (λ is. absurd (other is)) more appends l.caused)
+pub caused_since : {c : Reasons} (c' : Reasons) (h : Type 0) (a u : Device → Type 0) (f : RunFault) (s0 s1 s2 : Seen) → ReportsMore s0 s1 → s0.appends ≤ s1.appends → (f ≡ run.Stopped → ⊥) → Left c h a u f s1 s2 → AreReasons c c' → IsCaused c' f s0 s2
+caused_since {c} c' h a u f s0 s1 s2 more appends other l k = caused_reported c c' f s0 s2 k (caused_after c f s0 s1 s2 (λ is. absurd (other is)) more appends l.caused)
 
 -- ---- a run that is fixed is not beyond the next one
 
@@ -331,14 +331,14 @@ never_beyond run d r b =
 
 -- a step that is reported as refused has its reason
 pub refused_for : {c : Reasons} (h : Type 0) (a u : Device → Type 0) (f : RunFault) (s0 s1 : Seen) (step : ℕ) → f ≡ run.Refused step → Left c h a u f s0 s1 → c.refused step
-refused_for {c} h a u f s0 s1 step is l = let told : IsCaused c (run.Refused step) s0 s1 = subst (λ (x : RunFault). IsCaused c x s0 s1) is l.caused in told.0
+refused_for {c} h a u f s0 s1 step is l = let reported : IsCaused c (run.Refused step) s0 s1 = subst (λ (x : RunFault). IsCaused c x s0 s1) is l.caused in reported.0
 
 -- ---- the greatest number, after some attempts
 
 pub greatest_since : {T : Type 0} (alone : Bool) (h : Type 0) (a b c d : Device) (r : Result T RunFault) (fixed now : Option ℕ) → (fixed ≡ None) × IsKept alone a b → c ≡ b → (s : SyncState) (p : Pending) → Holds a.files s p → s.run + 1 ≡ 2 ^ 64 → (fixed ≡ None → HasNoNext h alone c d r)
-    → (fixed ≡ None → h → (s : SyncState) (p : Pending) → Holds c.files s p → s.run + 1 ≡ 2 ^ 64 → now ≡ None) → h → (now ≡ None) × (IsErrAnd r TellsNoNext × IsKept alone a d)
-greatest_since alone h a b c d r fixed now k e s p held is tells unfixed honest =
+    → (fixed ≡ None → h → (s : SyncState) (p : Pending) → Holds c.files s p → s.run + 1 ≡ 2 ^ 64 → now ≡ None) → h → (now ≡ None) × (IsErrAnd r ReportsNoNext × IsKept alone a d)
+greatest_since alone h a b c d r fixed now k e s p held is states unfixed honest =
     let kept : IsKept alone a c = subst (λ (x : Device). IsKept alone a x) (sym e) k.1 in
     let here : Holds c.files s p = subst (λ (f : Files). Holds f s p) (sym kept.files) held in
-    let told = tells k.0 honest s p here is in
-    (unfixed k.0 honest s p here is, (told.0, kept_next alone a c d kept told.1))
+    let reported = states k.0 honest s p here is in
+    (unfixed k.0 honest s p here is, (reported.0, kept_next alone a c d kept reported.1))

@@ -16,7 +16,7 @@ use Rattle.book.specs.BookLogs.{begun}
 use Rattle.outside.specs.Arrivals.{Arrives}
 use Rattle.outside.specs.BookCalls.{OfBook}
 use Rattle.mailbox.specs.Operations.{ListsWithin}
-use Rattle.mailbox.proofs.Listed.{lists_since, told_most}
+use Rattle.mailbox.proofs.Listed.{lists_since, reported_most}
 use Rattle.outside.specs.BoxCalls.{Admits, AdmitsPart, ListsFar}
 use Rattle.outside.specs.Devices.{Device}
 use Rattle.outside.specs.Opened.{Opened, shown_far, turned, with_listing}
@@ -121,10 +121,10 @@ module _ {ours : List ℕ → Bool} {alone : Bool} (opening : Opening ours alone
   near_listed opened far near spared d m d' within old a f is l =
       let c = clear_arrives opened true d m a f.clear in
       let s = opening.world.state in
-      let told = f.lists.next in
-      let both = listed_with Have alone opening.world s far d m f.clear.grows c.grows (c.waited refl) told in
+      let reported = f.lists.next in
+      let both = listed_with Have alone opening.world s far d m f.clear.grows c.grows (c.waited refl) reported in
       let grows = both.0 in
-      let most = told_most alone opening.world.far.next far d.far told in
+      let most = reported_most alone opening.world.far.next far d.far reported in
       let here = listed_world s far.next d m in
       let shown : world_shown (with_listing m opened) ≡ here = both_shown opened s far.next d m f.earlier c.state f.last in
       let since : Since (once_listed opening here) (λ w. AreShown w far near × Listed ours alone opening.named w m) = record {

@@ -20,14 +20,14 @@ use Rattle.runner.specs.declared.fault.RunFault.TheVariants as run
 use Rattle.runner.specs.declared.pass.Settled.{Settled}
 use Rattle.runner.specs.Answers.{as_read}
 use Rattle.runner.specs.Attempts.{AnswersAt, AtOpening, ChangedLast, GoesOnOver, KeptLast, began_on}
-use Rattle.runner.specs.ChangedMaps.{TellsOtherMap}
+use Rattle.runner.specs.ChangedMaps.{ReportsOtherMap}
 use Rattle.runner.specs.Faults.{IsCaused, Reasons}
 use Rattle.runner.specs.Finding.{FindsAt}
 use Rattle.runner.specs.Naming.{NamesAt, OthersStand}
 use Rattle.runner.specs.Parts.{Left}
 use Rattle.runner.specs.Results.{Report}
 use Rattle.runner.specs.Settled.{IsSettled}
-use Rattle.runner.specs.Validities.{IsKept, TellsChanged}
+use Rattle.runner.specs.Validities.{IsKept, ReportsChanged}
 use Rattle.runner.proofs.Naming.{HasSpared, others_stand}
 use Rattle.runner.proofs.Passes.{over_alike}
 use Rattle.runner.proofs.Readings.{underway_files}
@@ -54,13 +54,13 @@ module _ {ours : List ℕ → Bool} {alone : Bool} (opening : Opening ours alone
   -- with an answer
   pub settled_so : (now : Option Opened) (options : Options) (settled : Settled) → AtOpening opening start.device → LastAttemptAt opening settled.stops start s1 s2 stream drawn → IsOver opening s2.device
       → AnswersAt (opening.world.state.run + 1) options settled.last s1.device drawn → Report opening now settled.last s2.device → FindsAt ours s1.device settled.last → NamesAt opening settled.last s1.device s2.device → IsSettled opening now options stream settled start s2
-  settled_so now options settled at b over answers told found named = record {
+  settled_so now options settled at b over answers reported found named = record {
     over = over;
     alike = λ nobody sound. over_alike opening s2.device nobody sound over;
     began = b.began;
     answers = subst (λ (d : Device). AnswersAt (opening.world.state.run + 1) options settled.last d b.began.drawn) (sym b.at)
         (subst (λ (s : Stream). AnswersAt (opening.world.state.run + 1) options settled.last s1.device s) (sym b.by) answers);
-    told = told;
+    reported = reported;
     found = subst (λ (d : Device). FindsAt ours d settled.last) (sym b.at) found;
     named = subst (λ (d : Device). NamesAt opening settled.last d s2.device) (sym b.at) named;
     others = λ s p held.
@@ -71,11 +71,11 @@ module _ {ours : List ℕ → Bool} {alone : Bool} (opening : Opening ours alone
 
   -- since a UIDVALIDITY has changed
   pub changed_last : {reasons : Reasons} (h : Type 0) (a u : Device → Type 0) (n tries : ℕ) (side : Side) (f : RunFault) → LastAttemptAt opening n start s1 s2 stream drawn → n < tries → f ≡ run.ValidityChanged side → h
-      → Left reasons h a u f s1 s2 → (reasons.changed side → TellsChanged h alone s1.device s2.device side) → ChangedLast opening tries side start s2 stream
-  changed_last {reasons} h a u n tries side f b few is honest l tells =
-      let told : TellsChanged h alone s1.device s2.device side = tells (subst (λ (x : RunFault). IsCaused reasons x s1 s2) is l.caused) in
+      → Left reasons h a u f s1 s2 → (reasons.changed side → ReportsChanged h alone s1.device s2.device side) → ChangedLast opening tries side start s2 stream
+  changed_last {reasons} h a u n tries side f b few is honest l states =
+      let reported : ReportsChanged h alone s1.device s2.device side = states (subst (λ (x : RunFault). IsCaused reasons x s1 s2) is l.caused) in
       let began = began_on b.began.reopens.since start.device in
-      let here : TellsChanged h alone began s2.device side = subst (λ (d : Device). TellsChanged h alone d s2.device side) (sym b.at) told in
+      let here : ReportsChanged h alone began s2.device side = subst (λ (d : Device). ReportsChanged h alone d s2.device side) (sym b.at) reported in
       let held = underway_files opening began b.began.underway in
       record {
         earlier = n;
@@ -87,7 +87,7 @@ module _ {ours : List ℕ → Bool} {alone : Bool} (opening : Opening ours alone
 
   -- since the map of keywords has
   pub kept_last : {reasons : Reasons} (h : Type 0) (a u : Device → Type 0) (n tries : ℕ) (now : Option Opened) (keywords : List Keyword) (f : RunFault) → LastAttemptAt opening n start s1 s2 stream drawn → n < tries → f ≡ run.KeywordsChanged → h
-      → Left reasons h a u f s1 s2 → (reasons.keywords → TellsOtherMap now h alone keywords s1.device s2.device) → KeptLast opening tries start s2 stream
-  kept_last {reasons} h a u n tries now keywords f b few is honest l tells =
-      let told : TellsOtherMap now h alone keywords s1.device s2.device = tells (subst (λ (x : RunFault). IsCaused reasons x s1 s2) is l.caused) in
-      record { earlier = n; few = few; began = b.began; kept = subst (λ (d : Device). IsKept alone d s2.device) (sym b.at) (told.1 honest).1 }
+      → Left reasons h a u f s1 s2 → (reasons.keywords → ReportsOtherMap now h alone keywords s1.device s2.device) → KeptLast opening tries start s2 stream
+  kept_last {reasons} h a u n tries now keywords f b few is honest l states =
+      let reported : ReportsOtherMap now h alone keywords s1.device s2.device = states (subst (λ (x : RunFault). IsCaused reasons x s1 s2) is l.caused) in
+      record { earlier = n; few = few; began = b.began; kept = subst (λ (d : Device). IsKept alone d s2.device) (sym b.at) (reported.1 honest).1 }

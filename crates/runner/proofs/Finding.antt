@@ -52,7 +52,7 @@ use Rattle.runner.specs.declared.performed.Performed.{Performed}
 use Rattle.runner.specs.declared.performed.StepResult.{StepResult}
 use Rattle.runner.specs.declared.performed.StepResult.TheVariants as did
 use Rattle.runner.specs.Answers.{as_read}
-use Rattle.runner.specs.Finding.{AreFoundSo, FindsAt, FindsBy, FindsSame, IsFoundSo, IsNew, OfSame, copy_at, copy_under, told_found}
+use Rattle.runner.specs.Finding.{AreFoundSo, FindsAt, FindsBy, FindsSame, IsFoundSo, IsNew, OfSame, copy_at, copy_under, reported_found}
 use Rattle.runner.specs.Going.{BeforeStep, CopiesUnder, HasLogged, log_at, logged_of, logs_of, next_at, plan_at, steps_of, version_at}
 use Rattle.runner.proofs.Stages.{stands_of}
 
@@ -163,11 +163,11 @@ module _ {ours : List ℕ → Bool} {alone : Bool} (opening : Opening ours alone
       (next_contained plan.steps log _ is) refl
 
   -- what is answered where it was looked for
-  pub seek_told : (dir : Direction) (mark : List ℕ) → CopiesUnder opened dir mark → (d m : Device) → Arrives ours alone d m → BeforeStep opening opened true d → (found : Option ℕ) → found ≡ marked_from mark (first_uid plan (target dir)) (box m (target dir))
+  pub seek_reported : (dir : Direction) (mark : List ℕ) → CopiesUnder opened dir mark → (d m : Device) → Arrives ours alone d m → BeforeStep opening opened true d → (found : Option ℕ) → found ≡ marked_from mark (first_uid plan (target dir)) (box m (target dir))
       → OfSame ours d (λ x. found ≡ copy_under plan dir mark x)
-  seek_told dir mark next d m a k found told = λ x same.
+  seek_reported dir mark next d m a k found reported = λ x same.
       let mine = ready_ours dir next.uid next.flags mark next.is true d k in
-      told ∙ same_arrives ours alone d m a mark (first_uid plan (target dir)) (target dir) mine ∙ same mark (first_uid plan (target dir)) (target dir) mine
+      reported ∙ same_arrives ours alone d m a mark (first_uid plan (target dir)) (target dir) mine ∙ same mark (first_uid plan (target dir)) (target dir) mine
 
   none_there : (dir : Direction) (uid flags : ℕ) (mark : List ℕ) → next_at opened ≡ Some (step.New dir uid flags mark) → (d : Device) → BeforeStep opening opened false d → marked_from mark (first_uid plan (target dir)) (box d (target dir)) ≡ None
   none_there dir uid flags mark is d k =
@@ -188,26 +188,26 @@ module _ {ours : List ℕ → Bool} {alone : Bool} (opening : Opening ours alone
 
   module _ (dir : Direction) (uid flags : ℕ) (mark : List ℕ) (is : next_at opened ≡ Some (step.New dir uid flags mark)) where
     -- a copy that was made, where none had been looked for
-    pub made_fresh : (r : Result StepResult RunFault) (h : Type 0) (d : Device) → IfOk r (λ x. told_found x ≡ None) → IfOk r (λ x. h → BeforeStep opening opened false d → OfSame ours d (λ y. told_found x ≡ copy_at plan (step.New dir uid flags mark) y))
+    pub made_fresh : (r : Result StepResult RunFault) (h : Type 0) (d : Device) → IfOk r (λ x. reported_found x ≡ None) → IfOk r (λ x. h → BeforeStep opening opened false d → OfSame ours d (λ y. reported_found x ≡ copy_at plan (step.New dir uid flags mark) y))
     made_fresh (Err e) h d made = tt
     made_fresh (Ok x) h d made = λ honest k y same.
         made ∙ sym (none_there dir uid flags mark is d k) ∙ same mark (first_uid plan (target dir)) (target dir) (ready_ours dir uid flags mark is false d k)
 
     -- one that was made, where none was found
-    pub made_sought : (r : Result StepResult RunFault) (h0 h1 : Type 0) (d : Device) → (h1 → h0) → IfOk r (λ x. told_found x ≡ None)
+    pub made_sought : (r : Result StepResult RunFault) (h0 h1 : Type 0) (d : Device) → (h1 → h0) → IfOk r (λ x. reported_found x ≡ None)
         → (h0 → BeforeStep opening opened true d → OfSame ours d (λ y. None ≡ copy_under plan dir mark y))
-        → IfOk r (λ x. h1 → BeforeStep opening opened true d → OfSame ours d (λ y. told_found x ≡ copy_at plan (step.New dir uid flags mark) y))
+        → IfOk r (λ x. h1 → BeforeStep opening opened true d → OfSame ours d (λ y. reported_found x ≡ copy_at plan (step.New dir uid flags mark) y))
     made_sought (Err e) h0 h1 d honest made none = tt
     made_sought (Ok x) h0 h1 d honest made none = λ h k y same. made ∙ none (honest h) k y same
 
 -- a step that copies nothing
-plain_found : (x : StepResult) → logged_of x ≡ Done → told_found x ≡ None
+plain_found : (x : StepResult) → logged_of x ≡ Done → reported_found x ≡ None
 plain_found (did.Made copy) e = refl
 plain_found (did.Found copy) e = cc
 plain_found did.Void e = refl
 plain_found did.Plain e = refl
 
-pub plain_so : (ours : List ℕ → Bool) (r : Result StepResult RunFault) (h from : Type 0) (d : Device) → IfOk r (λ x. logged_of x ≡ Done) → IfOk r (λ x. h → from → OfSame ours d (λ y. told_found x ≡ None))
+pub plain_so : (ours : List ℕ → Bool) (r : Result StepResult RunFault) (h from : Type 0) (d : Device) → IfOk r (λ x. logged_of x ≡ Done) → IfOk r (λ x. h → from → OfSame ours d (λ y. reported_found x ≡ None))
 plain_so ours (Err e) h from d k = tt
 plain_so ours (Ok x) h from d k = λ honest at y same. plain_found x k
 

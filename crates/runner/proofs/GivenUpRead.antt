@@ -20,7 +20,7 @@ use Rattle.runner.specs.Validities.{BothSame, HasSame, IsSame, plan_validity, re
 use Rattle.runner.specs.Faults.{RefusedAt}
 use Rattle.runner.specs.Parts.{InStep}
 use Rattle.runner.proofs.PartCalls.{AreReasons}
-use Rattle.runner.proofs.StepParts.{steps_told}
+use Rattle.runner.proofs.StepParts.{steps_reported}
 use Rattle.runner.specs.GivingUp.{GivesUpRead, GivesUpSo, HoldsLeft, HoldsLeftOf, InLook, IsGivenUp, IsGivenUpRead, KeepsBoxes, LeavesRead, LosesBy, StillPending}
 use Rattle.runner.proofs.Finding.{same_then}
 use Rattle.book.proofs.KnownBooks.{book_known}
@@ -145,7 +145,7 @@ number_held (Some o) s w d m step held same h is =
 
 -- a refusal while a copy is sought or logged is of the step of this number
 pub in_look : (number : ℕ) (opened : Option Opened) (honest from : Type 0) (d : Device) → AreReasons (InStep number opened honest from d) (InLook number)
-in_look number opened honest from d = steps_told (λ step. (step ≡ number) × (honest → from → RefusedAt (number_at opened) d)) (InLook number) (λ step k. k.0)
+in_look number opened honest from d = steps_reported (λ step. (step ≡ number) × (honest → from → RefusedAt (number_at opened) d)) (InLook number) (λ step k. k.0)
 
 -- what is ready has the same number
 pub ready_number : (opened : Option Opened) → number_at (ready opened) ≡ number_at opened

@@ -14,7 +14,7 @@ pub mod Begun
 pub mod Fitness
 pub mod PlanFacts
 pub mod Passes
-pub mod Told
+pub mod Reported
 pub mod Attempts
 pub mod Reopening
 pub mod Ends
@@ -24,7 +24,7 @@ pub mod Listings
 pub mod Naming
 pub mod GivingUp
 pub mod GivenUpRead
-pub mod PassTells
+pub mod PassReports
 pub mod StageLemmas
 pub mod AttemptLemmas
 pub mod Sourced

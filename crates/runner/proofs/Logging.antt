@@ -28,7 +28,7 @@ use Rattle.run_states.specs.Plans.{next_of}
 use Rattle.run_states.proofs.Moves.{midway_filed}
 use Rattle.runner.specs.Going.{AfterStep, BeforeStep, FitsNext, HasLogged, HasUntorn, IsGoing, IsUntorn, log_at, next_at, no_journal, number_at, plan_at, version_at, version_in}
 use Rattle.runner.proofs.FreeCopies.{copy_is_free}
-use Rattle.runner.proofs.PartCalls.{TellsNoBook}
+use Rattle.runner.proofs.PartCalls.{ReportsNoBook}
 use Rattle.runner.proofs.Stages.{done_arrives, done_underway, left_by, moment_map, planned, ready_underway}
 
 fits_at : (steps : List Step) (log : List Logged) (logged : Logged) → FitsNext (next_of steps log) logged → FitsAt steps (length log) logged
@@ -38,7 +38,7 @@ fits_at (s ∷ ss) (r ∷ rs) logged h = fits_at ss rs logged h
 
 -- logging a step is never refused
 pub never_refused : (opened : Option Opened) (logged : Logged) (e : OutsideFault) → FromLog opened logged e → e ≡ out.Refused → ⊥
-never_refused opened logged e told is = subst (λ (x : OutsideFault). FromLog opened logged x) is told
+never_refused opened logged e reported is = subst (λ (x : OutsideFault). FromLog opened logged x) is reported
 
 pub takes_log : (opened : Option Opened) (number : ℕ) (logged : Logged) → HasUntorn opened → number ≡ number_at opened → FitsNext (next_at opened) logged → TakesLog opened number logged
 takes_log None number logged g n f = g
@@ -116,13 +116,13 @@ module _ {ours : List ℕ → Bool} {alone : Bool} (opening : Opening ours alone
       taken_free opened logged s.world.state g.untorn (k.state ∙ ap (λ (x : SyncState). Some x) (sym s.grows.state)) taken free
 
   -- whatever a fault leaves
-  pub log_left : (e : OutsideFault) (d m d' : Device) → IsGoing opened → Arrives ours alone d m → AfterStep opening opened logged d → FromLog opened logged e → LeavesBy {T = Unit {0}} (λ _. OfBook (λ p. Turns p (logged_more p logged)) opened) (OfBook (λ p. TurnsHalf p (torn p)) opened) e m d' → TellsNoBook e × Underway opening d'
-  log_left e d m d' g a at told l = (tells e told, left_by (Underway opening) _ _ e m d' l (done_underway opening opened logged m (done_arrives opening opened logged d m a at)) (half_underway d m d' g a at) (λ x. made_underway d m d' g a at))
+  pub log_left : (e : OutsideFault) (d m d' : Device) → IsGoing opened → Arrives ours alone d m → AfterStep opening opened logged d → FromLog opened logged e → LeavesBy {T = Unit {0}} (λ _. OfBook (λ p. Turns p (logged_more p logged)) opened) (OfBook (λ p. TurnsHalf p (torn p)) opened) e m d' → ReportsNoBook e × Underway opening d'
+  log_left e d m d' g a at reported l = (states e reported, left_by (Underway opening) _ _ e m d' l (done_underway opening opened logged m (done_arrives opening opened logged d m a at)) (half_underway d m d' g a at) (λ x. made_underway d m d' g a at))
     where
-      tells : (e : OutsideFault) → FromLog opened logged e → TellsNoBook e
-      tells out.Stopped t = tt
-      tells out.Refused t = tt
-      tells (out.Box side number) t = tt
-      tells (out.BadState line) t = never_taken d m g a at t.1
-      tells (out.BadJournal line) t = t
-      tells out.NoMemory t = tt
+      states : (e : OutsideFault) → FromLog opened logged e → ReportsNoBook e
+      states out.Stopped t = tt
+      states out.Refused t = tt
+      states (out.Box side number) t = tt
+      states (out.BadState line) t = never_taken d m g a at t.1
+      states (out.BadJournal line) t = t
+      states out.NoMemory t = tt

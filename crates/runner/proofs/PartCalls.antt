@@ -7,7 +7,7 @@ use Rattle.sync_state.specs.declared.journal.Logged.{Logged}
 use Rattle.outside.specs.declared.fault.OutsideFault.{OutsideFault}
 use Rattle.outside.specs.declared.fault.OutsideFault.TheVariants as out
 use Rattle.outside.specs.BookCalls.{FromLog}
-use Rattle.outside.specs.Calls.{Call, FromBook, FromBox, FromOpening, FromShelf, IsLast, Seen, stops_told}
+use Rattle.outside.specs.Calls.{Call, FromBook, FromBox, FromOpening, FromShelf, IsLast, Seen, stops_reported}
 use Rattle.outside.specs.Devices.{Device}
 use Rattle.outside.specs.GoingOn.{GoesOn}
 use Rattle.outside.proofs.GoingOn.{goes_after, stays}
@@ -16,20 +16,20 @@ use Rattle.runner.specs.declared.fault.RunFault.{RunFault}
 use Rattle.runner.specs.declared.fault.RunFault.TheVariants as run
 use Rattle.runner.specs.Going.{number_at}
 use Rattle.runner.specs.Faults.{IsCaused, IsLost, LeavesRun, Reasons, RefusedAt, call_fault, step_fault, stops_met}
-use Rattle.runner.specs.Parts.{InStep, Left, Never, NoLess, PartOr, Passed, TellsMore}
+use Rattle.runner.specs.Parts.{InStep, Left, Never, NoLess, PartOr, Passed, ReportsMore}
 
 -- ---- a bad line of the state or the journal
 
 -- a fault that reports nothing of the state or the journal
-abbrev pub TellsNoBook : OutsideFault → Type 0
-TellsNoBook out.Stopped = Unit {0}
-TellsNoBook out.Refused = Unit {0}
-TellsNoBook (out.Box side number) = Unit {0}
-TellsNoBook (out.BadState line) = ⊥
-TellsNoBook (out.BadJournal line) = ⊥
-TellsNoBook out.NoMemory = Unit {0}
+abbrev pub ReportsNoBook : OutsideFault → Type 0
+ReportsNoBook out.Stopped = Unit {0}
+ReportsNoBook out.Refused = Unit {0}
+ReportsNoBook (out.Box side number) = Unit {0}
+ReportsNoBook (out.BadState line) = ⊥
+ReportsNoBook (out.BadJournal line) = ⊥
+ReportsNoBook out.NoMemory = Unit {0}
 
-pub from_box : (e : OutsideFault) → FromBox e → TellsNoBook e
+pub from_box : (e : OutsideFault) → FromBox e → ReportsNoBook e
 from_box out.Stopped h = tt
 from_box out.Refused h = tt
 from_box (out.Box side number) h = tt
@@ -37,7 +37,7 @@ from_box (out.BadState line) h = h
 from_box (out.BadJournal line) h = h
 from_box out.NoMemory h = tt
 
-pub from_book : (e : OutsideFault) → FromBook e → TellsNoBook e
+pub from_book : (e : OutsideFault) → FromBook e → ReportsNoBook e
 from_book out.Stopped h = tt
 from_book out.Refused h = tt
 from_book (out.Box side number) h = tt
@@ -50,16 +50,16 @@ pub record HasLine (reasons : Reasons) (e : OutsideFault) : Type 0 where
   pub state : (line : ℕ) → e ≡ out.BadState line → (line ≡ 0) ⊎ reasons.unread e
   pub journal : (line : ℕ) → e ≡ out.BadJournal line → reasons.unread e
 
-none_bad : {reasons : Reasons} (e : OutsideFault) → TellsNoBook e → HasLine reasons e
+none_bad : {reasons : Reasons} (e : OutsideFault) → ReportsNoBook e → HasLine reasons e
 none_bad e t = record {
-  state = λ line is. absurd (subst (λ (x : OutsideFault). TellsNoBook x) is t);
-  journal = λ line is. absurd (subst (λ (x : OutsideFault). TellsNoBook x) is t);
+  state = λ line is. absurd (subst (λ (x : OutsideFault). ReportsNoBook x) is t);
+  journal = λ line is. absurd (subst (λ (x : OutsideFault). ReportsNoBook x) is t);
 }
 
 pub line_of_box : {reasons : Reasons} (e : OutsideFault) → FromBox e → HasLine reasons e
 line_of_box e h = none_bad e (from_box e h)
 
-pub from_opening : (e : OutsideFault) → FromOpening e → TellsNoBook e
+pub from_opening : (e : OutsideFault) → FromOpening e → ReportsNoBook e
 from_opening out.Stopped h = tt
 from_opening out.Refused h = tt
 from_opening (out.Box side number) h = tt
@@ -95,17 +95,17 @@ shelf_unrefused e h is = subst (λ (x : OutsideFault). FromShelf x) is h
 
 -- ---- what was reported
 
-pub more_none : (s0 s1 : Seen) → s1.told ≡ s0.told → TellsMore s0 s1
+pub more_none : (s0 s1 : Seen) → s1.reported ≡ s0.reported → ReportsMore s0 s1
 more_none s0 s1 e = record { since = []; now = e }
 
-pub more_after : (s0 s1 s2 : Seen) → TellsMore s0 s1 → TellsMore s1 s2 → TellsMore s0 s2
-more_after s0 s1 s2 p q = record { since = q.since ++ p.since; now = q.now ∙ ap (λ (l : List OutsideFault). q.since ++ l) p.now ∙ sym (append_assoc q.since p.since s0.told) }
+pub more_after : (s0 s1 s2 : Seen) → ReportsMore s0 s1 → ReportsMore s1 s2 → ReportsMore s0 s2
+more_after s0 s1 s2 p q = record { since = q.since ++ p.since; now = q.now ∙ ap (λ (l : List OutsideFault). q.since ++ l) p.now ∙ sym (append_assoc q.since p.since s0.reported) }
 
-pub last_after : (e : OutsideFault) (s0 s1 s2 : Seen) → TellsMore s0 s1 → IsLast e s1 s2 → IsLast e s0 s2
-last_after e s0 s1 s2 p q = record { since = q.since ++ p.since; now = q.now ∙ ap (λ (l : List OutsideFault). e ∷ (q.since ++ l)) p.now ∙ ap (λ (l : List OutsideFault). e ∷ l) (sym (append_assoc q.since p.since s0.told)) }
+pub last_after : (e : OutsideFault) (s0 s1 s2 : Seen) → ReportsMore s0 s1 → IsLast e s1 s2 → IsLast e s0 s2
+last_after e s0 s1 s2 p q = record { since = q.since ++ p.since; now = q.now ∙ ap (λ (l : List OutsideFault). e ∷ (q.since ++ l)) p.now ∙ ap (λ (l : List OutsideFault). e ∷ l) (sym (append_assoc q.since p.since s0.reported)) }
 
 -- what may be reported after more was reported
-pub caused_after : (reasons : Reasons) (f : RunFault) (s0 s1 s2 : Seen) → (f ≡ run.Stopped → (s1.is_broken ≡ true) ⊎ (s1.stops < s2.stops) → (s0.is_broken ≡ true) ⊎ (s0.stops < s2.stops)) → TellsMore s0 s1 → s0.appends ≤ s1.appends → IsCaused reasons f s1 s2 → IsCaused reasons f s0 s2
+pub caused_after : (reasons : Reasons) (f : RunFault) (s0 s1 s2 : Seen) → (f ≡ run.Stopped → (s1.is_broken ≡ true) ⊎ (s1.stops < s2.stops) → (s0.is_broken ≡ true) ⊎ (s0.stops < s2.stops)) → ReportsMore s0 s1 → s0.appends ≤ s1.appends → IsCaused reasons f s1 s2 → IsCaused reasons f s0 s2
 caused_after reasons run.Stopped s0 s1 s2 stop p a h = stop refl h
 caused_after reasons (run.Refused step) s0 s1 s2 stop p a h = (h.0, last_after out.Refused s0 s1 s2 p h.1)
 caused_after reasons (run.StoreFault side code) s0 s1 s2 stop p a (inl h) = inl (last_after (out.Box side code) s0 s1 s2 p h)
@@ -119,7 +119,7 @@ caused_after reasons run.MarksRepeat s0 s1 s2 stop p a h = h
 caused_after reasons run.NoMemory s0 s1 s2 stop p a h = tt
 caused_after reasons run.KeywordsChanged s0 s1 s2 stop p a h = h
 
-pub leaves_after : (u : Device → Type 0) (f : RunFault) (s0 s1 s2 : Seen) → TellsMore s0 s1 → LeavesRun u f s1 s2 → LeavesRun u f s0 s2
+pub leaves_after : (u : Device → Type 0) (f : RunFault) (s0 s1 s2 : Seen) → ReportsMore s0 s1 → LeavesRun u f s1 s2 → LeavesRun u f s0 s2
 leaves_after u run.Stopped s0 s1 s2 p k = k
 leaves_after u (run.Refused step) s0 s1 s2 p k = (k.0, last_after out.Refused s0 s1 s2 p k.1)
 leaves_after u (run.StoreFault side code) s0 s1 s2 p (k, h) = (k, last_after (out.Box side code) s0 s1 s2 p h)
@@ -157,7 +157,7 @@ called_by reasons out.NoMemory s0 s1 stop h t u = tt
 
 -- ---- how many stops it reports
 
-step_stops : (e : OutsideFault) (number : ℕ) → stops_met (step_fault e number) ≡ stops_told e
+step_stops : (e : OutsideFault) (number : ℕ) → stops_met (step_fault e number) ≡ stops_reported e
 step_stops out.Stopped number = refl
 step_stops out.Refused number = refl
 step_stops (out.Box side code) number = refl
@@ -165,7 +165,7 @@ step_stops (out.BadState line) number = refl
 step_stops (out.BadJournal line) number = refl
 step_stops out.NoMemory number = refl
 
-call_stops : (e : OutsideFault) → stops_met (call_fault e) ≡ stops_told e
+call_stops : (e : OutsideFault) → stops_met (call_fault e) ≡ stops_reported e
 call_stops out.Stopped = refl
 call_stops out.Refused = refl
 call_stops (out.Box side code) = refl
@@ -188,7 +188,7 @@ no_stop reasons run.KeywordsChanged s whole h = refl
 
 -- ---- what a fault leaves
 
-pub after_step : (u : Device → Type 0) (e : OutsideFault) (number : ℕ) (s0 s1 : Seen) → IsNoted e s0 s1 → TellsNoBook e → u s1.device → LeavesRun u (step_fault e number) s0 s1
+pub after_step : (u : Device → Type 0) (e : OutsideFault) (number : ℕ) (s0 s1 : Seen) → IsNoted e s0 s1 → ReportsNoBook e → u s1.device → LeavesRun u (step_fault e number) s0 s1
 after_step u out.Stopped number s0 s1 h t k = k
 after_step u out.Refused number s0 s1 h t k = (k, h (λ e. cc))
 after_step u (out.Box side code) number s0 s1 h t k = (k, h (λ e. cc))
@@ -196,7 +196,7 @@ after_step u (out.BadState line) number s0 s1 h t k = t
 after_step u (out.BadJournal line) number s0 s1 h t k = t
 after_step u out.NoMemory number s0 s1 h t k = k
 
-pub after_call : (u : Device → Type 0) (e : OutsideFault) (s0 s1 : Seen) → IsNoted e s0 s1 → (e ≡ out.Refused → ⊥) → TellsNoBook e → u s1.device → LeavesRun u (call_fault e) s0 s1
+pub after_call : (u : Device → Type 0) (e : OutsideFault) (s0 s1 : Seen) → IsNoted e s0 s1 → (e ≡ out.Refused → ⊥) → ReportsNoBook e → u s1.device → LeavesRun u (call_fault e) s0 s1
 after_call u out.Stopped s0 s1 h n t k = k
 after_call u out.Refused s0 s1 h n t k = absurd (n refl)
 after_call u (out.Box side code) s0 s1 h n t k = (k, h (λ e. cc))
@@ -225,35 +225,35 @@ broken_or_whole s = either s.is_broken
     either true = inl refl
     either false = inr refl
 
-module _ {T : Type 0} (honest : Type 0) (from : Device → Type 0) (others : Effect Device) (copies : T → ℕ) (tells : OutsideFault → Type 0) (does : T → Effect Device) (leaves : OutsideFault → Effect Device) (s0 s1 : Seen) where
+module _ {T : Type 0} (honest : Type 0) (from : Device → Type 0) (others : Effect Device) (copies : T → ℕ) (states : OutsideFault → Type 0) (does : T → Effect Device) (leaves : OutsideFault → Effect Device) (s0 s1 : Seen) where
   -- that went
   -- by what was reported where the outside has behaved as specified
-  pub passed_told : (to : Device → Type 0) (x : T) → Call honest others copies tells does leaves s0 s1 (Ok x) → (honest → (m : Device) → from s0.device → others s0.device m → does x m s1.device → to s1.device) → Passed honest from to (copies x) s0 s1
-  passed_told to x c f =
+  pub passed_reported : (to : Device → Type 0) (x : T) → Call honest others copies states does leaves s0 s1 (Ok x) → (honest → (m : Device) → from s0.device → others s0.device m → does x m s1.device → to s1.device) → Passed honest from to (copies x) s0 s1
+  passed_reported to x c f =
       let a = c.acts in
       let n = c.counts in
       record {
         is_whole = a.is_whole;
         stops = a.stops;
-        told = n.told;
+        reported = n.reported;
         appends = n.appends;
         reopened = n.reopened;
         goes_on = c.goes_on;
-        reaches = λ h at. let e = a.effect h in f h e.mid at e.before e.behind;
+        reaches = λ h at. let e = a.effect h in f h e.mid at e.before e.following;
       }
 
-  pub passed_call : (to : Device → Type 0) (x : T) → Call honest others copies tells does leaves s0 s1 (Ok x) → ((m : Device) → from s0.device → others s0.device m → does x m s1.device → to s1.device) → Passed honest from to (copies x) s0 s1
-  passed_call to x c f = passed_told to x c (λ h. f)
+  pub passed_call : (to : Device → Type 0) (x : T) → Call honest others copies states does leaves s0 s1 (Ok x) → ((m : Device) → from s0.device → others s0.device m → does x m s1.device → to s1.device) → Passed honest from to (copies x) s0 s1
+  passed_call to x c f = passed_reported to x c (λ h. f)
 
-  no_less : (e : OutsideFault) → Call honest others copies tells does leaves s0 s1 (Err e) → NoLess s0 s1
-  no_less e c = let a = c.acts in let n = c.counts in record { stops = a.no_less; told = more (broken_or_whole s0); appends = omega (arith, n.appends); reopened = n.reopened }
+  no_less : (e : OutsideFault) → Call honest others copies states does leaves s0 s1 (Err e) → NoLess s0 s1
+  no_less e c = let a = c.acts in let n = c.counts in record { stops = a.no_less; reported = more (broken_or_whole s0); appends = omega (arith, n.appends); reopened = n.reopened }
     where
-      more : (s0.is_broken ≡ true) ⊎ (s0.is_broken ≡ false) → TellsMore s0 s1
-      more (inl b) = let n = c.counts in more_none s0 s1 (ap (λ (s : Seen). s.told) (n.stuck b))
+      more : (s0.is_broken ≡ true) ⊎ (s0.is_broken ≡ false) → ReportsMore s0 s1
+      more (inl b) = let n = c.counts in more_none s0 s1 (ap (λ (s : Seen). s.reported) (n.stuck b))
       more (inr w) = let n = c.counts in record { since = e ∷ []; now = n.noted w }
 
   -- a fault that is no stop is noted: the outside had not failed before
-  noted : (e : OutsideFault) → Call honest others copies tells does leaves s0 s1 (Err e) → IsNoted e s0 s1
+  noted : (e : OutsideFault) → Call honest others copies states does leaves s0 s1 (Err e) → IsNoted e s0 s1
   noted e c other = last (broken_or_whole s0)
     where
       last : (s0.is_broken ≡ true) ⊎ (s0.is_broken ≡ false) → IsLast e s0 s1
@@ -261,54 +261,54 @@ module _ {T : Type 0} (honest : Type 0) (from : Device → Type 0) (others : Eff
       last (inr w) = let n = c.counts in record { since = []; now = n.noted w }
 
   -- that had a fault while a step was performed
-  pub left_step : (underway : Device → Type 0) (number : ℕ) (opened : Option Opened) (e : OutsideFault) → Call honest others copies tells does leaves s0 s1 (Err e) → (tells e → HasLine (InStep number opened honest (from s0.device) s1.device) e)
+  pub left_step : (underway : Device → Type 0) (number : ℕ) (opened : Option Opened) (e : OutsideFault) → Call honest others copies states does leaves s0 s1 (Err e) → (states e → HasLine (InStep number opened honest (from s0.device) s1.device) e)
       → ((m : Device) → from s0.device → others s0.device m → leaves out.Refused m s1.device → RefusedAt (number_at opened) s1.device)
-      → ((m : Device) → from s0.device → others s0.device m → leaves e m s1.device → tells e → TellsNoBook e × underway s1.device) → Left (InStep number opened honest (from s0.device) s1.device) honest from underway (step_fault e number) s0 s1
+      → ((m : Device) → from s0.device → others s0.device m → leaves e m s1.device → states e → ReportsNoBook e × underway s1.device) → Left (InStep number opened honest (from s0.device) s1.device) honest from underway (step_fault e number) s0 s1
   left_step underway number opened e c line held f =
       let a = c.acts in
       let n = c.counts in
-      let refused : e ≡ out.Refused → honest → from s0.device → RefusedAt (number_at opened) s1.device = (λ is h at. let k = a.left h in held k.mid at k.before (subst (λ (x : OutsideFault). leaves x k.mid s1.device) is k.behind)) in
+      let refused : e ≡ out.Refused → honest → from s0.device → RefusedAt (number_at opened) s1.device = (λ is h at. let k = a.left h in held k.mid at k.before (subst (λ (x : OutsideFault). leaves x k.mid s1.device) is k.following)) in
       record {
-        caused = caused_by _ e number s0 s1 a.counted (noted e c) (line n.told) (λ is. (refl, refused is));
+        caused = caused_by _ e number s0 s1 a.counted (noted e c) (line n.reported) (λ is. (refl, refused is));
         no_less = no_less e c;
         stops = λ whole. n.stopped whole ∙ ap (λ (k : ℕ). s0.stops + k) (sym (step_stops e number));
         goes_on = c.goes_on;
-        left = λ h at. let k = a.left h in let r = f k.mid at k.before k.behind n.told in after_step underway e number s0 s1 (noted e c) r.0 r.1;
+        left = λ h at. let k = a.left h in let r = f k.mid at k.before k.following n.reported in after_step underway e number s0 s1 (noted e c) r.0 r.1;
       }
 
   -- that is never refused, and had a fault while a step was performed
-  pub left_unrefused : (underway : Device → Type 0) (number : ℕ) (e : OutsideFault) → Call honest others copies tells does leaves s0 s1 (Err e) → (tells e → HasLine Never e) → (tells e → e ≡ out.Refused → ⊥)
-      → ((m : Device) → from s0.device → others s0.device m → leaves e m s1.device → tells e → TellsNoBook e × underway s1.device) → Left Never honest from underway (step_fault e number) s0 s1
+  pub left_unrefused : (underway : Device → Type 0) (number : ℕ) (e : OutsideFault) → Call honest others copies states does leaves s0 s1 (Err e) → (states e → HasLine Never e) → (states e → e ≡ out.Refused → ⊥)
+      → ((m : Device) → from s0.device → others s0.device m → leaves e m s1.device → states e → ReportsNoBook e × underway s1.device) → Left Never honest from underway (step_fault e number) s0 s1
   left_unrefused underway number e c line never f =
       let a = c.acts in
       let n = c.counts in
       record {
-        caused = caused_by Never e number s0 s1 a.counted (noted e c) (line n.told) (never n.told);
+        caused = caused_by Never e number s0 s1 a.counted (noted e c) (line n.reported) (never n.reported);
         no_less = no_less e c;
         stops = λ whole. n.stopped whole ∙ ap (λ (k : ℕ). s0.stops + k) (sym (step_stops e number));
         goes_on = c.goes_on;
-        left = λ h at. let k = a.left h in let r = f k.mid at k.before k.behind n.told in after_step underway e number s0 s1 (noted e c) r.0 r.1;
+        left = λ h at. let k = a.left h in let r = f k.mid at k.before k.following n.reported in after_step underway e number s0 s1 (noted e c) r.0 r.1;
       }
 
   -- that had one else
-  pub left_call : {reasons : Reasons} (underway : Device → Type 0) (e : OutsideFault) → (tells e → e ≡ out.Refused → ⊥) → Call honest others copies tells does leaves s0 s1 (Err e) → (tells e → HasLine reasons e) → ((m : Device) → from s0.device → others s0.device m → leaves e m s1.device → tells e → TellsNoBook e × underway s1.device) → Left reasons honest from underway (call_fault e) s0 s1
+  pub left_call : {reasons : Reasons} (underway : Device → Type 0) (e : OutsideFault) → (states e → e ≡ out.Refused → ⊥) → Call honest others copies states does leaves s0 s1 (Err e) → (states e → HasLine reasons e) → ((m : Device) → from s0.device → others s0.device m → leaves e m s1.device → states e → ReportsNoBook e × underway s1.device) → Left reasons honest from underway (call_fault e) s0 s1
   left_call underway e never c line f =
       let a = c.acts in
       let n = c.counts in
       record {
-        caused = called_by _ e s0 s1 a.counted (noted e c) (line n.told) (never n.told);
+        caused = called_by _ e s0 s1 a.counted (noted e c) (line n.reported) (never n.reported);
         no_less = no_less e c;
         stops = λ whole. n.stopped whole ∙ ap (λ (k : ℕ). s0.stops + k) (sym (call_stops e));
         goes_on = c.goes_on;
-        left = λ h at. let k = a.left h in let r = f k.mid at k.before k.behind n.told in after_call underway e s0 s1 (noted e c) (never n.told) r.0 r.1;
+        left = λ h at. let k = a.left h in let r = f k.mid at k.before k.following n.reported in after_call underway e s0 s1 (noted e c) (never n.reported) r.0 r.1;
       }
 
 -- on an outside that had failed before none goes, and it changes nothing
-module _ {T : Type 0} (honest : Type 0) (others : Effect Device) (copies : T → ℕ) (tells : OutsideFault → Type 0) (does : T → Effect Device) (leaves : OutsideFault → Effect Device) (s0 s1 : Seen) where
-  pub whole_call : (x : T) → Call honest others copies tells does leaves s0 s1 (Ok x) → s0.is_broken ≡ true → ⊥
+module _ {T : Type 0} (honest : Type 0) (others : Effect Device) (copies : T → ℕ) (states : OutsideFault → Type 0) (does : T → Effect Device) (leaves : OutsideFault → Effect Device) (s0 s1 : Seen) where
+  pub whole_call : (x : T) → Call honest others copies states does leaves s0 s1 (Ok x) → s0.is_broken ≡ true → ⊥
   whole_call x c e = let a = c.acts in let whole = a.was_whole in cc
 
-  pub stuck_call : (e : OutsideFault) → Call honest others copies tells does leaves s0 s1 (Err e) → s0.is_broken ≡ true → (call_fault e ≡ run.Stopped) × (s1 ≡ s0)
+  pub stuck_call : (e : OutsideFault) → Call honest others copies states does leaves s0 s1 (Err e) → s0.is_broken ≡ true → (call_fault e ≡ run.Stopped) × (s1 ≡ s0)
   stuck_call e c b = let a = c.acts in let n = c.counts in let k = a.stuck b in (ap call_fault k.0, n.stuck b)
 
 -- ---- what the files hold
@@ -320,7 +320,7 @@ goes_on reasons honest from underway copies reaches s0 s1 (Err e) p = p.goes_on
 -- ---- no call
 
 pub passed_none : (honest : Type 0) (from to : Device → Type 0) (s : Seen) → s.is_broken ≡ false → (from s.device → to s.device) → Passed honest from to 0 s s
-passed_none honest from to s whole f = record { is_whole = whole; stops = refl; told = refl; appends = omega arith; reopened = refl; goes_on = λ h. stays s.device s.device refl; reaches = λ h at. f at }
+passed_none honest from to s whole f = record { is_whole = whole; stops = refl; reported = refl; appends = omega arith; reopened = refl; goes_on = λ h. stays s.device s.device refl; reaches = λ h at. f at }
 
 -- ---- one part after another
 
@@ -328,7 +328,7 @@ pub passed_after : (h0 h1 : Type 0) (a b c : Device → Type 0) (m n : ℕ) (s0 
 passed_after h0 h1 a b c m n s0 s1 s2 honest p q = record {
   is_whole = q.is_whole;
   stops = q.stops ∙ p.stops;
-  told = q.told ∙ p.told;
+  reported = q.reported ∙ p.reported;
   appends = omega (arith, p.appends, q.appends);
   reopened = q.reopened ∙ p.reopened;
   goes_on = λ h. goes_after s0.device s1.device s2.device (p.goes_on (honest h)) (q.goes_on h);
@@ -341,10 +341,10 @@ stop_after s0 s1 s2 whole same is (inr more) = inr (omega (arith, same, more))
 
 pub left_after : {reasons : Reasons} (h0 h1 : Type 0) (a b underway : Device → Type 0) (m : ℕ) (f : RunFault) (s0 s1 s2 : Seen) → (h1 → h0) → Passed h0 a b m s0 s1 → Left reasons h1 b underway f s1 s2 → Left reasons h1 a underway f s0 s2
 left_after {reasons} h0 h1 a b underway m f s0 s1 s2 honest p q =
-    let more = more_none s0 s1 p.told in
+    let more = more_none s0 s1 p.reported in
     record {
       caused = caused_after reasons f s0 s1 s2 (stop_after s0 s1 s2 p.is_whole p.stops) more (omega (arith, p.appends)) q.caused;
-      no_less = let n = q.no_less in record { stops = omega (arith, p.stops, n.stops); told = more_after s0 s1 s2 more n.told; appends = omega (arith, p.appends, n.appends); reopened = n.reopened ∙ p.reopened };
+      no_less = let n = q.no_less in record { stops = omega (arith, p.stops, n.stops); reported = more_after s0 s1 s2 more n.reported; appends = omega (arith, p.appends, n.appends); reopened = n.reopened ∙ p.reopened };
       stops = λ _. q.stops p.is_whole ∙ ap (λ (k : ℕ). k + stops_met f) p.stops;
       goes_on = λ h. goes_after s0.device s1.device s2.device (p.goes_on (honest h)) (q.goes_on h);
       left = λ h at. leaves_after underway f s0 s1 s2 more (q.left h (p.reaches (honest h) at));
@@ -353,8 +353,8 @@ left_after {reasons} h0 h1 a b underway m f s0 s1 s2 honest p q =
 -- a fault of the run's own, after a part that went
 pub left_here : {reasons : Reasons} (h : Type 0) (a b underway : Device → Type 0) (m : ℕ) (f : RunFault) (s0 s1 : Seen) → Passed h a b m s0 s1 → IsCaused reasons f s1 s1 → (b s1.device → LeavesRun underway f s0 s1) → Left reasons h a underway f s0 s1
 left_here {reasons} h a b underway m f s0 s1 p caused g = record {
-  caused = caused_after reasons f s0 s1 s1 (stop_after s0 s1 s1 p.is_whole p.stops) (more_none s0 s1 p.told) (omega (arith, p.appends)) caused;
-  no_less = record { stops = omega (arith, p.stops); told = more_none s0 s1 p.told; appends = omega (arith, p.appends); reopened = p.reopened };
+  caused = caused_after reasons f s0 s1 s1 (stop_after s0 s1 s1 p.is_whole p.stops) (more_none s0 s1 p.reported) (omega (arith, p.appends)) caused;
+  no_less = record { stops = omega (arith, p.stops); reported = more_none s0 s1 p.reported; appends = omega (arith, p.appends); reopened = p.reopened };
   stops = λ _. omega (arith, p.stops, no_stop reasons f s1 p.is_whole caused);
   goes_on = p.goes_on;
   left = λ honest at. g (p.reaches honest at);
@@ -364,7 +364,7 @@ left_here {reasons} h a b underway m f s0 s1 p caused g = record {
 pub left_lost : {reasons : Reasons} (h : Type 0) (a underway : Device → Type 0) (m : ℕ) (s0 s1 : Seen) → 0 < m → Passed h a (λ d. ⊥) m s0 s1 → (side : Side) (number : ℕ) → ((s0.appends < s1.appends) → IsLost side number s0 s1) → Left reasons h a underway (run.StoreFault side number) s0 s1
 left_lost h a underway m s0 s1 some p side number lost = record {
   caused = inr (lost (omega (arith, some, p.appends)));
-  no_less = record { stops = omega (arith, p.stops); told = more_none s0 s1 p.told; appends = omega (arith, p.appends); reopened = p.reopened };
+  no_less = record { stops = omega (arith, p.stops); reported = more_none s0 s1 p.reported; appends = omega (arith, p.appends); reopened = p.reopened };
   stops = λ _. omega (arith, p.stops);
   goes_on = p.goes_on;
   left = λ honest at. absurd (p.reaches honest at);
@@ -376,7 +376,7 @@ pub passed_weaker : (h : Type 0) (a a' b b' : Device → Type 0) (m n : ℕ) (s0
 passed_weaker h a a' b b' m n s0 s1 same f g p = record {
   is_whole = p.is_whole;
   stops = p.stops;
-  told = p.told;
+  reported = p.reported;
   appends = omega (arith, p.appends);
   reopened = p.reopened;
   goes_on = p.goes_on;
@@ -400,7 +400,7 @@ pub passed_with : (p h : Type 0) (a b : Device → Type 0) (n : ℕ) (s0 s1 : Se
 passed_with p h a b n s0 s1 k = record {
   is_whole = k.is_whole;
   stops = k.stops;
-  told = k.told;
+  reported = k.reported;
   appends = k.appends;
   reopened = k.reopened;
   goes_on = k.goes_on;
@@ -422,26 +422,26 @@ pub record AreReasons (c c' : Reasons) : Type 0 where
   pub unread : (e : OutsideFault) → c.unread e → c'.unread e
   pub refused : (step : ℕ) → c.refused step → c'.refused step
 
-pub caused_told : (c c' : Reasons) (f : RunFault) (s0 s1 : Seen) → AreReasons c c' → IsCaused c f s0 s1 → IsCaused c' f s0 s1
-caused_told c c' run.Stopped s0 s1 k h = h
-caused_told c c' (run.Refused step) s0 s1 k h = (k.refused step h.0, h.1)
-caused_told c c' (run.ValidityChanged side) s0 s1 k h = k.changed side h
-caused_told c c' (run.BadState line) s0 s1 k (inl (z, b)) = inl (z, k.beyond b)
-caused_told c c' (run.BadState line) s0 s1 k (inr (inl (two, g))) = inr (inl (two, k.greatest g))
-caused_told c c' (run.BadState line) s0 s1 k (inr (inr (l, inl z))) = inr (inr (l, inl z))
-caused_told c c' (run.BadState line) s0 s1 k (inr (inr (l, inr u))) = inr (inr (l, inr (k.unread (out.BadState line) u)))
-caused_told c c' (run.BadJournal line) s0 s1 k h = (h.0, k.unread (out.BadJournal line) h.1)
-caused_told c c' (run.StoreFault side code) s0 s1 k h = h
-caused_told c c' run.MarksRepeat s0 s1 k h = k.repeats h
-caused_told c c' run.NoMemory s0 s1 k h = h
-caused_told c c' run.KeywordsChanged s0 s1 k h = k.keywords h
+pub caused_reported : (c c' : Reasons) (f : RunFault) (s0 s1 : Seen) → AreReasons c c' → IsCaused c f s0 s1 → IsCaused c' f s0 s1
+caused_reported c c' run.Stopped s0 s1 k h = h
+caused_reported c c' (run.Refused step) s0 s1 k h = (k.refused step h.0, h.1)
+caused_reported c c' (run.ValidityChanged side) s0 s1 k h = k.changed side h
+caused_reported c c' (run.BadState line) s0 s1 k (inl (z, b)) = inl (z, k.beyond b)
+caused_reported c c' (run.BadState line) s0 s1 k (inr (inl (two, g))) = inr (inl (two, k.greatest g))
+caused_reported c c' (run.BadState line) s0 s1 k (inr (inr (l, inl z))) = inr (inr (l, inl z))
+caused_reported c c' (run.BadState line) s0 s1 k (inr (inr (l, inr u))) = inr (inr (l, inr (k.unread (out.BadState line) u)))
+caused_reported c c' (run.BadJournal line) s0 s1 k h = (h.0, k.unread (out.BadJournal line) h.1)
+caused_reported c c' (run.StoreFault side code) s0 s1 k h = h
+caused_reported c c' run.MarksRepeat s0 s1 k h = k.repeats h
+caused_reported c c' run.NoMemory s0 s1 k h = h
+caused_reported c c' run.KeywordsChanged s0 s1 k h = k.keywords h
 
-pub left_told : (c c' : Reasons) (h : Type 0) (a underway : Device → Type 0) (f : RunFault) (s0 s1 : Seen) → AreReasons c c' → Left c h a underway f s0 s1 → Left c' h a underway f s0 s1
-left_told c c' h a underway f s0 s1 k l = record { caused = caused_told c c' f s0 s1 k l.caused; no_less = l.no_less; stops = l.stops; goes_on = l.goes_on; left = l.left }
+pub left_reported : (c c' : Reasons) (h : Type 0) (a underway : Device → Type 0) (f : RunFault) (s0 s1 : Seen) → AreReasons c c' → Left c h a underway f s0 s1 → Left c' h a underway f s0 s1
+left_reported c c' h a underway f s0 s1 k l = record { caused = caused_reported c c' f s0 s1 k l.caused; no_less = l.no_less; stops = l.stops; goes_on = l.goes_on; left = l.left }
 
-pub part_told : {T : Type 0} (c c' : Reasons) (h : Type 0) (a underway : Device → Type 0) (copies : T → ℕ) (reaches : T → Device → Type 0) (s0 s1 : Seen) (r : Result T RunFault) → AreReasons c c' → PartOr c h a underway copies reaches s0 s1 r → PartOr c' h a underway copies reaches s0 s1 r
-part_told c c' h a underway copies reaches s0 s1 (Ok x) k p = p
-part_told c c' h a underway copies reaches s0 s1 (Err e) k p = left_told c c' h a underway e s0 s1 k p
+pub part_reported : {T : Type 0} (c c' : Reasons) (h : Type 0) (a underway : Device → Type 0) (copies : T → ℕ) (reaches : T → Device → Type 0) (s0 s1 : Seen) (r : Result T RunFault) → AreReasons c c' → PartOr c h a underway copies reaches s0 s1 r → PartOr c' h a underway copies reaches s0 s1 r
+part_reported c c' h a underway copies reaches s0 s1 (Ok x) k p = p
+part_reported c c' h a underway copies reaches s0 s1 (Err e) k p = left_reported c c' h a underway e s0 s1 k p
 
 -- ---- the same part that leaves another condition
 
@@ -457,7 +457,7 @@ pub passed_knowing : (h : Type 0) (a b b' : Device → Type 0) (n : ℕ) (s0 s1 
 passed_knowing h a b b' n s0 s1 f p = record {
   is_whole = p.is_whole;
   stops = p.stops;
-  told = p.told;
+  reported = p.reported;
   appends = p.appends;
   reopened = p.reopened;
   goes_on = p.goes_on;
@@ -484,7 +484,7 @@ module _ {X T : Type 0} (x y : X) (reasons : Reasons) (h : Type 0) (from underwa
   part_by (Ok t) p = record {
     is_whole = p.is_whole;
     stops = p.stops;
-    told = p.told;
+    reported = p.reported;
     appends = p.appends;
     reopened = p.reopened;
     goes_on = p.goes_on;

@@ -252,9 +252,9 @@ beyond_read (Some o) d run held more = record { state = o.state; pending = o.pen
 
 pub beyond_held : (alone : Bool) (opened : Option Opened) (run : ℕ) (h0 h1 : Type 0) (d0 : Device) (s1 s2 : Seen) (r : Result Pass RunFault) → (run_of opened + 1 < run → IsErr r × (s2 ≡ s1)) → (h1 → h0) → (h0 → IsHeld opened d0) → (h0 → IsKept alone d0 s1.device)
     → h1 → (s : SyncState) (p : Pending) → Holds d0.files s p → s.run + 1 < run → IsErr r × IsKept alone d0 s2.device
-beyond_held alone opened run h0 h1 d0 s1 s2 r told f held kept h s p now more =
+beyond_held alone opened run h0 h1 d0 s1 s2 r reported f held kept h s p now more =
     let same = read_run opened d0 s p (held (f h)) now in
-    let t = told (omega (arith, same, more)) in
+    let t = reported (omega (arith, same, more)) in
     (t.0, subst (λ (x : Seen). IsKept alone d0 x.device) (sym t.1) (kept (f h)))
 
 -- a journal without a plan goes

@@ -21,7 +21,7 @@ use Rattle.book.proofs.KnownBooks.{book_known}
 use Rattle.outside.specs.declared.fault.OutsideFault.{OutsideFault}
 use Rattle.outside.specs.declared.fault.OutsideFault.TheVariants as out
 use Rattle.outside.specs.Arrivals.{Arrives}
-use Rattle.outside.specs.BookCalls.{OfBook, OnFiles, TellsFiles}
+use Rattle.outside.specs.BookCalls.{OfBook, OnFiles, ReportsFiles}
 use Rattle.outside.specs.Calls.{FromShelf}
 use Rattle.outside.specs.Devices.{Device}
 use Rattle.outside.specs.Opened.{IsBook, IsHeld, IsRead, Opened, TakesDiscard, journal_in, journal_of, state_of, turned, with_box}
@@ -34,7 +34,7 @@ use Rattle.run_states.proofs.Growth.{files_same, since_map, unplanned_arrives, u
 use Rattle.run_states.proofs.Moves.{midway_filed}
 use Rattle.runner.specs.Before.{HasNoPlan, HasNone, HasPlan, IsClear, IsEmptied, ReadUnderway, Resumed}
 use Rattle.runner.specs.Going.{AreOpen, BeforeStep}
-use Rattle.runner.proofs.PartCalls.{TellsNoBook}
+use Rattle.runner.proofs.PartCalls.{ReportsNoBook}
 
 -- ---- what was read
 
@@ -121,7 +121,7 @@ turned_state f (Some o) = refl
 -- ---- a fault of the shelf
 
 -- files that hold a book report no line
-pub no_line : (files : Files) (s : SyncState) (p : Pending) (e : OutsideFault) → Holds files s p → FromShelf e → TellsFiles e files → TellsNoBook e
+pub no_line : (files : Files) (s : SyncState) (p : Pending) (e : OutsideFault) → Holds files s p → FromShelf e → ReportsFiles e files → ReportsNoBook e
 no_line files s p out.Stopped h k t = tt
 no_line files s p out.Refused h k t = tt
 no_line files s p (out.Box side number) h k t = tt
@@ -138,8 +138,8 @@ no_line files s p (out.BadJournal line) h k t = by_fault (held_open files s p (b
 no_line files s p out.NoMemory h k t = tt
 
 -- what was reported of the files is so of those that stand there
-pub unread_files : (e : OutsideFault) (m d' : Device) → d' ≡ m → TellsFiles e m.files → TellsFiles e d'.files
-unread_files e m d' is t = subst (λ (d : Device). TellsFiles e d.files) (sym is) t
+pub unread_files : (e : OutsideFault) (m d' : Device) → d' ≡ m → ReportsFiles e m.files → ReportsFiles e d'.files
+unread_files e m d' is t = subst (λ (d : Device). ReportsFiles e d.files) (sym is) t
 
 module _ {ours : List ℕ → Bool} {alone : Bool} (opening : Opening ours alone) where
   stands_files : (w : World) (version : Version) (plan : Plan) (log : List Logged) (torn : Bool) (d : Device) → Stands ours alone opening.named w opening.options version plan log torn d → Holds d.files w.state (with_log version plan log torn)
@@ -155,7 +155,7 @@ module _ {ours : List ℕ → Bool} {alone : Bool} (opening : Opening ours alone
   underway_files d (inr (inl s)) = let p = s.holds in (s.world.state, (with_log p.version p.plan p.log p.is_torn, planned_files s.world d p))
   underway_files d (inr (inr s)) = let x = s.holds in (x.state, (x.pending, x.files))
 
-  pub unread_left : (e : OutsideFault) (m d' : Device) → Underway opening m → d' ≡ m → TellsFiles e m.files → FromShelf e → TellsNoBook e × Underway opening d'
+  pub unread_left : (e : OutsideFault) (m d' : Device) → Underway opening m → d' ≡ m → ReportsFiles e m.files → FromShelf e → ReportsNoBook e × Underway opening d'
   unread_left e m d' u is t k = let h = underway_files m u in (no_line m.files h.0 h.1.0 e h.1.1 k t, rw is u)
 
   -- ---- others

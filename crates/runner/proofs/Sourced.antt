@@ -15,13 +15,13 @@ module _ (honest : Type 0) (ours : List ℕ → Bool) (alone : Bool) (direction 
   Asked carried = Call honest (Arrives ours alone) copies_made FromBox (Carry direction uid flags mark) (LeavesBy (Carry direction uid flags mark) (SetsAside (target direction))) s0 s1 (Ok carried)
 
   pub void_absent : Asked Absent → honest → BySource ours alone direction uid did.Void s0.device
-  void_absent c h = let f = c.acts.effect h in record { mid = f.mid; before = f.before; so = inl f.behind.1 }
+  void_absent c h = let f = c.acts.effect h in record { mid = f.mid; before = f.before; so = inl f.following.1 }
 
   pub void_unfit : Asked Unfit → honest → BySource ours alone direction uid did.Void s0.device
-  void_unfit c h = let f = c.acts.effect h in record { mid = f.mid; before = f.before; so = inr f.behind.1 }
+  void_unfit c h = let f = c.acts.effect h in record { mid = f.mid; before = f.before; so = inr f.following.1 }
 
-  pub made_fit : (told : Option ℕ) (copy : ℕ) → Asked (Made told) → honest → BySource ours alone direction uid (did.Made copy) s0.device
-  made_fit told copy c h =
+  pub made_fit : (reported : Option ℕ) (copy : ℕ) → Asked (Made reported) → honest → BySource ours alone direction uid (did.Made copy) s0.device
+  made_fit reported copy c h =
       let f = c.acts.effect h in
-      let m = f.behind.makes in
+      let m = f.following.makes in
       record { mid = f.mid; before = f.before; so = record { bytes = m.bytes; is_there = m.is_there; is_fit = m.is_fit } }

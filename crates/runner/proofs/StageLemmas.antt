@@ -16,7 +16,7 @@ use Rattle.runner.specs.declared.pass.Pass.{Pass}
 use Rattle.runner.specs.declared.pass.Pass.TheVariants.{Already, Ran, Finished}
 use Rattle.runner.specs.Answers.{AnswersTo, HasRepeats, Moves, RunsBy, made_in, run_of}
 use Rattle.runner.specs.Before.{HasPlan, IsEmptied}
-use Rattle.runner.specs.Faults.{Reasons, TellsRefused, or_refused, or_repeats}
+use Rattle.runner.specs.Faults.{Reasons, ReportsRefused, or_refused, or_repeats}
 use Rattle.runner.specs.Finding.{FindsBy, FindsSame, OfSame}
 use Rattle.runner.specs.Going.{plan_at}
 use Rattle.runner.specs.Maps.{HasMapIn}
@@ -28,8 +28,8 @@ use Rattle.runner.specs.Validities.{LeavesBoxes}
 use Rattle.runner.proofs.Finding.{boxed_plan, finds_from}
 use Rattle.runner.proofs.Naming.{names_from}
 use Rattle.runner.proofs.Passes.{boxed_answers}
-use Rattle.runner.proofs.PartCalls.{AreReasons, part_told, part_weaker}
-use Rattle.runner.proofs.StepParts.{steps_told, refused_from, repeats_from}
+use Rattle.runner.proofs.PartCalls.{AreReasons, part_reported, part_weaker}
+use Rattle.runner.proofs.StepParts.{steps_reported, refused_from, repeats_from}
 
 -- ---- which answer it is
 
@@ -67,19 +67,19 @@ module _ {O : Type 0} (o : Ghosts O) where
   module _ (opening : Opening o.ours o.alone) where
     -- a stage that ended with an error
     pub stage_left : (run : ℕ) (reasons : Reasons) (from reaches : Device → Type 0) (old new : O) (f : RunFault) → Frame o old new
-        → Left (or_refused (TellsRefused (o.opened new) (o.honest new) (from (o.seen old).device) (o.seen new).device) reasons) (o.honest new) from (Underway opening) f (o.seen old) (o.seen new)
+        → Left (or_refused (ReportsRefused (o.opened new) (o.honest new) (from (o.seen old).device) (o.seen new).device) reasons) (o.honest new) from (Underway opening) f (o.seen old) (o.seen new)
         → Stage o opening run reasons from reaches old new (Err f)
     stage_left run reasons from reaches old new f frame part = record { frame = frame; answer = tt; part = part }
 
     pub drawn_left : (run : ℕ) (options : Options) (stream drawn : Stream) (reasons : Reasons) (from reaches : Device → Type 0) (old new : O) (f : RunFault) → Frame o old new → Moves stream drawn
-        → Left (or_refused (TellsRefused (o.opened new) (o.honest new) (from (o.seen old).device) (o.seen new).device) (or_repeats (HasRepeats opening (o.opened new) (o.honest new) (from (o.seen old).device) options stream) reasons)) (o.honest new) from (Underway opening) f (o.seen old) (o.seen new)
+        → Left (or_refused (ReportsRefused (o.opened new) (o.honest new) (from (o.seen old).device) (o.seen new).device) (or_repeats (HasRepeats opening (o.opened new) (o.honest new) (from (o.seen old).device) options stream) reasons)) (o.honest new) from (Underway opening) f (o.seen old) (o.seen new)
         → DrawnStage o opening run options stream drawn reasons from reaches old new (Err f)
     drawn_left run options stream drawn reasons from reaches old new f frame moved part = record { stage = stage_left run _ from reaches old new f frame part; runs = tt; moved = moved }
 
     -- ---- where another condition leads to that of the stage
 
     pub answer_from : (run : ℕ) (from start : Device → Type 0) (old new : O) (r : Result Pass RunFault) → (start (o.seen old).device → from (o.seen old).device) → IfOk r (StageAnswer o opening run from old new) → IfOk r (StageAnswer o opening run start old new)
-    answer_from run from start old new (Ok pass) leads a = record { by_files = a.by_files; results = a.results; told = λ h at. a.told h (leads at); found = λ h at. a.found h (leads at); named = λ h at. a.named h (leads at) }
+    answer_from run from start old new (Ok pass) leads a = record { by_files = a.by_files; results = a.results; reported = λ h at. a.reported h (leads at); found = λ h at. a.found h (leads at); named = λ h at. a.named h (leads at) }
     answer_from run from start old new (Err f) leads a = tt
 
     pub drawn_weaker : (run : ℕ) (options : Options) (stream drawn : Stream) (reasons reasons' : Reasons) (from start reaches reaches' : Device → Type 0) (old new : O) (r : Result Pass RunFault) → AreReasons reasons reasons' → ((d : Device) → start d → from d) → ((d : Device) → reaches d → reaches' d)
@@ -93,7 +93,7 @@ module _ {O : Type 0} (o : Ghosts O) where
           stage = record {
             frame = stage.frame;
             answer = answer_from run from start old new r (leads s0.device) stage.answer;
-            part = part_weaker _ h from start (Underway opening) made_in (λ _. reaches) (λ _. reaches') s0 s1 r leads (λ x. ends) (part_told _ _ h from (Underway opening) made_in (λ _. reaches) s0 s1 r (record {
+            part = part_weaker _ h from start (Underway opening) made_in (λ _. reaches) (λ _. reaches') s0 s1 r leads (λ x. ends) (part_reported _ _ h from (Underway opening) made_in (λ _. reaches) s0 s1 r (record {
               changed = are.changed;
               keywords = are.keywords;
               repeats = λ k. repeats_from opening (o.opened new) h (from s0.device) (start s0.device) options stream (λ honest at. leads s0.device at) k;
@@ -119,7 +119,7 @@ module _ {O : Type 0} (o : Ghosts O) where
             frame = stage.frame;
             answer = answer_from run from start old new r (leads s0.device) stage.answer;
             part = part_weaker _ h from start (Underway opening) made_in (λ _. reaches) (λ _. reaches) s0 s1 r leads (λ x d k. k)
-                (part_told _ _ h from (Underway opening) made_in (λ _. reaches) s0 s1 r (steps_told _ _ (refused_from (o.opened new) h (from s0.device) (start s0.device) s1.device (λ honest at. leads s0.device at))) stage.part);
+                (part_reported _ _ h from (Underway opening) made_in (λ _. reaches) s0 s1 r (steps_reported _ _ (refused_from (o.opened new) h (from s0.device) (start s0.device) s1.device (λ honest at. leads s0.device at))) stage.part);
           };
           runs = runs;
           moved = moved;
@@ -143,7 +143,7 @@ module _ {O : Type 0} (o : Ghosts O) where
       record {
         by_files = boxed_answers run before (Ok pass) (subst (λ (b : Option Opened). AnswersTo run b pass) opened a.by_files);
         results = a.results;
-        told = λ h at. let l = leads h at in subst (λ (z : Opening o.ours o.alone). Report z (o.opened new) pass d2) l.1 (a.told h l.0);
+        reported = λ h at. let l = leads h at in subst (λ (z : Opening o.ours o.alone). Report z (o.opened new) pass d2) l.1 (a.reported h l.0);
         found = finds_from o.ours before (o.opened mid) d0 d1 (Ok pass) (o.honest mid) (o.honest new) (from d1) (start d0) plan honest (λ h at. (leads h at).0) same a.found;
         named = λ h at. let l = leads h at in names_from y before (o.opened mid) pass d0 d1 d2 plan (named (honest h)) (subst (λ (z : Opening o.ours o.alone). NamesBy z (o.opened mid) pass d1 d2) l.1 (a.named h l.0));
       }
@@ -155,7 +155,7 @@ module _ {O : Type 0} (o : Ghosts O) where
   answer_skipped opening run start old new (Ok pass) read le e leaves = subst (StageAnswer o opening run start old new) (sym e) (record {
     by_files = made_before (o.opened old) read le;
     results = λ h. tt;
-    told = λ h at. tt;
+    reported = λ h at. tt;
     found = λ h at d to. tt;
     named = λ h at. (leaves.stores h).0;
   })
@@ -185,7 +185,7 @@ module _ {O : Type 0} (o : Ghosts O) where
     results_in (Err f) a = tt
 
     pub report_in : (r : Result Pass RunFault) → IfOk r (StageAnswer o opening run from old new) → IfOk r (λ pass. o.honest new → from (o.seen old).device → Report opening (o.opened new) pass (o.seen new).device)
-    report_in (Ok pass) a = a.told
+    report_in (Ok pass) a = a.reported
     report_in (Err f) a = tt
 
     pub copies_in : (r : Result Pass RunFault) → IfOk r (StageAnswer o opening run from old new) → IfOk r (λ pass. o.honest new → from (o.seen old).device → OfSame o.ours (o.seen old).device (λ d. FindsBy (o.opened old) d pass))

@@ -20,7 +20,7 @@ use Rattle.outside.specs.declared.fault.OutsideFault.TheVariants as out
 use Rattle.outside.specs.declared.outside.Carried.{Carried}
 use Rattle.outside.specs.declared.outside.Carried.TheVariants.{Absent, Unfit, Made}
 use Rattle.outside.specs.Arrivals.{Arrives}
-use Rattle.mailbox.specs.Operations.{Tells, removed}
+use Rattle.mailbox.specs.Operations.{Reports, removed}
 use Rattle.outside.specs.BoxCalls.{Carry, Names, SetsAside, Turns}
 use Rattle.outside.specs.Calls.{DoesSome, LeavesBy}
 use Rattle.outside.specs.Devices.{Device, Named, box}
@@ -149,13 +149,13 @@ module _ {ours : List ℕ → Bool} {alone : Bool} (opening : Opening ours alone
   either_ready false d k = k
   either_ready true d k = moment_map opening opened _ _ (λ w g b at. inl (false, at)) k
 
-  pub taken_up : (is_resumed : Bool) (d : Device) → BeforeStep opening opened is_resumed d → BeforeStep opening opened true d
-  taken_up is_resumed d k = moment_map opening opened _ _ (λ w g b at. stands_of w is_resumed d at) k
+  pub as_resumed : (is_resumed : Bool) (d : Device) → BeforeStep opening opened is_resumed d → BeforeStep opening opened true d
+  as_resumed is_resumed d k = moment_map opening opened _ _ (λ w g b at. stands_of w is_resumed d at) k
 
   -- ---- copies
 
-  pub sought_told : (dir : Direction) (mark : List ℕ) → CopiesUnder opened dir mark → (d m : Device) → Arrives ours alone d m → BeforeStep opening opened true d → (found : Option ℕ) → found ≡ marked_from mark (first_uid plan (target dir)) (box m (target dir)) → AfterSearch opening opened found m
-  sought_told dir mark next d m a r found told = moment_map opening opened _ _ (λ w g b at. sought ours alone opening.named w opening.options version plan log g.in_order dir next.uid next.flags mark next.is m at found told) (ready_arrives true d m a r)
+  pub sought_reported : (dir : Direction) (mark : List ℕ) → CopiesUnder opened dir mark → (d m : Device) → Arrives ours alone d m → BeforeStep opening opened true d → (found : Option ℕ) → found ≡ marked_from mark (first_uid plan (target dir)) (box m (target dir)) → AfterSearch opening opened found m
+  sought_reported dir mark next d m a r found reported = moment_map opening opened _ _ (λ w g b at. sought ours alone opening.named w opening.options version plan log g.in_order dir next.uid next.flags mark next.is m at found reported) (ready_arrives true d m a r)
 
   pub sought_none : (d : Device) → AfterSearch opening opened None d → BeforeStep opening opened false d
   sought_none d k = k
@@ -163,22 +163,22 @@ module _ {ours : List ℕ → Bool} {alone : Bool} (opening : Opening ours alone
   pub sought_some : (copy : ℕ) (d : Device) → AfterSearch opening opened (Some copy) d → AfterStep opening opened (Copied copy) d
   sought_some copy d k = k
 
-  pub copy_told : (dir : Direction) (mark : List ℕ) → CopiesUnder opened dir mark → (d m : Device) → Arrives ours alone d m → AfterCopy opening opened d → (found : Option ℕ) → found ≡ marked_from mark (first_uid plan (target dir)) (box m (target dir)) → FoundCopy opening opened found m
-  copy_told dir mark next d m a r found told = by_found found (λ w g at. told ∙ copy_found ours alone opening.named w opening.options version plan log g.in_order dir next.uid next.flags mark next.is false at.0 m at.1) (copied_arrives d m a r)
+  pub copy_reported : (dir : Direction) (mark : List ℕ) → CopiesUnder opened dir mark → (d m : Device) → Arrives ours alone d m → AfterCopy opening opened d → (found : Option ℕ) → found ≡ marked_from mark (first_uid plan (target dir)) (box m (target dir)) → FoundCopy opening opened found m
+  copy_reported dir mark next d m a r found reported = by_found found (λ w g at. reported ∙ copy_found ours alone opening.named w opening.options version plan log g.in_order dir next.uid next.flags mark next.is false at.0 m at.1) (copied_arrives d m a r)
     where
       by_found : (found : Option ℕ) → ((w : World) → Grows alone opening.world w → (at : (copy : ℕ) × Midway ours alone opening.named w opening.options version plan log false (log ++ Copied copy ∷ []) false m) → found ≡ Some at.0) → AfterCopy opening opened m → FoundCopy opening opened found m
       by_found None f k = let s = k.since in let e = f s.world s.grows s.holds in cc
       by_found (Some copy) f k = moment_map opening opened _ _ (λ w g b at. let e = f w g at in let same : at.0 ≡ copy = cc in subst (λ (x : ℕ). Midway ours alone opening.named w opening.options version plan log false (log ++ Copied x ∷ []) false m) same at.1) k
 
   module _ (dir : Direction) (uid flags : ℕ) (mark : List ℕ) (is : next_at opened ≡ Some (step.New dir uid flags mark)) where
-    pub carry_made : (told : Option ℕ) (d m d' : Device) → Arrives ours alone d m → BeforeStep opening opened false d → Carry dir uid flags mark (Made told) m d' → AtMoment opening opened (λ w. (copy : ℕ) × Midway ours alone opening.named w opening.options version plan log false (log ++ Copied copy ∷ []) false d' × Tells told copy)
-    carry_made told d m d' a r c = moment_map opening opened _ _ (λ w g b at. brought ours alone opening.named w opening.options version plan log g.in_order dir uid flags mark is false told m d' at c) (ready_arrives false d m a r)
+    pub carry_made : (reported : Option ℕ) (d m d' : Device) → Arrives ours alone d m → BeforeStep opening opened false d → Carry dir uid flags mark (Made reported) m d' → AtMoment opening opened (λ w. (copy : ℕ) × Midway ours alone opening.named w opening.options version plan log false (log ++ Copied copy ∷ []) false d' × Reports reported copy)
+    carry_made reported d m d' a r c = moment_map opening opened _ _ (λ w g b at. brought ours alone opening.named w opening.options version plan log g.in_order dir uid flags mark is false reported m d' at c) (ready_arrives false d m a r)
 
-    pub carry_untold : (told : Option ℕ) (d m d' : Device) → Arrives ours alone d m → BeforeStep opening opened false d → Carry dir uid flags mark (Made told) m d' → AfterCopy opening opened d'
-    carry_untold told d m d' a r c = moment_map opening opened _ _ (λ w g b at. (at.0, at.1)) (carry_made told d m d' a r c)
+    pub carry_unreported : (reported : Option ℕ) (d m d' : Device) → Arrives ours alone d m → BeforeStep opening opened false d → Carry dir uid flags mark (Made reported) m d' → AfterCopy opening opened d'
+    carry_unreported reported d m d' a r c = moment_map opening opened _ _ (λ w g b at. (at.0, at.1)) (carry_made reported d m d' a r c)
 
-    pub carry_told : (copy : ℕ) (d m d' : Device) → Arrives ours alone d m → BeforeStep opening opened false d → Carry dir uid flags mark (Made (Some copy)) m d' → AfterStep opening opened (Copied copy) d'
-    carry_told copy d m d' a r c = moment_map opening opened _ _ (λ w g b at. subst (λ (x : ℕ). Midway ours alone opening.named w opening.options version plan log false (log ++ Copied x ∷ []) false d') (sym at.2) at.1) (carry_made (Some copy) d m d' a r c)
+    pub carry_reported : (copy : ℕ) (d m d' : Device) → Arrives ours alone d m → BeforeStep opening opened false d → Carry dir uid flags mark (Made (Some copy)) m d' → AfterStep opening opened (Copied copy) d'
+    carry_reported copy d m d' a r c = moment_map opening opened _ _ (λ w g b at. subst (λ (x : ℕ). Midway ours alone opening.named w opening.options version plan log false (log ++ Copied x ∷ []) false d') (sym at.2) at.1) (carry_made (Some copy) d m d' a r c)
 
     pub never_absent : (d m d' : Device) → Arrives ours alone d m → BeforeStep opening opened false d → Carry dir uid flags mark Absent m d' → ⊥
     never_absent d m d' a r c = let k = ready_arrives false d m a r in let s = k.since in not_absent ours alone opening.named s.world opening.options version plan log s.grows.in_order dir uid flags mark is false m s.holds c.1
@@ -200,7 +200,7 @@ module _ {ours : List ℕ → Bool} {alone : Bool} (opening : Opening ours alone
         done : (x : Carried) → Carry dir uid flags mark x m d' → Underway opening d'
         done Absent c = rw c.0 (ready_underway false m (ready_arrives false d m a r))
         done Unfit c = rw c.0 (ready_underway false m (ready_arrives false d m a r))
-        done (Made told) c = copied_underway d' (carry_untold told d m d' a r c)
+        done (Made reported) c = copied_underway d' (carry_unreported reported d m d' a r c)
 
   -- ---- a call that has named its message, and done nothing
 

@@ -24,9 +24,9 @@ use Rattle.outside.specs.Devices.{Device, box}
 use Rattle.outside.specs.Opened.{IsHeld, IsOpen, Opened, state_of, turned, with_box}
 use Rattle.runner.specs.Before.{HasNoJournal, HasNoPlan}
 use Rattle.runner.specs.Answers.{as_read}
-use Rattle.runner.specs.ChangedMaps.{TellsMap, TellsOtherMap}
+use Rattle.runner.specs.ChangedMaps.{ReportsMap, ReportsOtherMap}
 use Rattle.runner.specs.Going.{AreOpen}
-use Rattle.runner.specs.Validities.{BothSame, HasChanged, HasOther, HasSame, HaveValidities, IsCompared, IsKept, IsOther, IsSame, KeepsValidities, ListsChanged, TellsChange, TellsChanged, TellsOther, TellsUnlessSame, after_run, named_after, plan_validity, recorded, recorded_in, state_validity}
+use Rattle.runner.specs.Validities.{BothSame, HasChanged, HasOther, HasSame, HaveValidities, IsCompared, IsKept, IsOther, IsSame, KeepsValidities, ListsChanged, ReportsChange, ReportsChanged, ReportsOther, ReportsUnlessSame, after_run, named_after, plan_validity, recorded, recorded_in, state_validity}
 
 -- ---- which one is recorded
 
@@ -145,20 +145,20 @@ missing_here (Some o) h = refl
 
 -- where both mailboxes have what is recorded, their listings do too
 pub lists_same : (opened : Option Opened) (far near : Listing) (side : Side) (d : Device) → HasNoJournal opened → BothSame opened d → HaveValidities far near d → ListsChanged opened far near side → ⊥
-lists_same None far near side d none same have told = told
-lists_same (Some o) far near side d none same have told =
+lists_same None far near side d none same have reported = reported
+lists_same (Some o) far near side d none same have reported =
     let f = subst (λ (p : Pending). IsSame (recorded o.state p Far) d.far.validity) none same.0 in
     let n = subst (λ (p : Pending). IsSame (recorded o.state p Near) d.near.store.validity) none same.1 in
-    no_side o.state.run far.validity o.state.far_validity near.validity o.state.near_validity side (subst (λ (v : ℕ). IsSame (after_run o.state Far) v) (sym have.far_is) f) (subst (λ (v : ℕ). IsSame (after_run o.state Near) v) (sym have.near_is) n) told
+    no_side o.state.run far.validity o.state.far_validity near.validity o.state.near_validity side (subst (λ (v : ℕ). IsSame (after_run o.state Far) v) (sym have.far_is) f) (subst (λ (v : ℕ). IsSame (after_run o.state Near) v) (sym have.near_is) n) reported
   where
     no_side : (run f g n m : ℕ) (side : Side) → IsSame (named_after run g) f → IsSame (named_after run m) n → (if run == 0 then None else if not (f == g) then Some Far else if not (n == m) then Some Near else None) ≡ Some side → ⊥
-    no_side zero f g n m side a b told = cc
-    no_side (suc run) f g n m side a b told = grind (arith, common_steps)
+    no_side zero f g n m side a b reported = cc
+    no_side (suc run) f g n m side a b reported = grind (arith, common_steps)
 
-pub side_told : (opened : Option Opened) (s : SyncState) (far near : Listing) (told side : Side) → run.ValidityChanged told ≡ run.ValidityChanged side → state_of opened ≡ Some s → changed_side far near s ≡ Some told → ListsChanged opened far near side
-side_told None s far near told side is e changed = cc
-side_told (Some o) s far near told side is e changed =
-    let same : told ≡ side = cc in
+pub side_reported : (opened : Option Opened) (s : SyncState) (far near : Listing) (reported side : Side) → run.ValidityChanged reported ≡ run.ValidityChanged side → state_of opened ≡ Some s → changed_side far near s ≡ Some reported → ListsChanged opened far near side
+side_reported None s far near reported side is e changed = cc
+side_reported (Some o) s far near reported side is e changed =
+    let same : reported ≡ side = cc in
     let here : o.state ≡ s = cc in
     subst (λ (x : SyncState). changed_side far near x ≡ Some side) (sym here) (changed ∙ ap (λ (x : Side). Some x) same)
 
@@ -174,12 +174,12 @@ compared_here side (Some o) now before e is = subst (λ (x : Option Opened). IsC
 
 -- a listing that names another than the state
 pub compared_listed : (opened : Option Opened) (far near : Listing) (side : Side) → AreOpen opened → ListsChanged opened far near side → IsCompared opened side
-compared_listed None far near side are told = absurd told
-compared_listed (Some o) far near side are told = let r = by_pending o.pending (after_one o.state.run far.validity o.state.far_validity near.validity o.state.near_validity (state_validity o.state side) told) in record { is_open = are side; before = r.0; is_recorded = r.1 }
+compared_listed None far near side are reported = absurd reported
+compared_listed (Some o) far near side are reported = let r = by_pending o.pending (after_one o.state.run far.validity o.state.far_validity near.validity o.state.near_validity (state_validity o.state side) reported) in record { is_open = are side; before = r.0; is_recorded = r.1 }
   where
     after_one : (run f g n m validity : ℕ) → (if run == 0 then None else if not (f == g) then Some Far else if not (n == m) then Some Near else None) ≡ Some side → named_after run validity ≡ Some validity
-    after_one zero f g n m validity told = cc
-    after_one (suc run) f g n m validity told = grind (arith, common_steps)
+    after_one zero f g n m validity reported = cc
+    after_one (suc run) f g n m validity reported = grind (arith, common_steps)
 
     by_pending : (p : Pending) → after_run o.state side ≡ Some (state_validity o.state side) → (before : ℕ) × (recorded o.state p side ≡ Some before)
     by_pending Missing e = (state_validity o.state side, e)
@@ -188,17 +188,17 @@ compared_listed (Some o) far near side are told = let r = by_pending o.pending (
 
 -- ---- what is reported
 
-pub far_told : (honest : Type 0) (alone : Bool) (opened : Option Opened) (a b : Device) (side : Side) → TellsOther honest alone opened Far a b side → TellsChange honest alone opened a b side
-far_told honest alone opened a b side told = λ h. let t = told.1 h in (rw told.0 t.0, t.1)
+pub far_reported : (honest : Type 0) (alone : Bool) (opened : Option Opened) (a b : Device) (side : Side) → ReportsOther honest alone opened Far a b side → ReportsChange honest alone opened a b side
+far_reported honest alone opened a b side reported = λ h. let t = reported.1 h in (rw reported.0 t.0, t.1)
 
 -- the far box has the recorded one, and the near one has not
-pub near_told : (h0 h1 : Type 0) (alone : Bool) (opened now : Option Opened) (a b c : Device) (side : Side) → (h1 → h0) → now ≡ with_box Far opened → (h0 → HasSame opened Far b × IsKept alone a b) → TellsOther h1 alone now Near b c side → TellsChange h1 alone opened a c side
-near_told h0 h1 alone opened now a b c side honest e before told = λ h.
+pub near_reported : (h0 h1 : Type 0) (alone : Bool) (opened now : Option Opened) (a b c : Device) (side : Side) → (h1 → h0) → now ≡ with_box Far opened → (h0 → HasSame opened Far b × IsKept alone a b) → ReportsOther h1 alone now Near b c side → ReportsChange h1 alone opened a c side
+near_reported h0 h1 alone opened now a b c side honest e before reported = λ h.
     let p = before (honest h) in
-    let q = told.1 h in
+    let q = reported.1 h in
     let k = p.1 in
     let other : HasOther (with_box Far opened) Near b = subst (λ (x : Option Opened). HasOther x Near b) e q.0 in
-    (rw told.0 (same_before opened Far a b k.validities p.0, other_before opened Near a b k.validities (boxed_other Far Near opened b other)), kept_next alone a b c k q.1)
+    (rw reported.0 (same_before opened Far a b k.validities p.0, other_before opened Near a b k.validities (boxed_other Far Near opened b other)), kept_next alone a b c k q.1)
 
 pub both_opened : (h0 h1 : Type 0) (alone : Bool) (opened now : Option Opened) (a b c : Device) (r : Result (Unit {0}) RunFault) → (h1 → h0) → now ≡ with_box Far opened → (h0 → HasSame opened Far b × IsKept alone a b) → OnOk r (h1 → HasSame now Near c × IsKept alone b c) → OnOk r (h1 → BothSame opened c × IsKept alone a c)
 both_opened h0 h1 alone opened now a b c (Ok x) honest e before here = λ h.
@@ -210,24 +210,24 @@ both_opened h0 h1 alone opened now a b c (Ok x) honest e before here = λ h.
 both_opened h0 h1 alone opened now a b c (Err f) honest e before here = tt
 
 -- a plan is not refused so where both boxes have what is recorded
-pub unless_same : (h0 h2 : Type 0) (opened now : Option Opened) (far near : Listing) (side : Side) (a b : Device) → now ≡ turned (λ _. Missing) opened → HasNoPlan opened → (h2 → h0) → (h0 → KeepsValidities a b) → (h2 → HaveValidities far near b) → ListsChanged now far near side → TellsUnlessSame h2 opened a side
-unless_same h0 h2 opened now far near side a b e none honest keeps have told = λ h same.
+pub unless_same : (h0 h2 : Type 0) (opened now : Option Opened) (far near : Listing) (side : Side) (a b : Device) → now ≡ turned (λ _. Missing) opened → HasNoPlan opened → (h2 → h0) → (h0 → KeepsValidities a b) → (h2 → HaveValidities far near b) → ListsChanged now far near side → ReportsUnlessSame h2 opened a side
+unless_same h0 h2 opened now far near side a b e none honest keeps have reported = λ h same.
     let k = keeps (honest h) in
     let v = have h in
     let at = emptied_same opened a none same in
     let both : HaveValidities far near a = record { far_is = v.far_is ∙ k.far; near_is = v.near_is ∙ k.near } in
-    lists_same (turned (λ _. Missing) opened) far near side a (missing_here opened none) at both (subst (λ (x : Option Opened). ListsChanged x far near side) e told)
+    lists_same (turned (λ _. Missing) opened) far near side a (missing_here opened none) at both (subst (λ (x : Option Opened). ListsChanged x far near side) e reported)
 
-pub same_told : (h0 h1 : Type 0) (alone : Bool) (opened now : Option Opened) (a b c : Device) (side : Side) → (h1 → h0) → now ≡ with_box Near (with_box Far opened) → (h0 → BothSame opened b × IsKept alone a b) → TellsUnlessSame h1 now b side → TellsChange h1 alone opened a c side
-same_told h0 h1 alone opened now a b c side honest e before told = λ h.
+pub same_reported : (h0 h1 : Type 0) (alone : Bool) (opened now : Option Opened) (a b c : Device) (side : Side) → (h1 → h0) → now ≡ with_box Near (with_box Far opened) → (h0 → BothSame opened b × IsKept alone a b) → ReportsUnlessSame h1 now b side → ReportsChange h1 alone opened a c side
+same_reported h0 h1 alone opened now a b c side honest e before reported = λ h.
     let p = before (honest h) in
     let q = p.0 in
     let at : BothSame now b = subst (λ (x : Option Opened). BothSame x b) (sym e) (same_boxed opened b q) in
-    absurd (told h at)
+    absurd (reported h at)
 
 -- by the files that were read
-pub files_changed : (alone : Bool) (h0 h1 : Type 0) (opened : Option Opened) (a b c : Device) (side : Side) → (h1 → h0) → (h0 → IsHeld opened a) → (h0 → IsKept alone a b) → TellsChange h1 alone opened b c side → TellsChanged h1 alone a c side
-files_changed alone h0 h1 opened a b c side honest held kept told = λ h s p holds. let k = kept (honest h) in let t = told h in (by_opened opened (held (honest h)) (changed_before opened side a b k.validities t.0) s p holds, kept_next alone a b c k t.1)
+pub files_changed : (alone : Bool) (h0 h1 : Type 0) (opened : Option Opened) (a b c : Device) (side : Side) → (h1 → h0) → (h0 → IsHeld opened a) → (h0 → IsKept alone a b) → ReportsChange h1 alone opened b c side → ReportsChanged h1 alone a c side
+files_changed alone h0 h1 opened a b c side honest held kept reported = λ h s p holds. let k = kept (honest h) in let t = reported h in (by_opened opened (held (honest h)) (changed_before opened side a b k.validities t.0) s p holds, kept_next alone a b c k t.1)
   where
     by_opened : (opened : Option Opened) → IsHeld opened a → HasChanged opened side a → (s : SyncState) (p : Pending) → Holds a.files s p → HasChanged (as_read s p) side a
     by_opened None held changed s p holds = absurd held
@@ -239,18 +239,18 @@ files_changed alone h0 h1 opened a b c side honest held kept told = λ h s p hol
         same_book o s p Far e f h = rw (sym e, sym f) h
         same_book o s p Near e f h = rw (sym e, sym f) h
 
-pub files_map : (alone : Bool) (h0 h1 : Type 0) (keywords : List Keyword) (opened now : Option Opened) (a b c : Device) → (h1 → h0) → (h0 → IsHeld opened a) → (h0 → IsKept alone a b) → TellsMap h1 alone opened now keywords b c → TellsOtherMap now h1 alone keywords a c
-files_map alone h0 h1 keywords None now a b c honest held kept told = absurd told.0
-files_map alone h0 h1 keywords (Some o) now a b c honest held kept told = (
-  told.1.0,
+pub files_map : (alone : Bool) (h0 h1 : Type 0) (keywords : List Keyword) (opened now : Option Opened) (a b c : Device) → (h1 → h0) → (h0 → IsHeld opened a) → (h0 → IsKept alone a b) → ReportsMap h1 alone opened now keywords b c → ReportsOtherMap now h1 alone keywords a c
+files_map alone h0 h1 keywords None now a b c honest held kept reported = absurd reported.0
+files_map alone h0 h1 keywords (Some o) now a b c honest held kept reported = (
+  reported.1.0,
   λ h.
-      let t = told.1.1 h in
+      let t = reported.1.1 h in
       let k = kept_next alone a b c (kept (honest h)) t.1 in (
         record {
           state = o.state;
           pending = o.pending;
           held = subst (λ (f : Files). Holds f o.state o.pending) (sym k.files) (held (honest h));
-          other = told.0;
+          other = reported.0;
           same = of_side t.0;
         },
         k,

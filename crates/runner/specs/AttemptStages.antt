@@ -10,14 +10,14 @@ use Rattle.runner.specs.declared.fault.RunFault.{RunFault}
 use Rattle.runner.specs.declared.pass.Pass.{Pass}
 use Rattle.runner.specs.Answers.{HasRepeats, Moves, OfFiles, made_in}
 use Rattle.runner.specs.Attempts.{AnswersAt, AttemptAt, AttemptStart, HasNoNext, IsReached}
-use Rattle.runner.specs.ChangedMaps.{TellsOtherMap}
-use Rattle.runner.specs.Faults.{Reasons, TellsLastRun, TellsUnread, because, or_beyond, or_greatest, or_keywords, or_unread}
+use Rattle.runner.specs.ChangedMaps.{ReportsOtherMap}
+use Rattle.runner.specs.Faults.{Reasons, ReportsLastRun, ReportsUnread, because, or_beyond, or_greatest, or_keywords, or_unread}
 use Rattle.runner.specs.Finding.{FindsAt}
 use Rattle.runner.specs.Naming.{NamesAt}
 use Rattle.runner.specs.Parts.{IsStuck, RunPart}
 use Rattle.runner.specs.PassStages.{Frame}
 use Rattle.runner.specs.Results.{HasResults, Report}
-use Rattle.runner.specs.Validities.{IsCompared, TellsChanged}
+use Rattle.runner.specs.Validities.{IsCompared, ReportsChanged}
 
 module _ {O : Type 0} (o : Ghosts O) (opening : Opening o.ours o.alone) where
   -- What is said of an answer, by the files that the attempt found. If it began with the run still to do: the report, which copies were
@@ -25,7 +25,7 @@ module _ {O : Type 0} (o : Ghosts O) (opening : Opening o.ours o.alone) where
   pub record AttemptAnswer (options : Options) (stream : Stream) (fixed : Option ℕ) (old new : O) (pass : Pass) : Type 0 where
     pub by_files : o.honest new → AttemptAt opening fixed (o.seen old).device → AnswersAt (opening.world.state.run + 1) options pass (o.seen old).device stream
     pub results : o.honest new → HasResults pass (o.seen new).device
-    pub told : o.honest new → AttemptStart opening options stream fixed (o.seen old).device → Report opening (o.opened new) pass (o.seen new).device
+    pub reported : o.honest new → AttemptStart opening options stream fixed (o.seen old).device → Report opening (o.opened new) pass (o.seen new).device
     pub found : o.honest new → AttemptStart opening options stream fixed (o.seen old).device → FindsAt o.ours (o.seen old).device pass
     pub named : o.honest new → AttemptStart opening options stream fixed (o.seen old).device → NamesAt opening pass (o.seen old).device (o.seen new).device
 
@@ -42,8 +42,8 @@ module _ {O : Type 0} (o : Ghosts O) (opening : Opening o.ours o.alone) where
       let now = o.opened new in
       let d = (o.seen old).device in
       let d' = (o.seen new).device in
-      or_unread (TellsUnread h d') (or_greatest (TellsLastRun now h d') (or_beyond (IsRead now × (h → IsReached fixed d.files → ⊥))
-      (or_keywords (TellsOtherMap now h o.alone options.keywords d d') (because (λ side. TellsChanged h o.alone d d' side × IsCompared now side) (HasRepeats opening now h (AttemptStart opening options stream fixed d) options stream)))))
+      or_unread (ReportsUnread h d') (or_greatest (ReportsLastRun now h d') (or_beyond (IsRead now × (h → IsReached fixed d.files → ⊥))
+      (or_keywords (ReportsOtherMap now h o.alone options.keywords d d') (because (λ side. ReportsChanged h o.alone d d' side × IsCompared now side) (HasRepeats opening now h (AttemptStart opening options stream fixed d) options stream)))))
 
   -- An attempt, between two numbers of the run, where one is fixed, and two places of the generator. If it succeeds, the run is over. After
   -- an error it is still to do. On an outside that had failed before, it stops.

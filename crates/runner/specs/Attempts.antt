@@ -122,20 +122,20 @@ pub record HaveRepeated (honest : Type 0) {ours : List ℕ → Bool} {alone : Bo
 -- ---- the greatest number
 
 -- no run comes after that of the greatest number: line 2 of the state says so, unless it was not read
-abbrev pub TellsNoNext : RunFault → Type 0
-TellsNoNext run.Stopped = Unit {0}
-TellsNoNext (run.Refused step) = ⊥
-TellsNoNext (run.ValidityChanged side) = ⊥
-TellsNoNext (run.BadState line) = line ≡ 2
-TellsNoNext (run.BadJournal line) = ⊥
-TellsNoNext (run.StoreFault side number) = ⊥
-TellsNoNext run.MarksRepeat = ⊥
-TellsNoNext run.NoMemory = Unit {0}
-TellsNoNext run.KeywordsChanged = ⊥
+abbrev pub ReportsNoNext : RunFault → Type 0
+ReportsNoNext run.Stopped = Unit {0}
+ReportsNoNext (run.Refused step) = ⊥
+ReportsNoNext (run.ValidityChanged side) = ⊥
+ReportsNoNext (run.BadState line) = line ≡ 2
+ReportsNoNext (run.BadJournal line) = ⊥
+ReportsNoNext (run.StoreFault side number) = ⊥
+ReportsNoNext run.MarksRepeat = ⊥
+ReportsNoNext run.NoMemory = Unit {0}
+ReportsNoNext run.KeywordsChanged = ⊥
 
 -- so it is reported where the state's run has it, and nothing has changed then
 abbrev pub HasNoNext : {T : Type 0} → (honest : Type 0) → (alone : Bool) → (d d' : Device) → Result T RunFault → Type 0
-HasNoNext honest alone d d' result = honest → (s : SyncState) (p : Pending) → Holds d.files s p → s.run + 1 ≡ 2 ^ 64 → IsErrAnd result TellsNoNext × IsKept alone d d'
+HasNoNext honest alone d d' result = honest → (s : SyncState) (p : Pending) → Holds d.files s p → s.run + 1 ≡ 2 ^ 64 → IsErrAnd result ReportsNoNext × IsKept alone d d'
 
 -- ---- attempts that met a stop
 

@@ -19,9 +19,9 @@ pub record HoldsOtherMap (keywords : List Keyword) (d : Device) : Type 0 where
   pub same : (side : Side) → IsSame (recorded state pending side) (box d side).validity
 
 -- Only of such a plan, which was read. Where the outside behaves as specified, the files hold it, and nothing has changed.
-abbrev pub TellsOtherMap : (now : Option Opened) → (honest : Type 0) → (alone : Bool) → List Keyword → (d d' : Device) → Type 0
-TellsOtherMap now honest alone keywords d d' = HasOtherMapIn keywords now × (honest → HoldsOtherMap keywords d' × IsKept alone d d')
+abbrev pub ReportsOtherMap : (now : Option Opened) → (honest : Type 0) → (alone : Bool) → List Keyword → (d d' : Device) → Type 0
+ReportsOtherMap now honest alone keywords d d' = HasOtherMapIn keywords now × (honest → HoldsOtherMap keywords d' × IsKept alone d d')
 
 -- the same by what had been read before
-abbrev pub TellsMap : (honest : Type 0) → (alone : Bool) → (opened now : Option Opened) → List Keyword → (d d' : Device) → Type 0
-TellsMap honest alone opened now keywords d d' = HasOtherMapIn keywords opened × (HasOtherMapIn keywords now × (honest → BothSame opened d' × IsKept alone d d'))
+abbrev pub ReportsMap : (honest : Type 0) → (alone : Bool) → (opened now : Option Opened) → List Keyword → (d d' : Device) → Type 0
+ReportsMap honest alone opened now keywords d d' = HasOtherMapIn keywords opened × (HasOtherMapIn keywords now × (honest → BothSame opened d' × IsKept alone d d'))

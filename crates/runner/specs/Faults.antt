@@ -11,7 +11,7 @@ use Rattle.book.specs.Books.{Holds}
 use Rattle.book.specs.Shelves.{Files}
 use Rattle.outside.specs.declared.fault.OutsideFault.{OutsideFault}
 use Rattle.outside.specs.declared.fault.OutsideFault.TheVariants as out
-use Rattle.outside.specs.BookCalls.{TellsFiles}
+use Rattle.outside.specs.BookCalls.{ReportsFiles}
 use Rattle.outside.specs.Calls.{IsLast, Seen}
 use Rattle.outside.specs.Devices.{Device}
 use Rattle.outside.specs.Opened.{Opened, journal_of}
@@ -71,12 +71,12 @@ pub record IsNextOf (opened : Option Opened) (step : ℕ) : Type 0 where
 
 -- A step is reported as refused only where it is the next one of the plan that is pending then. Where the outside behaves as specified, the
 -- files hold that plan.
-abbrev pub TellsRefused : (now : Option Opened) → (honest from : Type 0) → Device → (step : ℕ) → Type 0
-TellsRefused now honest from d step = IsNextOf now step × (honest → from → RefusedAt step d)
+abbrev pub ReportsRefused : (now : Option Opened) → (honest from : Type 0) → Device → (step : ℕ) → Type 0
+ReportsRefused now honest from d step = IsNextOf now step × (honest → from → RefusedAt step d)
 
 -- the files hold no book, and this is the first line that shows it
-abbrev pub TellsUnread : (honest : Type 0) → Device → OutsideFault → Type 0
-TellsUnread honest d fault = honest → TellsFiles fault d.files
+abbrev pub ReportsUnread : (honest : Type 0) → Device → OutsideFault → Type 0
+ReportsUnread honest d fault = honest → ReportsFiles fault d.files
 
 -- the state's run has the greatest number
 pub record IsLastRun (files : Files) : Type 0 where
@@ -91,8 +91,8 @@ ReadsLastRun None = ⊥
 ReadsLastRun (Some o) = o.state.run + 1 ≡ 2 ^ 64
 
 -- no run comes after the state that was read. Where the outside behaves as specified, the files hold it.
-abbrev pub TellsLastRun : (now : Option Opened) → (honest : Type 0) → Device → Type 0
-TellsLastRun now honest d = ReadsLastRun now × (honest → IsLastRun d.files)
+abbrev pub ReportsLastRun : (now : Option Opened) → (honest : Type 0) → Device → Type 0
+ReportsLastRun now honest d = ReadsLastRun now × (honest → IsLastRun d.files)
 
 -- the files hold a state, and this run is beyond the next one
 pub record IsBeyond (run : ℕ) (d : Device) : Type 0 where
@@ -106,8 +106,8 @@ abbrev pub ReadsBeyond : Option Opened → (run : ℕ) → Type 0
 ReadsBeyond None run = ⊥
 ReadsBeyond (Some o) run = o.state.run + 1 < run
 
-abbrev pub TellsBeyond : (now : Option Opened) → (honest : Type 0) → (run : ℕ) → Device → Type 0
-TellsBeyond now honest run d = ReadsBeyond now run × (honest → IsBeyond run d)
+abbrev pub ReportsBeyond : (now : Option Opened) → (honest : Type 0) → (run : ℕ) → Device → Type 0
+ReportsBeyond now honest run d = ReadsBeyond now run × (honest → IsBeyond run d)
 
 -- why faults of the run's own are reported: that a side's UIDVALIDITY has changed, that the map of keywords has, that marks repeat, that
 -- the run is beyond the next one, that the state's run has the greatest number, and that the files hold no book, if a line of the state or

@@ -33,19 +33,19 @@ copy_at plan (step.Flags direction far near set cleared) d = None
 copy_at plan (step.Expunge side uid) d = None
 
 -- the UID that is reported as that of a copy that was found
-abbrev pub told_found : StepResult → Option ℕ
-told_found (did.Made copy) = None
-told_found (did.Found copy) = Some copy
-told_found did.Void = None
-told_found did.Plain = None
+abbrev pub reported_found : StepResult → Option ℕ
+reported_found (did.Made copy) = None
+reported_found (did.Found copy) = Some copy
+reported_found did.Void = None
+reported_found did.Plain = None
 
 -- a copy is reported as found exactly if it stood there, and has the UID that it had
 abbrev pub IsFoundSo : Plan → Device → Performed → Type 0
-IsFoundSo plan d p = told_found p.result ≡ copy_at plan p.step d
+IsFoundSo plan d p = reported_found p.result ≡ copy_at plan p.step d
 
 -- none is reported as found
 abbrev pub IsNew : Performed → Type 0
-IsNew p = told_found p.result ≡ None
+IsNew p = reported_found p.result ≡ None
 
 -- The first of the steps may have been done when the pass began. Those after it were not.
 abbrev pub AreFoundSo : Plan → Device → List Performed → Type 0

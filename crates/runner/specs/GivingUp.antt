@@ -22,11 +22,11 @@ use Rattle.outside.specs.Opened.{Opened, journal_of, state_of}
 use Rattle.run_states.specs.Openings.{IsIdle}
 use Rattle.run_states.specs.Plans.{next_of}
 use Rattle.runner.specs.declared.fault.RunFault.{RunFault}
-use Rattle.runner.specs.Faults.{Reasons, TellsUnread, because, or_refused, or_unread}
+use Rattle.runner.specs.Faults.{Reasons, ReportsUnread, because, or_refused, or_unread}
 use Rattle.runner.specs.Finding.{FindsSame, copy_at}
 use Rattle.runner.specs.HalfEntries.{lost_at, lost_between, removes_some}
 use Rattle.runner.specs.Parts.{PartOr, Never}
-use Rattle.runner.specs.Validities.{TellsChanged}
+use Rattle.runner.specs.Validities.{ReportsChanged}
 
 -- Both mailboxes are as they were, but for what others added: no call has named a message, and under a mark that nobody else writes the
 -- same copies stand there.
@@ -175,11 +175,11 @@ abbrev pub InLook : (number : ℕ) → Reasons
 InLook number = or_refused (λ step. step ≡ number) Never
 
 -- a refusal may be reported of the next step of the plan that the files held
-abbrev pub TellsNext : (honest : Type 0) → Device → (step : ℕ) → Type 0
-TellsNext honest d step = honest → (s : SyncState) (w : WrittenJournal) → Holds d.files s (Planned w) → step ≡ length w.journal.log + 1
+abbrev pub ReportsNext : (honest : Type 0) → Device → (step : ℕ) → Type 0
+ReportsNext honest d step = honest → (s : SyncState) (w : WrittenJournal) → Holds d.files s (Planned w) → step ≡ length w.journal.log + 1
 
 -- Why giving up may report a fault: `ValidityChanged` comes only where that side's UIDVALIDITY is not the plan's, far before near, and
 -- nothing has changed then; a line of the state or the journal only where the files that stand there hold no book, but line 0 of the state,
 -- which the outside has reported last, of a copy whose UID is taken; and a refusal only of the step after the logged ones.
 abbrev pub giving_up_reasons : (honest : Type 0) → (alone : Bool) → (old new : Device) → Reasons
-giving_up_reasons honest alone old new = or_unread (TellsUnread honest new) (or_refused (TellsNext honest old) (because (TellsChanged honest alone old new) ⊥))
+giving_up_reasons honest alone old new = or_unread (ReportsUnread honest new) (or_refused (ReportsNext honest old) (because (ReportsChanged honest alone old new) ⊥))

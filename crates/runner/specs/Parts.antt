@@ -7,18 +7,18 @@ use Rattle.outside.specs.GoingOn.{GoesOn}
 use Rattle.outside.specs.Opened.{Opened}
 use Rattle.runner.specs.declared.fault.RunFault.{RunFault}
 use Rattle.runner.specs.declared.fault.RunFault.TheVariants.{Stopped}
-use Rattle.runner.specs.Faults.{IsCaused, LeavesRun, Reasons, RefusedAt, TellsRefused, because, or_refused, performing, stops_met}
+use Rattle.runner.specs.Faults.{IsCaused, LeavesRun, Reasons, RefusedAt, ReportsRefused, because, or_refused, performing, stops_met}
 use Rattle.runner.specs.Going.{number_at}
 
 -- what was reported before stands after what was reported since
-pub record TellsMore (old new : Seen) : Type 0 where
+pub record ReportsMore (old new : Seen) : Type 0 where
   pub since : List OutsideFault
-  pub now : new.told ≡ since ++ old.told
+  pub now : new.reported ≡ since ++ old.reported
 
 -- neither count falls, nothing that was reported is lost, and nothing was opened again
 pub record NoLess (old new : Seen) : Type 0 where
   pub stops : old.stops ≤ new.stops
-  pub told : TellsMore old new
+  pub reported : ReportsMore old new
   pub appends : old.appends ≤ new.appends
   pub reopened : new.reopened ≡ old.reopened
 
@@ -27,7 +27,7 @@ pub record NoLess (old new : Seen) : Type 0 where
 pub record Passed (honest : Type 0) (from to : Device → Type 0) (copies : ℕ) (old new : Seen) : Type 0 where
   pub is_whole : new.is_broken ≡ false
   pub stops : new.stops ≡ old.stops
-  pub told : new.told ≡ old.told
+  pub reported : new.reported ≡ old.reported
   pub appends : new.appends ≡ old.appends + copies
   pub reopened : new.reopened ≡ old.reopened
   pub goes_on : honest → GoesOn old.device new.device
@@ -65,7 +65,7 @@ StepPart number opened honest from underway copies reaches old new result = Part
 
 -- a part that performs steps of the plan that is pending, and may report a fault of the run's own, for these reasons
 abbrev pub RunPart : {T : Type 0} → Reasons → (now : Option Opened) → (honest : Type 0) → (from underway : Device → Type 0) → (copies : T → ℕ) → (reaches : T → Device → Type 0) → Seen → Seen → Result T RunFault → Type 0
-RunPart reasons now honest from underway copies reaches old new result = PartOr (or_refused (TellsRefused now honest (from old.device) new.device) reasons) honest from underway copies reaches old new result
+RunPart reasons now honest from underway copies reaches old new result = PartOr (or_refused (ReportsRefused now honest (from old.device) new.device) reasons) honest from underway copies reaches old new result
 
 -- on an outside that had failed before, a part stops and changes nothing
 abbrev pub IsStuck : {T : Type 0} → (old new : Seen) → Result T RunFault → Type 0

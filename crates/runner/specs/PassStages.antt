@@ -15,14 +15,14 @@ use Rattle.runner.specs.declared.fault.RunFault.{RunFault}
 use Rattle.runner.specs.declared.pass.Pass.{Pass}
 use Rattle.runner.specs.Answers.{AnswersTo, HasRepeats, IsRun, Moves, PlanStart, ReadPassStart, RunsBy, made_in, run_of}
 use Rattle.runner.specs.Before.{HasNoPlan, IsEmptied, IsShown, world_shown}
-use Rattle.runner.specs.ChangedMaps.{TellsMap}
+use Rattle.runner.specs.ChangedMaps.{ReportsMap}
 use Rattle.runner.specs.Faults.{ReadsBeyond, Reasons, because, or_beyond, or_keywords, or_repeats}
 use Rattle.runner.specs.Finding.{FindsBy, OfSame}
 use Rattle.runner.specs.Going.{AreOpen, BeforeStep, IsGoing, log_at, plan_at}
 use Rattle.runner.specs.Naming.{NamesBy}
 use Rattle.runner.specs.Parts.{RunPart}
 use Rattle.runner.specs.Results.{EndsBy, HasResults, Report}
-use Rattle.runner.specs.Validities.{IsCompared, LeavesBoxes, TellsChange, TellsUnlessSame}
+use Rattle.runner.specs.Validities.{IsCompared, LeavesBoxes, ReportsChange, ReportsUnlessSame}
 
 module _ {O : Type 0} (o : Ghosts O) where
   -- ---- what each call keeps
@@ -36,14 +36,14 @@ module _ {O : Type 0} (o : Ghosts O) where
 
   -- that a listing names another UIDVALIDITY than the state, which it does not where both mailboxes have the recorded one
   abbrev pub plan_reasons : (old new : O) → Reasons
-  plan_reasons old new = because (λ side. TellsUnlessSame (o.honest new) (o.opened old) (o.seen old).device side × IsCompared (o.opened new) side) ⊥
+  plan_reasons old new = because (λ side. ReportsUnlessSame (o.honest new) (o.opened old) (o.seen old).device side × IsCompared (o.opened new) side) ⊥
 
   -- that a UIDVALIDITY has changed, or that a plan goes by another map, once the shelf was read; nothing else has changed then
   abbrev pub read_reasons : List Keyword → (old new : O) → Reasons
   read_reasons keywords old new =
       let d = (o.seen old).device in
       let d' = (o.seen new).device in
-      or_keywords (TellsMap (o.honest new) o.alone (o.opened old) (o.opened new) keywords d d') (because (λ side. TellsChange (o.honest new) o.alone (o.opened old) d d' side × IsCompared (o.opened new) side) ⊥)
+      or_keywords (ReportsMap (o.honest new) o.alone (o.opened old) (o.opened new) keywords d d') (because (λ side. ReportsChange (o.honest new) o.alone (o.opened old) d d' side × IsCompared (o.opened new) side) ⊥)
 
   -- that, or that the run is beyond the next one
   abbrev pub run_reasons : (run : ℕ) → List Keyword → (old new : O) → Reasons
@@ -79,7 +79,7 @@ module _ {O : Type 0} (o : Ghosts O) where
     pub record StageAnswer (run : ℕ) (from : Device → Type 0) (old new : O) (pass : Pass) : Type 0 where
       pub by_files : AnswersTo run (o.opened old) pass
       pub results : o.honest new → HasResults pass (o.seen new).device
-      pub told : o.honest new → from (o.seen old).device → Report opening (o.opened new) pass (o.seen new).device
+      pub reported : o.honest new → from (o.seen old).device → Report opening (o.opened new) pass (o.seen new).device
       pub found : o.honest new → from (o.seen old).device → OfSame o.ours (o.seen old).device (λ d. FindsBy (o.opened old) d pass)
       pub named : o.honest new → from (o.seen old).device → NamesBy opening (o.opened old) pass (o.seen old).device (o.seen new).device
 

@@ -13,12 +13,12 @@ use Rattle.run_states.specs.Endings.{IsDone}
 use Rattle.run_states.specs.Openings.{IsIdle, Opening}
 use Rattle.runner.specs.declared.pass.Pass.{Pass}
 use Rattle.runner.specs.Answers.{HasRepeats, PassStart, OfFiles, as_read}
-use Rattle.runner.specs.Faults.{Reasons, TellsBeyond, TellsUnread, because, or_beyond, or_keywords, or_unread}
-use Rattle.runner.specs.ChangedMaps.{TellsOtherMap}
+use Rattle.runner.specs.Faults.{Reasons, ReportsBeyond, ReportsUnread, because, or_beyond, or_keywords, or_unread}
+use Rattle.runner.specs.ChangedMaps.{ReportsOtherMap}
 use Rattle.runner.specs.Finding.{FindsAt}
 use Rattle.runner.specs.Naming.{NamesAt, OthersStand}
 use Rattle.runner.specs.Results.{Report}
-use Rattle.runner.specs.Validities.{IsCompared, LeavesBoxes, TellsChanged}
+use Rattle.runner.specs.Validities.{IsCompared, LeavesBoxes, ReportsChanged}
 
 -- Of a run that was underway. The steps reported are those of the plan of the world that the run is over for, in order: all of them, or the
 -- last where the plan was pending; each new message is reported with the UID of a copy; the messages that were skipped are those of the
@@ -26,8 +26,8 @@ use Rattle.runner.specs.Validities.{IsCompared, LeavesBoxes, TellsChanged}
 -- first step that was not logged alone, and none where the plan was made in this pass. Where nobody else adds messages, and the run is not
 -- an older one, both mailboxes and the state are alike to the outcome that the rules name for the opening. Calls have named only what steps
 -- of that plan are to change or to remove, and each other message stands as it did.
-pub record TellsRun {ours : List ℕ → Bool} {alone : Bool} (opening : Opening ours alone) (run : ℕ) (now : Option Opened) (pass : Pass) (old new : Device) : Type 0 where
-  pub told : Report opening now pass new
+pub record ReportsRun {ours : List ℕ → Bool} {alone : Bool} (opening : Opening ours alone) (run : ℕ) (now : Option Opened) (pass : Pass) (old new : Device) : Type 0 where
+  pub reported : Report opening now pass new
   pub found : FindsAt ours old pass
   pub named : NamesAt opening pass old new
   pub others : (s : SyncState) (p : Pending) → Holds old.files s p → OthersStand opening (as_read s p) pass old new
@@ -47,5 +47,5 @@ pub record LeavesMade (honest : Type 0) (alone : Bool) (old new : Device) : Type
 -- recorded UIDVALIDITY: never in a first run.
 abbrev pub pass_reasons : (now : Option Opened) → (honest : Type 0) → {ours : List ℕ → Bool} {alone : Bool} → Opening ours alone → (run : ℕ) → Options → Stream → (old new : Device) → Reasons
 pass_reasons now honest {ours} {alone} opening run options stream old new =
-    or_unread (TellsUnread honest new) (or_beyond (TellsBeyond now honest run old) (or_keywords (TellsOtherMap now honest alone options.keywords old new)
-    (because (λ side. TellsChanged honest alone old new side × IsCompared now side) (HasRepeats opening now honest (PassStart opening run options stream old) options stream))))
+    or_unread (ReportsUnread honest new) (or_beyond (ReportsBeyond now honest run old) (or_keywords (ReportsOtherMap now honest alone options.keywords old new)
+    (because (λ side. ReportsChanged honest alone old new side × IsCompared now side) (HasRepeats opening now honest (PassStart opening run options stream old) options stream))))

@@ -19,7 +19,7 @@ use Rattle.runner.specs.declared.pass.Settled.{Settled}
 use Rattle.runner.specs.Answers.{as_read, made_in}
 use Rattle.runner.specs.Attempts.{AnswersAt, LastAttempt, ChangedLast, HaveRepeated, KeptLast, MetBefore, MetStops, Reopens, began_on, failed_before}
 use Rattle.runner.specs.ChangedMaps.{HoldsOtherMap}
-use Rattle.runner.specs.Faults.{IsCaused, IsNextOf, LeavesRun, Reasons, RefusedAt, TellsLastRun, TellsUnread, because, or_beyond, or_greatest, or_keywords, or_refused, or_unread}
+use Rattle.runner.specs.Faults.{IsCaused, IsNextOf, LeavesRun, Reasons, RefusedAt, ReportsLastRun, ReportsUnread, because, or_beyond, or_greatest, or_keywords, or_refused, or_unread}
 use Rattle.runner.specs.Finding.{FindsAt}
 use Rattle.runner.specs.Maps.{HasOtherMapIn}
 use Rattle.runner.specs.Naming.{NamesAt, OthersStand}
@@ -39,7 +39,7 @@ pub record IsSettled {ours : List ℕ → Bool} {alone : Bool} (opening : Openin
   pub alike : alone ≡ true → IsOpening opening.world → IsDone opening.world opening.options new.device
   pub began : LastAttempt opening settled.stops old new stream
   pub answers : AnswersAt (opening.world.state.run + 1) options settled.last (began_on began.reopens.since old.device) began.drawn
-  pub told : Report opening now settled.last new.device
+  pub reported : Report opening now settled.last new.device
   pub found : FindsAt ours (began_on began.reopens.since old.device) settled.last
   pub named : NamesAt opening settled.last (began_on began.reopens.since old.device) new.device
   pub others : (s : SyncState) (p : Pending) → Holds (began_on began.reopens.since old.device).files s p →
@@ -61,7 +61,7 @@ pub record IsUnsettled {ours : List ℕ → Bool} {alone : Bool} (opening : Open
 -- read and is not the one before the run, which no outside shows that behaves as specified.
 abbrev pub settle_reasons : (now : Option Opened) → (honest : Type 0) → {ours : List ℕ → Bool} {alone : Bool} → Opening ours alone → Options → (stream after : Stream) → (old new : Device) → Reasons
 settle_reasons now honest {ours} {alone} opening options stream after old new =
-    or_unread (TellsUnread honest new) (or_greatest (TellsLastRun now honest new) (or_refused (IsNextOf now) (or_beyond (IsRead now × (honest → ⊥))
+    or_unread (ReportsUnread honest new) (or_greatest (ReportsLastRun now honest new) (or_refused (IsNextOf now) (or_beyond (IsRead now × (honest → ⊥))
     (or_keywords (HasOtherMapIn options.keywords now × (honest → HoldsOtherMap options.keywords new)) (because (IsCompared now) (HaveRepeated honest opening now options stream after old))))))
 
 -- a fault that is no stop has its reason; a refusal or a fault of a box is the last that was reported, unless it is that of a copy that was

@@ -102,17 +102,17 @@ pub record IsCompared (now : Option Opened) (side : Side) : Type 0 where
   pub is_recorded : recorded_in now side ≡ Some before
 
 -- only where this side has changed, and nothing else has
-abbrev pub TellsChange : (honest : Type 0) → (alone : Bool) → Option Opened → (d d' : Device) → Side → Type 0
-TellsChange honest alone opened d d' side = honest → HasChanged opened side d × IsKept alone d d'
+abbrev pub ReportsChange : (honest : Type 0) → (alone : Bool) → Option Opened → (d d' : Device) → Side → Type 0
+ReportsChange honest alone opened d d' side = honest → HasChanged opened side d × IsKept alone d d'
 
 -- the same by what the files held
-abbrev pub TellsChanged : (honest : Type 0) → (alone : Bool) → (d d' : Device) → Side → Type 0
-TellsChanged honest alone d d' side = honest → (s : SyncState) (p : Pending) → Holds d.files s p → HasChanged (as_read s p) side d × IsKept alone d d'
+abbrev pub ReportsChanged : (honest : Type 0) → (alone : Bool) → (d d' : Device) → Side → Type 0
+ReportsChanged honest alone d d' side = honest → (s : SyncState) (p : Pending) → Holds d.files s p → HasChanged (as_read s p) side d × IsKept alone d d'
 
 -- of this box alone
-abbrev pub TellsOther : (honest : Type 0) → (alone : Bool) → Option Opened → (opens : Side) → (d d' : Device) → Side → Type 0
-TellsOther honest alone opened opens d d' side = (side ≡ opens) × (honest → HasOther opened opens d × IsKept alone d d')
+abbrev pub ReportsOther : (honest : Type 0) → (alone : Bool) → Option Opened → (opens : Side) → (d d' : Device) → Side → Type 0
+ReportsOther honest alone opened opens d d' side = (side ≡ opens) × (honest → HasOther opened opens d × IsKept alone d d')
 
 -- not where both mailboxes have the UIDVALIDITY that is recorded
-abbrev pub TellsUnlessSame : (honest : Type 0) → Option Opened → Device → Side → Type 0
-TellsUnlessSame honest opened d side = honest → BothSame opened d → ⊥
+abbrev pub ReportsUnlessSame : (honest : Type 0) → Option Opened → Device → Side → Type 0
+ReportsUnlessSame honest opened d side = honest → BothSame opened d → ⊥

@@ -7,7 +7,7 @@ ghost use Rattle.run_states.specs.Conditions.{Underway};
 ghost use Rattle.run_states.specs.Openings.{Opening};
 ghost use Rattle.runner.specs.Parts.{StepPart};
 ghost use Rattle.runner.specs.Going.{IsGoing, AfterCopy, AfterStep, BeforeStep, AfterSearch, CopiesUnder, FoundCopy, logged_of, made_by, next_at, plan_at};
-ghost use Rattle.runner.specs.Finding.{OfSame, copy_at, copy_under, told_found};
+ghost use Rattle.runner.specs.Finding.{OfSame, copy_at, copy_under, reported_found};
 ghost use Rattle.runner.specs.Sources.{BySource};
 
 use crate::fault::{RunFault, step_fault};
@@ -91,7 +91,7 @@ fn copy<O: Outside>(
     ensures keywords { O.keywords outside.new ≡ O.keywords outside.old }
     ensures opened { O.opened outside.new ≡ O.opened outside.old }
     ensures fits { IfOk result (λ r. LogsNew (logged_of r)) }
-    ensures made { IfOk result (λ r. told_found r ≡ None) }
+    ensures made { IfOk result (λ r. reported_found r ≡ None) }
     ensures source { IfOk result (λ r. O.honest outside.new → BySource O.ours O.alone direction uid r (O.seen outside.old).device) }
     ensures part { StepPart number (O.opened outside.old) (O.honest outside.new)
         (BeforeStep opening (O.opened outside.old) false) (Underway opening) made_by
@@ -104,7 +104,7 @@ fn copy<O: Outside>(
     match carried {
         Carried::Absent => Ok(StepResult::Void),
         Carried::Unfit => Ok(StepResult::Void),
-        Carried::Made(told) => match told {
+        Carried::Made(reported) => match reported {
             Some(copy) => Ok(StepResult::Made(copy)),
             None => match find_copy(outside, number, direction, mark)? {
                 Some(copy) => Ok(StepResult::Made(copy)),
@@ -133,7 +133,7 @@ pub(crate) fn bring<O: Outside>(
     ensures opened { O.opened outside.new ≡ O.opened outside.old }
     ensures fits { IfOk result (λ r. LogsNew (logged_of r)) }
     ensures found { IfOk result (λ r. O.honest outside.new → BeforeStep opening (O.opened outside.old) is_resumed
-        (O.seen outside.old).device → OfSame O.ours (O.seen outside.old).device (λ d. told_found r ≡ copy_at
+        (O.seen outside.old).device → OfSame O.ours (O.seen outside.old).device (λ d. reported_found r ≡ copy_at
         (plan_at (O.opened outside.old)) (step.New direction uid flags mark) d)) }
     ensures part { StepPart number (O.opened outside.old) (O.honest outside.new)
         (BeforeStep opening (O.opened outside.old) is_resumed) (Underway opening) made_by

@@ -15,11 +15,11 @@ ghost use Rattle.outside.specs.Opened.{IsBook, IsHeld, journal_in, turned, with_
 ghost use Rattle.run_states.specs.Openings.{IsIdle};
 ghost use Rattle.run_states.specs.Plans.{first_uid as first_of};
 ghost use Rattle.runner.specs.Before.{HasPlan};
-ghost use Rattle.runner.specs.Faults.{TellsUnread, because, or_refused, or_unread};
+ghost use Rattle.runner.specs.Faults.{ReportsUnread, because, or_refused, or_unread};
 ghost use Rattle.runner.specs.GivingUp.{Counted, GivesUpRead, GivesUpSo, HoldsLeft, HoldsLeftOf, InLook, KeepsAll, KeepsBoxes, LeavesRead, NotesCopy, StillPending, giving_up_reasons};
 ghost use Rattle.runner.specs.Going.{AreOpen, CopiesUnder, FitsNext, IsGoing, next_at, number_at, plan_at};
 ghost use Rattle.runner.specs.Parts.{IsStuck, Never};
-ghost use Rattle.runner.specs.Validities.{BothSame, HasSame, IsKept, TellsChange, TellsOther};
+ghost use Rattle.runner.specs.Validities.{BothSame, HasSame, IsKept, ReportsChange, ReportsOther};
 
 use crate::fault::{RunFault, call_fault, step_fault};
 use crate::half_entries::lost_sides;
@@ -42,7 +42,7 @@ fn read_book<O: Outside>(outside: &mut O) -> Result<(), RunFault>
     ensures kept { O.honest outside.new → KeepsAll O.ours O.alone (O.seen outside.old).device (O.seen outside.new).device }
     ensures same { O.honest outside.new → IsKept O.alone (O.seen outside.old).device (O.seen outside.new).device }
     ensures stuck { IsStuck (O.seen outside.old) (O.seen outside.new) result }
-    ensures counted { Counted (or_unread (TellsUnread (O.honest outside.new) (O.seen outside.new).device) Never) (O.honest outside.new)
+    ensures counted { Counted (or_unread (ReportsUnread (O.honest outside.new) (O.seen outside.new).device) Never) (O.honest outside.new)
         (O.seen outside.old) (O.seen outside.new) result }
 {
     match outside.open_book() {
@@ -60,7 +60,7 @@ fn open_same<O: Outside>(outside: &mut O, side: Side) -> Result<(), RunFault>
     ensures same { OnOk result (O.honest outside.new → HasSame (O.opened outside.old) side (O.seen outside.new).device × IsKept O.alone
         (O.seen outside.old).device (O.seen outside.new).device) }
     ensures kept { O.honest outside.new → KeepsAll O.ours O.alone (O.seen outside.old).device (O.seen outside.new).device }
-    ensures counted { Counted (because (TellsOther (O.honest outside.new) O.alone (O.opened outside.old) side (O.seen outside.old).device
+    ensures counted { Counted (because (ReportsOther (O.honest outside.new) O.alone (O.opened outside.old) side (O.seen outside.old).device
         (O.seen outside.new).device) ⊥) (O.honest outside.new) (O.seen outside.old) (O.seen outside.new) result }
 {
     let recorded = recorded_validity(outside, side);
@@ -274,7 +274,7 @@ fn open_both<O: Outside>(outside: &mut O) -> Result<(), RunFault>
     ensures same { OnOk result (O.honest outside.new → BothSame (O.opened outside.old) (O.seen outside.new).device × IsKept O.alone
         (O.seen outside.old).device (O.seen outside.new).device) }
     ensures kept { O.honest outside.new → KeepsAll O.ours O.alone (O.seen outside.old).device (O.seen outside.new).device }
-    ensures counted { Counted (because (TellsChange (O.honest outside.new) O.alone (O.opened outside.old) (O.seen outside.old).device
+    ensures counted { Counted (because (ReportsChange (O.honest outside.new) O.alone (O.opened outside.old) (O.seen outside.old).device
         (O.seen outside.new).device) ⊥) (O.honest outside.new) (O.seen outside.old) (O.seen outside.new) result }
 {
     open_same(outside, Side::Far)?;
@@ -293,7 +293,7 @@ fn get_ready<O: Outside>(outside: &mut O) -> Result<(), RunFault>
     ensures left { OnErr result (O.honest outside.new → IsHeld (O.opened outside.old) (O.seen outside.old).device
         → StillPending (O.opened outside.old) (O.seen outside.new).device) }
     ensures boxes { O.honest outside.new → KeepsBoxes O.ours O.alone (O.seen outside.old).device (O.seen outside.new).device }
-    ensures counted { Counted (because (TellsChange (O.honest outside.new) O.alone (O.opened outside.old) (O.seen outside.old).device
+    ensures counted { Counted (because (ReportsChange (O.honest outside.new) O.alone (O.opened outside.old) (O.seen outside.old).device
         (O.seen outside.new).device) ⊥) (O.honest outside.new) (O.seen outside.old) (O.seen outside.new) result }
 {
     open_both(outside)?;
@@ -326,7 +326,7 @@ fn leave_plan<O: Outside>(alloc: Global, outside: &mut O) -> Result<bool, RunFau
     ensures gives_up { O.honest outside.new → IsHeld (O.opened outside.old) (O.seen outside.old).device
         → GivesUpRead O.ours O.alone (O.opened outside.old) (O.seen outside.old).device (O.seen outside.new).device result }
     ensures boxes { O.honest outside.new → KeepsBoxes O.ours O.alone (O.seen outside.old).device (O.seen outside.new).device }
-    ensures counted { Counted (or_refused (λ step. step ≡ number_at (O.opened outside.old)) (because (TellsChange (O.honest outside.new)
+    ensures counted { Counted (or_refused (λ step. step ≡ number_at (O.opened outside.old)) (because (ReportsChange (O.honest outside.new)
         O.alone (O.opened outside.old) (O.seen outside.old).device (O.seen outside.new).device) ⊥)) (O.honest outside.new)
         (O.seen outside.old) (O.seen outside.new) result }
 {

@@ -9,9 +9,9 @@ ghost use Rattle.mailcore.specs.Spared.{spares};
 ghost use Rattle.outside.specs.Opened.{IsBook, IsHeld, IsOpen, IsRead, TakesPlan, shown_far, state_of, turned, with_box, with_listing};
 ghost use Rattle.run_states.specs.Conditions.{Underway};
 ghost use Rattle.run_states.specs.Openings.{Opening, once_listed};
-ghost use Rattle.runner.specs.Faults.{TellsUnread, because, or_unread};
+ghost use Rattle.runner.specs.Faults.{ReportsUnread, because, or_unread};
 ghost use Rattle.runner.specs.Parts.{IsStuck, Part, PartOr, Never};
-ghost use Rattle.runner.specs.Validities.{BothSame, HasSame, HaveValidities, IsCompared, IsKept, KeepsValidities, LeavesBoxes, TellsChange, TellsOther, recorded_in};
+ghost use Rattle.runner.specs.Validities.{BothSame, HasSame, HaveValidities, IsCompared, IsKept, KeepsValidities, LeavesBoxes, ReportsChange, ReportsOther, recorded_in};
 ghost use Rattle.runner.specs.Going.{AreOpen, BeforeStep};
 ghost use Rattle.runner.specs.Finding.{FindsSame};
 ghost use Rattle.runner.specs.Before.{BothListed, FarListed, SparesOld, HasNoJournal, HasNoPlan, HasNone, HasPlan, IsClear, IsEmptied, ReadUnderway, IsMade, Resumed, world_shown};
@@ -36,7 +36,7 @@ pub(crate) fn recall<O: Outside>(outside: &mut O) -> Result<(), RunFault>
     ensures kept { O.honest outside.new → IsKept O.alone (O.seen outside.old).device (O.seen outside.new).device }
     ensures stuck { IsStuck (O.seen outside.old) (O.seen outside.new) result }
     ensures same { OnOk result (O.honest outside.new → FindsSame O.ours (O.seen outside.old).device (O.seen outside.new).device) }
-    ensures part { PartOr (or_unread (TellsUnread (O.honest outside.new) (O.seen outside.new).device) Never) (O.honest outside.new)
+    ensures part { PartOr (or_unread (ReportsUnread (O.honest outside.new) (O.seen outside.new).device) Never) (O.honest outside.new)
         (Underway opening) (Underway opening)
         (λ _. 0) (λ _. ReadUnderway opening (O.opened outside.new)) (O.seen outside.old) (O.seen outside.new) result }
 {
@@ -263,7 +263,7 @@ fn open_one<O: Outside>(outside: &mut O, side: Side) -> Result<(), RunFault>
     ensures kept { OnOk result (O.honest outside.new → HasSame (O.opened outside.old) side (O.seen outside.new).device × IsKept O.alone
         (O.seen outside.old).device (O.seen outside.new).device) }
     ensures same { OnOk result (O.honest outside.new → FindsSame O.ours (O.seen outside.old).device (O.seen outside.new).device) }
-    ensures part { PartOr (because (λ at. TellsOther (O.honest outside.new) O.alone (O.opened outside.old) side (O.seen outside.old).device
+    ensures part { PartOr (because (λ at. ReportsOther (O.honest outside.new) O.alone (O.opened outside.old) side (O.seen outside.old).device
         (O.seen outside.new).device at × IsCompared (O.opened outside.new) at) ⊥) (O.honest outside.new) (ReadUnderway opening (O.opened outside.old))
         (Underway opening) (λ _. 0) (λ _. ReadUnderway opening (O.opened outside.new)) (O.seen outside.old)
         (O.seen outside.new) result }
@@ -294,7 +294,7 @@ pub(crate) fn open_boxes<O: Outside>(outside: &mut O) -> Result<(), RunFault>
     ensures kept { OnOk result (O.honest outside.new → BothSame (O.opened outside.old) (O.seen outside.new).device × IsKept O.alone
         (O.seen outside.old).device (O.seen outside.new).device) }
     ensures same { OnOk result (O.honest outside.new → FindsSame O.ours (O.seen outside.old).device (O.seen outside.new).device) }
-    ensures part { PartOr (because (λ at. TellsChange (O.honest outside.new) O.alone (O.opened outside.old) (O.seen outside.old).device
+    ensures part { PartOr (because (λ at. ReportsChange (O.honest outside.new) O.alone (O.opened outside.old) (O.seen outside.old).device
         (O.seen outside.new).device at × IsCompared (O.opened outside.new) at) ⊥) (O.honest outside.new) (ReadUnderway opening (O.opened outside.old))
         (Underway opening) (λ _. 0) (λ _. ReadUnderway opening (O.opened outside.new)) (O.seen outside.old)
         (O.seen outside.new) result }

@@ -86,7 +86,7 @@ pub(crate) fn make_plan<O: Outside, R: Rng>(
 }
 
 /// The messages of both listings that only want fitness to be new.
-pub(crate) fn passed_over<O: Outside>(
+pub(crate) fn all_skipped<O: Outside>(
     alloc: Global,
     outside: &O,
     both: &Listings,

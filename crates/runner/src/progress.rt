@@ -7,22 +7,22 @@ use outside::outside::Outside;
 /// Who is informed how far a run is.
 pub trait Progress {
     /// So many steps of the plan are logged, of so many that it has.
-    fn tell(&self, logged: usize, steps: usize);
+    fn report(&self, logged: usize, steps: usize);
 }
 
 /// Nobody is informed.
 impl Progress for () {
-    fn tell(&self, logged: usize, steps: usize) {
+    fn report(&self, logged: usize, steps: usize) {
         let _ = (logged, steps);
     }
 }
 
 /// Reports how many steps of the plan that is pending are logged.
-pub(crate) fn tell_logged<O: Outside, P: Progress>(outside: &O, progress: &P)
+pub(crate) fn report_logged<O: Outside, P: Progress>(outside: &O, progress: &P)
     requires going { HasUntorn (O.opened outside.now) }
 {
     if let Some(journal) = outside.pending() {
         let logged = journal.log.as_slice().len();
-        progress.tell(logged, journal.plan.steps.as_slice().len());
+        progress.report(logged, journal.plan.steps.as_slice().len());
     }
 }

@@ -14,12 +14,12 @@ ghost use Rattle.runner.specs.Results.{HasResults};
 ghost use Rattle.runner.specs.Answers.{RunEnd, HasRepeats, PlanStart, PassStart, Moves, OfFiles, PassEnd, made_in, run_of};
 ghost use Rattle.runner.specs.Attempts.{AnswersAt};
 ghost use Rattle.runner.specs.PassStages.{Concluded, DrawnStage, Frame, IsReadFor, LeavesSkipped, MayPlan, Proposed, ReadStage, Stage, plan_reasons, read_reasons, run_reasons};
-ghost use Rattle.runner.specs.Passes.{LeavesMade, TellsRun, pass_reasons};
+ghost use Rattle.runner.specs.Passes.{LeavesMade, ReportsRun, pass_reasons};
 
 use crate::fault::{RunFault, call_fault};
 use crate::opening::{clear, forget, list_both, open_boxes, recall, untear, write_plan};
 use crate::pass::Pass;
-use crate::planning::{make_plan, passed_over};
+use crate::planning::{all_skipped, make_plan};
 use crate::progress::Progress;
 use crate::same_map::same_map;
 use crate::steps::carry_out;
@@ -69,7 +69,7 @@ fn propose<O: Outside, R: Rng>(
     clear(outside)?;
     let both = list_both(alloc, outside)?;
     let plan = make_plan(alloc, outside, &both, options, rng)?;
-    let unfit = passed_over(alloc, outside, &both, options)?;
+    let unfit = all_skipped(alloc, outside, &both, options)?;
     write_plan(outside, plan)?;
     Ok(unfit)
 }
@@ -226,8 +226,8 @@ pub fn pass<O: Outside, R: Rng, P: Progress>(
     ensures results { IfOk result (λ pass. O.honest outside.new → HasResults pass (O.seen outside.new).device) }
 
     // If the run was underway, the answer reports its steps, and the end is what the rules prescribe for the world that it began with.
-    ensures told { IfOk result (λ pass. O.honest outside.new → PassStart opening run options.now (R.stream rng.old)
-        (O.seen outside.old).device → TellsRun opening run (O.opened outside.new) pass (O.seen outside.old).device (O.seen outside.new).device) }
+    ensures reported { IfOk result (λ pass. O.honest outside.new → PassStart opening run options.now (R.stream rng.old)
+        (O.seen outside.old).device → ReportsRun opening run (O.opened outside.new) pass (O.seen outside.old).device (O.seen outside.new).device) }
 
     // A run that was made before is not made again. A run after the next one is refused, and nothing has changed. On an outside that had
     // failed before, it stops.

@@ -5,7 +5,7 @@ ghost use Rattle.run_states.specs.Openings.{Opening};
 ghost use Rattle.runner.specs.Answers.{Moves};
 ghost use Rattle.runner.specs.AttemptStages.{Attempt};
 ghost use Rattle.runner.specs.Attempts.{AtOpening, FromOpening, HasNoNext, HasReached, IsReached, AttemptAt, found_by};
-ghost use Rattle.runner.specs.Faults.{TellsLastRun, TellsUnread, or_greatest, or_unread};
+ghost use Rattle.runner.specs.Faults.{ReportsLastRun, ReportsUnread, or_greatest, or_unread};
 ghost use Rattle.runner.specs.Finding.{FindsSame};
 ghost use Rattle.runner.specs.PassStages.{Frame};
 ghost use Rattle.runner.specs.Parts.{IsStuck, Never, PartOr};
@@ -31,8 +31,8 @@ fn next_run<O: Outside>(outside: &mut O) -> Result<u64, RunFault>
     ensures greatest { HasNoNext (O.honest outside.new) O.alone (O.seen outside.old).device (O.seen outside.new).device result }
     ensures same { OnOk result (O.honest outside.new → FindsSame O.ours (O.seen outside.old).device (O.seen outside.new).device) }
     ensures stuck { IsStuck (O.seen outside.old) (O.seen outside.new) result }
-    ensures part { PartOr (or_unread (TellsUnread (O.honest outside.new) (O.seen outside.new).device)
-        (or_greatest (TellsLastRun (O.opened outside.new) (O.honest outside.new) (O.seen outside.new).device) Never))
+    ensures part { PartOr (or_unread (ReportsUnread (O.honest outside.new) (O.seen outside.new).device)
+        (or_greatest (ReportsLastRun (O.opened outside.new) (O.honest outside.new) (O.seen outside.new).device) Never))
         (O.honest outside.new) (AtOpening opening) (AtOpening opening)
         (λ _. 0) (λ number d. (number ≡ opening.world.state.run + 1) × AtOpening opening d) (O.seen outside.old)
         (O.seen outside.new) result }
@@ -62,8 +62,8 @@ fn fix_run<O: Outside>(outside: &mut O, run: &mut Option<u64>) -> Result<u64, Ru
     ensures greatest { run.old ≡ None → HasNoNext (O.honest outside.new) O.alone (O.seen outside.old).device (O.seen outside.new).device result }
     ensures same { OnOk result (O.honest outside.new → FindsSame O.ours (O.seen outside.old).device (O.seen outside.new).device) }
     ensures stuck { IsStuck (O.seen outside.old) (O.seen outside.new) result }
-    ensures part { PartOr (or_unread (TellsUnread (O.honest outside.new) (O.seen outside.new).device)
-        (or_greatest (TellsLastRun (O.opened outside.new) (O.honest outside.new) (O.seen outside.new).device) Never))
+    ensures part { PartOr (or_unread (ReportsUnread (O.honest outside.new) (O.seen outside.new).device)
+        (or_greatest (ReportsLastRun (O.opened outside.new) (O.honest outside.new) (O.seen outside.new).device) Never))
         (O.honest outside.new) (AttemptAt opening run.old) (AttemptAt opening run.new)
         (λ _. 0) (λ _. AttemptAt opening run.new) (O.seen outside.old) (O.seen outside.new) result }
 {

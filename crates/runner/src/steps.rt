@@ -11,7 +11,7 @@ ghost use Rattle.run_states.specs.Conditions.{Underway};
 ghost use Rattle.run_states.specs.Openings.{Opening};
 ghost use Rattle.runner.specs.Parts.{Never, PartOr, RunPart, StepPart};
 ghost use Rattle.runner.specs.Going.{IsGoing, AfterStep, BeforeStep, FitsNext, HasLogged, log_at, logged_of, logs_of, made, made_by, next_at, number_at, plan_at, steps_of};
-ghost use Rattle.runner.specs.Finding.{AreFoundSo, IsFoundSo, OfSame, copy_at, told_found};
+ghost use Rattle.runner.specs.Finding.{AreFoundSo, IsFoundSo, OfSame, copy_at, reported_found};
 ghost use Rattle.outside.specs.Calls.{Writes};
 
 use crate::changing::{FlagStep, carry_flags, mark_deleted, remove};
@@ -19,7 +19,7 @@ use crate::copying::bring;
 use crate::fault::{RunFault, step_fault};
 use crate::pending::next_step;
 use crate::performed::{Performed, StepResult};
-use crate::progress::{Progress, tell_logged};
+use crate::progress::{Progress, report_logged};
 use outside::fault::OutsideFault;
 use outside::outside::Outside;
 use rules::plan::Step;
@@ -43,7 +43,7 @@ fn perform<O: Outside>(
     ensures opened { O.opened outside.new ≡ O.opened outside.old }
     ensures fits { IfOk result (λ r. FitsStep step.now (logged_of r)) }
     ensures found { IfOk result (λ r. O.honest outside.new → BeforeStep opening (O.opened outside.old) is_resumed
-        (O.seen outside.old).device → OfSame O.ours (O.seen outside.old).device (λ d. told_found r ≡ copy_at
+        (O.seen outside.old).device → OfSame O.ours (O.seen outside.old).device (λ d. reported_found r ≡ copy_at
         (plan_at (O.opened outside.old)) step.now d)) }
     ensures part { StepPart number (O.opened outside.old) (O.honest outside.new)
         (BeforeStep opening (O.opened outside.old) is_resumed) (Underway opening) made_by
@@ -184,13 +184,13 @@ pub(crate) fn carry_out<O: Outside, P: Progress>(
         (λ _. BeforeStep opening (O.opened outside.new) is_resumed) (O.seen outside.old) (O.seen outside.new) result }
 {
     let mut performed = Vec::new(alloc);
-    tell_logged(outside, progress);
+    report_logged(outside, progress);
     while let Some((number, step)) = next_step(outside) {
         let Ok(()) = performed.try_reserve(1) else {
             return Err(RunFault::NoMemory);
         };
         let one = advance(outside, number, step, is_resumed)?;
-        tell_logged(outside, progress);
+        report_logged(outside, progress);
         let Ok(()) = performed.push(one) else {
             return Err(RunFault::NoMemory);
         };

@@ -52,9 +52,9 @@ fed_join a b c p q x y f g = record {
 -- ---- some of it was answered
 
 feeds_then_some : (old mid : End) (p q : List ℕ) (said : List Reply) (new : Server) → Feeds old p said mid → FeedsSome mid q new → FeedsSome old (p ++ q) new
-feeds_then_some old mid p q said new f g = record { from = λ unread told is. after unread (f.from unread told is) }
+feeds_then_some old mid p q said new f g = record { from = λ unread reported is. after unread (f.from unread reported is) }
   where
-    after : (unread : List ℕ) {told : List Reply} → FeedsFrom old unread told p said mid → ServesSome old.server (unread ++ (p ++ q)) new
+    after : (unread : List ℕ) {reported : List Reply} → FeedsFrom old unread reported p said mid → ServesSome old.server (unread ++ (p ++ q)) new
     after unread h =
         let s = g.from h.rest h.rest_said h.unread_then in
         record {

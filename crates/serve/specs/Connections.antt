@@ -7,8 +7,8 @@ use Rattle.imap_session.specs.Serving.{FeedsSome}
 use Rattle.imap_session.specs.Lines.{greeting}
 use Rattle.imap_server.specs.Taking.{Host, Fed}
 use Rattle.imap_session.specs.Heard.{AreReplies}
-use Rattle.serve.specs.declared.stream.Turn.{Turn}
-use Rattle.serve.specs.declared.stream.Turn.TheVariants.{GoesOn, Ends}
+use Rattle.serve.specs.declared.stream.ServeTurn.{ServeTurn}
+use Rattle.serve.specs.declared.stream.ServeTurn.TheVariants.{GoesOn, Ends}
 
 -- a new connection to a server
 abbrev pub connected : Server → Host
@@ -47,12 +47,12 @@ pub record BreaksOff (old : Host) (in_old in_new : Option (List ℕ)) (new : Ser
 abbrev pub IsEnd : (in_new : Option (List ℕ)) → Server → Type 0
 IsEnd in_new s = (is_over s.condition ≡ true) ⊎ IsAtEnd in_new
 
-abbrev pub IsEndOn : Turn → (in_new : Option (List ℕ)) → Server → Type 0
+abbrev pub IsEndOn : ServeTurn → (in_new : Option (List ℕ)) → Server → Type 0
 IsEndOn GoesOn in_new s = Unit {0}
 IsEndOn Ends in_new s = IsEnd in_new s
 
 -- the same where it is the server that reads no more
-abbrev pub IsOverOn : Turn → Server → Type 0
+abbrev pub IsOverOn : ServeTurn → Server → Type 0
 IsOverOn GoesOn s = Unit {0}
 IsOverOn Ends s = is_over s.condition ≡ true
 

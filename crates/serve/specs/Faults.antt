@@ -5,6 +5,6 @@ use Rattle.serve.specs.declared.fault.ServeFault.{ServeFault}
 use Rattle.serve.specs.declared.fault.ServeFault.TheVariants.{Connection, NoMemory}
 
 -- too little memory is reported as such, and any other error as one of the connection
-abbrev pub told : ErrorKind → ServeFault
-told OutOfMemory = NoMemory
-told _ = Connection
+abbrev pub reported : ErrorKind → ServeFault
+reported OutOfMemory = NoMemory
+reported _ = Connection

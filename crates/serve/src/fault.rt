@@ -18,9 +18,9 @@ pub enum ServeFault {
 impl From<io::Error> for ServeFault {
     ghost use Rattle.std.specs.Prelude.{◌≡◌};
     ghost use Rattle.std.specs.IoError.{error_kind};
-    ghost use Rattle.serve.specs.Faults.{told};
+    ghost use Rattle.serve.specs.Faults.{reported};
 
-    ghost from_gives = { λ error fault. fault ≡ told (error_kind error) };
+    ghost from_gives = { λ error fault. fault ≡ reported (error_kind error) };
 
     fn from(fault: io::Error) -> ServeFault {
         match fault.kind() {

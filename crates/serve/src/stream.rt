@@ -5,7 +5,7 @@ ghost use Rattle.std.specs.IoError.{error_kind};
 ghost use Rattle.std.specs.Io.KnownBytes.{Appends};
 ghost use Rattle.imap_session.specs.Lines.{greeting};
 ghost use Rattle.imap_session.specs.Heard.{AreReplies};
-ghost use Rattle.serve.specs.Faults.{told};
+ghost use Rattle.serve.specs.Faults.{reported};
 ghost use Rattle.serve.specs.Connections.{connected, Answers, AnswersSome, Converses, BreaksOff, IsEnd, IsEndOn, IsOverOn, Serves};
 
 use crate::fault::ServeFault;
@@ -18,7 +18,7 @@ const PIECE_BYTES: usize = 4096;
 
 /// What becomes of a connection after a piece.
 #[derive(Clone, Copy, PartialEq, Eq)]
-pub(crate) enum Turn {
+pub(crate) enum ServeTurn {
     /// More may come.
     GoesOn,
     /// The client sends no more, or the server reads no more.
@@ -76,8 +76,8 @@ fn answer_pieces<R: Read, W: Write>(
 {
     for _ in 0..u64::MAX {
         match answer_next(server, input, output)? {
-            Turn::GoesOn => {}
-            Turn::Ends => return Ok(()),
+            ServeTurn::GoesOn => {}
+            ServeTurn::Ends => return Ok(()),
         }
     }
     Err(ServeFault::Connection)
@@ -88,7 +88,7 @@ fn answer_next<R: Read, W: Write>(
     server: &mut Server,
     input: &mut R,
     output: &mut W,
-) -> Result<Turn, ServeFault>
+) -> Result<ServeTurn, ServeFault>
     requires { IsSome server.old.connection }
     ensures ok { OnOk result (Converses server.old (R.remaining input.old) (R.remaining input.new) (W.contents output.old)
         (W.contents output.new) server.new) }
@@ -98,28 +98,32 @@ fn answer_next<R: Read, W: Write>(
     let mut piece = [0; PIECE_BYTES];
     let count = match input.read(&mut piece) {
         Ok(count) => count,
-        Err(fault) => return behind_fault(fault),
+        Err(fault) => return after_fault(fault),
     };
     if count == 0 {
-        return Ok(Turn::Ends);
+        return Ok(ServeTurn::Ends);
     }
     answer(server, &piece[..count], output)
 }
 
 /// Goes on where reading was interrupted.
-fn behind_fault(fault: io::Error) -> Result<Turn, ServeFault>
-    ensures goes_on { IfOk result (λ turn. turn ≡ Turn.GoesOn) }
+fn after_fault(fault: io::Error) -> Result<ServeTurn, ServeFault>
+    ensures goes_on { IfOk result (λ turn. turn ≡ ServeTurn.GoesOn) }
     ensures interrupted { OnOk result (error_kind fault ≡ ErrorKind.Interrupted) }
-    ensures told { IfErr result (λ told_as. told_as ≡ told (error_kind fault)) }
+    ensures reported { IfErr result (λ reported_as. reported_as ≡ reported (error_kind fault)) }
 {
     match fault.kind() {
-        ErrorKind::Interrupted => Ok(Turn::GoesOn),
+        ErrorKind::Interrupted => Ok(ServeTurn::GoesOn),
         _ => Err(ServeFault::from(fault)),
     }
 }
 
 /// Answers a piece.
-fn answer<W: Write>(server: &mut Server, piece: &[u8], output: &mut W) -> Result<Turn, ServeFault>
+fn answer<W: Write>(
+    server: &mut Server,
+    piece: &[u8],
+    output: &mut W,
+) -> Result<ServeTurn, ServeFault>
     requires { IsSome server.old.connection }
     ensures ok { OnOk result (Answers server.old piece.now (W.contents output.old) (W.contents output.new) server.new) }
     ensures over { IfOk result (λ turn. IsOverOn turn server.new.server) }
@@ -132,9 +136,9 @@ fn answer<W: Write>(server: &mut Server, piece: &[u8], output: &mut W) -> Result
     };
     send(&replies, output)?;
     if server.is_over() {
-        Ok(Turn::Ends)
+        Ok(ServeTurn::Ends)
     } else {
-        Ok(Turn::GoesOn)
+        Ok(ServeTurn::GoesOn)
     }
 }
 

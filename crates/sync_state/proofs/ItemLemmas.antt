@@ -14,13 +14,13 @@ use Rattle.sync_state.proofs.LineLemmas.{no_lines, line_more}
 -- ---- one line
 
 pub line_ends_text : {T X : Type 0} (r : Option X) (fits : T → Type 0) (line : T → List ℕ) (text : List ℕ) → OneLine text → IfNone r (HasNoLine [] fits line text)
-line_ends_text None fits line text one = λ l behind lacks e value f same. no_cut 10 text l behind one e
+line_ends_text None fits line text one = λ l following lacks e value f same. no_cut 10 text l following one e
 line_ends_text (Some x) fits line text one = tt
 
 pub line_is_none : {T X : Type 0} (r : Option X) (fits : T → Type 0) (line : T → List ℕ) (text first rest : List ℕ)
     → text ≡ first ++ 10 ∷ rest → OneLine first → ((value : T) → fits value → first ≢ line value) → IfNone r (HasNoLine [] fits line text)
-line_is_none None fits line text first rest parts one none = λ l behind lacks e value f same.
-    let s = same_cut 10 first l rest behind one lacks (sym parts ∙ e) in
+line_is_none None fits line text first rest parts one none = λ l following lacks e value f same.
+    let s = same_cut 10 first l rest following one lacks (sym parts ∙ e) in
     none value f (s.front ∙ same)
 line_is_none (Some x) fits line text first rest parts one none = tt
 
@@ -73,7 +73,7 @@ last_item place items item =
 -- ---- items of other lines that begin the same way
 
 -- items whose lines are known by their places, and lines after them that are none of theirs
-pub record Behind {A : Type 0} (fits : A → Type 0) (line : A → List ℕ) (place : A → ℕ × ℕ × ℕ) (all before : List A) (end tail : List (List ℕ)) : Type 0 where
+pub record Following {A : Type 0} (fits : A → Type 0) (line : A → List ℕ) (place : A → ℕ × ℕ × ℕ) (all before : List A) (end tail : List (List ℕ)) : Type 0 where
   pub after : List A
   pub places : map place all ≡ map place before ++ map place after
   pub tail_is : tail ≡ map line after ++ end
@@ -91,18 +91,18 @@ head_line l k ls ks e = ap (λ (x : List (List ℕ)). get_or x 0 []) e
 pub tail_lines : (l k : List ℕ) (ls ks : List (List ℕ)) → l ∷ ls ≡ k ∷ ks → ls ≡ ks
 tail_lines l k ls ks e = ap (λ (x : List (List ℕ)). drop 1 x) e
 
-pub behind : {A : Type 0} (fits : A → Type 0) (line : A → List ℕ) (place : A → ℕ × ℕ × ℕ)
+pub following : {A : Type 0} (fits : A → Type 0) (line : A → List ℕ) (place : A → ℕ × ℕ × ℕ)
     → ((a b : A) → fits a → fits b → line a ≡ line b → place a ≡ place b)
     → (all before : List A) (end tail : List (List ℕ)) → IsEnd fits line end → All fits all → All fits before
-    → map line before ++ tail ≡ map line all ++ end → Behind fits line place all before end tail
-behind fits line place known all [] end tail is fa fb e = record { after = all; places = refl; tail_is = e; fitting = fa }
-behind fits line place known [] (b ∷ bs) end tail is fa fb e =
+    → map line before ++ tail ≡ map line all ++ end → Following fits line place all before end tail
+following fits line place known all [] end tail is fa fb e = record { after = all; places = refl; tail_is = e; fitting = fa }
+following fits line place known [] (b ∷ bs) end tail is fa fb e =
     absurd (is.foreign b (All-head fits b bs fb) (sym (head_line (line b) is.first (map line bs ++ tail) is.others (e ∙ is.same))))
-behind {A} fits line place known (a ∷ all) (b ∷ bs) end tail is fa fb e =
+following {A} fits line place known (a ∷ all) (b ∷ bs) end tail is fa fb e =
     let first : line b ≡ line a = head_line (line b) (line a) (map line bs ++ tail) (map line all ++ end) e in
     let rest = tail_lines (line b) (line a) (map line bs ++ tail) (map line all ++ end) e in
     let same = known b a (All-head fits b bs fb) (All-head fits a all fa) first in
-    let r = behind fits line place known all bs end tail is (All-tail fits a all fa) (All-tail fits b bs fb) rest in
+    let r = following fits line place known all bs end tail is (All-tail fits a all fa) (All-tail fits b bs fb) rest in
     record {
       after = r.after;
       places = ap (λ (x : ℕ × ℕ × ℕ). x ∷ map place all) (sym same) ∙ ap (λ (x : List (ℕ × ℕ × ℕ)). place b ∷ x) r.places;

@@ -15,7 +15,7 @@ use Rattle.sync_state.specs.JournalText.{go_line, keyword_line, log_lines, step_
 use Rattle.sync_state.specs.Places.{last_of}
 use Rattle.sync_state.specs.JournalReading.{head, IsStepIn, IsNoteIn, PlanHeadFits, PlanHeadRead, IsBadItem}
 use Rattle.sync_state.proofs.LineLemmas.{more_lines}
-use Rattle.sync_state.proofs.ItemLemmas.{Behind, behind, head_line, rises-at}
+use Rattle.sync_state.proofs.ItemLemmas.{Following, following, head_line, rises-at}
 use Rattle.sync_state.proofs.KnownLines.{step_places, note_places}
 use Rattle.sync_state.proofs.JournalLemmas.{journal_of}
 use Rattle.sync_state.proofs.JournalHeads.{HasTextIn, notes_on, steps_on, shape, steps_in, notes_in, end_of_steps, end_of_notes, step_is_no_keyword, continues, none_in_steps}
@@ -26,21 +26,21 @@ step_places_in v a b fa fb e = step_places a b fa.0 fb.0 e
 pub note_places_in : (v : Version) (a b : Note) → IsNoteIn v a → IsNoteIn v b → note_line a ≡ note_line b → note_place a ≡ note_place b
 note_places_in v a b fa fb e = note_places a b fa.0 fb.0 e
 
-abbrev pub BehindSteps : Version → Journal → List Step → List (List ℕ) → Type 0
-BehindSteps v j steps tail = Behind (IsStepIn v) step_line step_place j.plan.steps steps (notes_on j) tail
+abbrev pub AfterSteps : Version → Journal → List Step → List (List ℕ) → Type 0
+AfterSteps v j steps tail = Following (IsStepIn v) step_line step_place j.plan.steps steps (notes_on j) tail
 
-abbrev pub BehindNotes : Version → Journal → List Note → List (List ℕ) → Type 0
-BehindNotes v j notes tail = Behind (IsNoteIn v) note_line note_place j.plan.notes notes (go_line ∷ log_lines 1 j.log) tail
+abbrev pub AfterNotes : Version → Journal → List Note → List (List ℕ) → Type 0
+AfterNotes v j notes tail = Following (IsNoteIn v) note_line note_place j.plan.notes notes (go_line ∷ log_lines 1 j.log) tail
 
-pub behind_steps : (v : Version) (steps : List Step) (tail : List (List ℕ)) (j : Journal) → HasTextIn v j → All (IsStepIn v) steps
-    → map step_line steps ++ tail ≡ steps_on j → BehindSteps v j steps tail
-behind_steps v steps tail j has all e =
-    behind (IsStepIn v) step_line step_place (step_places_in v) j.plan.steps steps (notes_on j) tail (end_of_steps (IsStepIn v) j.plan.notes (log_lines 1 j.log)) (steps_in v j has) all e
+pub after_steps : (v : Version) (steps : List Step) (tail : List (List ℕ)) (j : Journal) → HasTextIn v j → All (IsStepIn v) steps
+    → map step_line steps ++ tail ≡ steps_on j → AfterSteps v j steps tail
+after_steps v steps tail j has all e =
+    following (IsStepIn v) step_line step_place (step_places_in v) j.plan.steps steps (notes_on j) tail (end_of_steps (IsStepIn v) j.plan.notes (log_lines 1 j.log)) (steps_in v j has) all e
 
-pub behind_notes : (v : Version) (notes : List Note) (tail : List (List ℕ)) (j : Journal) → HasTextIn v j → All (IsNoteIn v) notes
-    → map note_line notes ++ tail ≡ notes_on j → BehindNotes v j notes tail
-behind_notes v notes tail j has all e =
-    behind (IsNoteIn v) note_line note_place (note_places_in v) j.plan.notes notes (go_line ∷ log_lines 1 j.log) tail (end_of_notes (IsNoteIn v) (log_lines 1 j.log)) (notes_in v j has) all e
+pub after_notes : (v : Version) (notes : List Note) (tail : List (List ℕ)) (j : Journal) → HasTextIn v j → All (IsNoteIn v) notes
+    → map note_line notes ++ tail ≡ notes_on j → AfterNotes v j notes tail
+after_notes v notes tail j has all e =
+    following (IsNoteIn v) note_line note_place (note_places_in v) j.plan.notes notes (go_line ∷ log_lines 1 j.log) tail (end_of_notes (IsNoteIn v) (log_lines 1 j.log)) (notes_in v j has) all e
 
 -- an item that may not follow others stands nowhere after them
 pub none_stands : {A : Type 0} (fits : A → Type 0) (line : A → List ℕ) (place : A → ℕ × ℕ × ℕ) → ((a b : A) → fits a → fits b → line a ≡ line b → place a ≡ place b)
@@ -58,7 +58,7 @@ bad_step_goes_on : (v : Version) (before : List Step) (item : Step) (line : List
     → line ≡ step_line item → is_below (last_of bottom (map step_place before)) (step_place item) ≡ false
     → map step_line before ++ line ∷ more ≡ steps_on j → ⊥
 bad_step_goes_on v before item line more j has all is line_is stops e =
-    let b = behind_steps v before (line ∷ more) j has all e in by_after b.after b.places b.tail_is b.fitting where
+    let b = after_steps v before (line ∷ more) j has all e in by_after b.after b.places b.tail_is b.fitting where
       by_after : (after : List Step) → map step_place j.plan.steps ≡ map step_place before ++ map step_place after → line ∷ more ≡ map step_line after ++ notes_on j → All (IsStepIn v) after → ⊥
       by_after [] places tail f =
           let end = end_of_steps (IsStepIn v) j.plan.notes (log_lines 1 j.log) in
@@ -119,11 +119,11 @@ bad_step h text between number read b = record {
       same = append_assoc (head h) (map step_line b.before) (go_line ∷ []) ∙ sym (shape h.numbers.version (journal_of h b.before [] []));
     };
   };
-  stops = λ line behind one e g.
-      let cut = same_cut 10 line (step_line b.item) behind b.behind one b.one_line (sym e ∙ b.parts) in
+  stops = λ line following one e g.
+      let cut = same_cut 10 line (step_line b.item) following b.following one b.one_line (sym e ∙ b.parts) in
       let tail : List (List ℕ) = map step_line b.before ++ line ∷ g.more in
       let c = continues h tail _ (none_in_steps h b.before line g.more (λ k same. step_is_no_keyword b.item k (sym cut.front ∙ same)))
       (sym (regroup (head h) (map step_line b.before) line g.more)) g.spelled in
       bad_step_goes_on h.numbers.version b.before b.item line g.more c.journal c.has b.are.fitting b.fitting cut.front b.stops c.tail_is;
-  unfinished = λ one s. no_cut 10 b.rest (step_line b.item) b.behind one b.parts;
+  unfinished = λ one s. no_cut 10 b.rest (step_line b.item) b.following one b.parts;
 }

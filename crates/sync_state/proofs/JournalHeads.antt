@@ -83,8 +83,8 @@ go_is_no_keyword k = first_differs go_line (keyword_line k) 103 107 refl refl (�
 -- some lines, and lines after them, do not begin with this line
 pub others_first : {A : Type 0} (line : A → List ℕ) (xs : List A) (tail : List (List ℕ)) (l : List ℕ) → ((x : A) → line x ≢ l)
     → (xs ≡ [] → (ls : List (List ℕ)) → tail ≢ l ∷ ls) → (ls : List (List ℕ)) → map line xs ++ tail ≢ l ∷ ls
-others_first line [] tail l other behind ls e = behind refl ls e
-others_first line (x ∷ xs) tail l other behind ls e = other x (head_line (line x) l (map line xs ++ tail) ls e)
+others_first line [] tail l other following ls e = following refl ls e
+others_first line (x ∷ xs) tail l other following ls e = other x (head_line (line x) l (map line xs ++ tail) ls e)
 
 -- ---- what follows keywords, steps and notes
 
@@ -98,12 +98,12 @@ end_of_notes fits more = record { first = go_line; others = more; same = refl; f
 abbrev pub Any : Keyword → Type 0
 Any k = Unit {0}
 
-end_behind_steps : (notes : List Note) (more : List (List ℕ)) → IsEnd Any keyword_line (map note_line notes ++ (go_line ∷ more))
-end_behind_steps [] more = record { first = go_line; others = more; same = refl; foreign = λ k f. go_is_no_keyword k }
-end_behind_steps (n ∷ notes) more = record { first = note_line n; others = map note_line notes ++ (go_line ∷ more); same = refl; foreign = λ k f. note_is_no_keyword n k }
+end_after_steps : (notes : List Note) (more : List (List ℕ)) → IsEnd Any keyword_line (map note_line notes ++ (go_line ∷ more))
+end_after_steps [] more = record { first = go_line; others = more; same = refl; foreign = λ k f. go_is_no_keyword k }
+end_after_steps (n ∷ notes) more = record { first = note_line n; others = map note_line notes ++ (go_line ∷ more); same = refl; foreign = λ k f. note_is_no_keyword n k }
 
 pub end_of_keywords : (steps : List Step) (notes : List Note) (more : List (List ℕ)) → IsEnd Any keyword_line (map step_line steps ++ (map note_line notes ++ (go_line ∷ more)))
-end_of_keywords [] notes more = end_behind_steps notes more
+end_of_keywords [] notes more = end_after_steps notes more
 end_of_keywords (s ∷ steps) notes more = record {
   first = step_line s;
   others = map step_line steps ++ (map note_line notes ++ (go_line ∷ more));
@@ -120,19 +120,19 @@ keyword_known a b e =
     ap (λ (x : ℕ). let k : Keyword = record { letter = x; name = a.name } in k) letter ∙ ap (λ (x : List ℕ). let k : Keyword = record { letter = b.letter; name = x } in k) name
 
 -- keywords after others, up to the end
-record Behind (all before : List Keyword) (end tail : List (List ℕ)) : Type 0 where
+record Following (all before : List Keyword) (end tail : List (List ℕ)) : Type 0 where
   after : List Keyword
   same : all ≡ before ++ after
   tail_is : tail ≡ map keyword_line after ++ end
 
-behind : (all before : List Keyword) (end tail : List (List ℕ)) → IsEnd Any keyword_line end
-    → map keyword_line before ++ tail ≡ map keyword_line all ++ end → Behind all before end tail
-behind all [] end tail is e = record { after = all; same = refl; tail_is = e }
-behind [] (b ∷ bs) end tail is e =
+following : (all before : List Keyword) (end tail : List (List ℕ)) → IsEnd Any keyword_line end
+    → map keyword_line before ++ tail ≡ map keyword_line all ++ end → Following all before end tail
+following all [] end tail is e = record { after = all; same = refl; tail_is = e }
+following [] (b ∷ bs) end tail is e =
     absurd (is.foreign b tt (sym (head_line (keyword_line b) is.first (map keyword_line bs ++ tail) is.others (e ∙ is.same))))
-behind (a ∷ all) (b ∷ bs) end tail is e =
+following (a ∷ all) (b ∷ bs) end tail is e =
     let first = keyword_known b a (head_line (keyword_line b) (keyword_line a) (map keyword_line bs ++ tail) (map keyword_line all ++ end) e) in
-    let r = behind all bs end tail is (tail_lines (keyword_line b) (keyword_line a) (map keyword_line bs ++ tail) (map keyword_line all ++ end) e) in
+    let r = following all bs end tail is (tail_lines (keyword_line b) (keyword_line a) (map keyword_line bs ++ tail) (map keyword_line all ++ end) e) in
     record { after = r.after; same = ap (λ (x : Keyword). x ∷ all) (sym first) ∙ ap (λ (x : List Keyword). b ∷ x) r.same; tail_is = r.tail_is }
 
 -- the first keywords of a map are a map
@@ -187,7 +187,7 @@ continues h tail lines none e s =
     let title : journal_title s.version ≡ journal_title v = sym (nth 0 (head h ++ tail) (plan_head_lines s.version j.plan ++ steps_on j) same) in
     let version : s.version ≡ v = version-injective s.version v (ap (λ (x : List ℕ). drop 8 x) title) in
     let words : HasWords v j.plan = subst (λ (u : Version). HasWords u j.plan) version s.words in
-    let b = behind j.plan.keywords h.keywords (steps_on j) tail (end_of_keywords j.plan.steps j.plan.notes (log_lines 1 j.log)) (ap (λ (x : List (List ℕ)). drop 4 x) same) in
+    let b = following j.plan.keywords h.keywords (steps_on j) tail (end_of_keywords j.plan.steps j.plan.notes (log_lines 1 j.log)) (ap (λ (x : List (List ℕ)). drop 4 x) same) in
     by_after j (record { fits = s.fits; words = words }) b.after b.same b.tail_is where
       by_after : (j : Journal) → HasTextIn h.numbers.version j → (after : List Keyword) → j.plan.keywords ≡ h.keywords ++ after → tail ≡ map keyword_line after ++ steps_on j → Continues h tail
       by_after j has [] keywords tail_is = record { journal = j; has = has; tail_is = tail_is }
@@ -206,6 +206,6 @@ none_in_steps h steps line more other k next ls =
 -- steps, notes, and lines after them that do not begin with a keyword where there are neither
 pub none_in_items : (h : PlanHead) (steps : List Step) (notes : List Note) (tail : List (List ℕ)) → (steps ≡ [] → notes ≡ [] → NoneNext h tail)
     → NoneNext h (map step_line steps ++ (map note_line notes ++ tail))
-none_in_items h steps notes tail behind_both k next ls =
+none_in_items h steps notes tail after_both k next ls =
     others_first step_line steps (map note_line notes ++ tail) (keyword_line k) (λ s. step_is_no_keyword s k) (λ no_steps.
-    others_first note_line notes tail (keyword_line k) (λ n. note_is_no_keyword n k) (λ no_notes. behind_both no_steps no_notes k next)) ls
+    others_first note_line notes tail (keyword_line k) (λ n. note_is_no_keyword n k) (λ no_notes. after_both no_steps no_notes k next)) ls

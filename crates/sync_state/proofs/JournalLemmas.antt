@@ -88,7 +88,7 @@ bad_title text none = record {
   number_is = refl;
   begins = let n = numbers_of Two first_run first_side first_side in
       record { more = journal_lines Two (journal_of (bare_head n) [] [] []); spelled = bare n (record { run = omega arith; far = first_side_fits; near = first_side_fits }) };
-  stops = λ line behind one e b. none line behind one e b.spelled.version tt (nth 0 (line ∷ b.more) (journal_lines b.spelled.version b.spelled.journal) b.spelled.same);
+  stops = λ line following one e b. none line following one e b.spelled.version tt (nth 0 (line ∷ b.more) (journal_lines b.spelled.version b.spelled.journal) b.spelled.same);
   unfinished = λ e s. let h : [] ≡ journal_title s.version = nth 0 [] (journal_lines s.version s.journal) s.same in cc;
 }
 
@@ -101,7 +101,7 @@ bad_run v text rest lines none = record {
   number_is = refl;
   begins = let n = numbers_of v first_run first_side first_side in
       record { more = run_line 1 ∷ plan_far_line first_side ∷ plan_near_line first_side ∷ go_line ∷ []; spelled = bare n (record { run = omega arith; far = first_side_fits; near = first_side_fits }) };
-  stops = λ line behind one e b. none line behind one e (record { 0 = b.spelled.journal.plan.run }) b.spelled.fits.plan.run
+  stops = λ line following one e b. none line following one e (record { 0 = b.spelled.journal.plan.run }) b.spelled.fits.plan.run
       (nth 1 (journal_title v ∷ line ∷ b.more) (journal_lines b.spelled.version b.spelled.journal) b.spelled.same);
   unfinished = λ e s. let h : [] ≡ run_line s.journal.plan.run = nth 1 (journal_title v ∷ []) (journal_lines s.version s.journal) s.same in cc;
 }
@@ -124,8 +124,8 @@ bad_far v text rest r is lines none = record {
   number_is = refl;
   begins = let n = numbers_of v r first_side first_side in
       record { more = plan_far_line first_side ∷ plan_near_line first_side ∷ go_line ∷ []; spelled = bare n (record { run = is; far = first_side_fits; near = first_side_fits }) };
-  stops = λ line behind one e b. let p = b.spelled.journal.plan in let f = b.spelled.fits.plan.far in
-      none line behind one e (fields_of p.far) (f.validity, (f.highest, f.next))
+  stops = λ line following one e b. let p = b.spelled.journal.plan in let f = b.spelled.fits.plan.far in
+      none line following one e (fields_of p.far) (f.validity, (f.highest, f.next))
       (nth 2 (journal_title v ∷ run_line r.0 ∷ line ∷ b.more) (journal_lines b.spelled.version b.spelled.journal) b.spelled.same);
   unfinished = λ e s. let h : [] ≡ plan_far_line s.journal.plan.far = nth 2 (journal_title v ∷ run_line r.0 ∷ []) (journal_lines s.version s.journal) s.same in cc;
 }
@@ -140,8 +140,8 @@ bad_near v text rest r far is fits lines none = record {
   number_is = refl;
   begins = let n = numbers_of v r far first_side in
       record { more = plan_near_line first_side ∷ go_line ∷ []; spelled = bare n (record { run = is; far = fits; near = first_side_fits }) };
-  stops = λ line behind one e b. let p = b.spelled.journal.plan in let f = b.spelled.fits.plan.near in
-      none line behind one e (fields_of p.near) (f.validity, (f.highest, f.next))
+  stops = λ line following one e b. let p = b.spelled.journal.plan in let f = b.spelled.fits.plan.near in
+      none line following one e (fields_of p.near) (f.validity, (f.highest, f.next))
       (nth 3 (journal_title v ∷ run_line r.0 ∷ plan_far_line far ∷ line ∷ b.more) (journal_lines b.spelled.version b.spelled.journal) b.spelled.same);
   unfinished = λ e s. let h : [] ≡ plan_near_line s.journal.plan.near = nth 3 (journal_title v ∷ run_line r.0 ∷ plan_far_line far ∷ []) (journal_lines s.version s.journal) s.same in cc;
 }

@@ -18,13 +18,13 @@ use Rattle.sync_state.specs.Cuts.{same_cut, no_cut}
 use Rattle.sync_state.specs.Lines.{AreLines, Begins, HasNoLine}
 use Rattle.sync_state.specs.JournalText.{go_line, keyword_line, log_line, log_lines, step_line, note_line, step_place, note_place, FitsStep, LogsNew, LogsOther, IsLog, is_below, bottom, JournalLines, IsBadJournal, JournalText, HasGo}
 use Rattle.sync_state.specs.Places.{last_of}
-use Rattle.sync_state.specs.JournalReading.{head, IsStepIn, IsNoteIn, PlanHeadRead, AreItems, ItemsRead, IsBadItem, FitsAt, LogRead, IsBadLog, TellsItem, TellsLog, TellsJournal}
+use Rattle.sync_state.specs.JournalReading.{head, IsStepIn, IsNoteIn, PlanHeadRead, AreItems, ItemsRead, IsBadItem, FitsAt, LogRead, IsBadLog, ReportsItem, ReportsLog, ReportsJournal}
 use Rattle.sync_state.proofs.LineLemmas.{more_lines, line_more}
 use Rattle.sync_state.proofs.ItemLemmas.{head_line, tail_lines}
 use Rattle.sync_state.proofs.GoLemmas.{go_is_one_line}
 use Rattle.sync_state.proofs.JournalLemmas.{journal_of}
 use Rattle.sync_state.proofs.JournalHeads.{HasTextIn, notes_on, steps_on, shape, note_is_no_step, go_is_no_step, go_is_no_note, note_is_no_keyword, go_is_no_keyword, continues, none_in_items}
-use Rattle.sync_state.proofs.JournalEnds.{bad_step, head_length, head_is_long, note_places_in, behind_steps, behind_notes, none_stands, journal_fits, no_log}
+use Rattle.sync_state.proofs.JournalEnds.{bad_step, head_length, head_is_long, note_places_in, after_steps, after_notes, none_stands, journal_fits, no_log}
 
 -- ---- nothing more of a kind
 
@@ -35,7 +35,7 @@ pub record NoMoreSteps (j : Journal) (steps : List Step) (tail : List (List ℕ)
 no_more_steps : (v : Version) (steps : List Step) (tail : List (List ℕ)) (j : Journal) → HasTextIn v j → All (IsStepIn v) steps
     → map step_line steps ++ tail ≡ steps_on j → ((y : Step) → IsStepIn v y → (ls : List (List ℕ)) → tail ≢ step_line y ∷ ls) → NoMoreSteps j steps tail
 no_more_steps v steps tail j has all e none =
-    let b = behind_steps v steps tail j has all e in by_after b.after b.places b.tail_is b.fitting where
+    let b = after_steps v steps tail j has all e in by_after b.after b.places b.tail_is b.fitting where
       by_after : (after : List Step) → map step_place j.plan.steps ≡ map step_place steps ++ map step_place after → tail ≡ map step_line after ++ notes_on j → All (IsStepIn v) after → NoMoreSteps j steps tail
       by_after [] places is f = record { tail_is = is; places = places ∙ append-nil (map step_place steps) }
       by_after (y ∷ ys) places is f = absurd (none y (All-head (IsStepIn v) y ys f) (map step_line ys ++ notes_on j) is)
@@ -43,7 +43,7 @@ no_more_steps v steps tail j has all e none =
 no_more_notes : (v : Version) (notes : List Note) (tail : List (List ℕ)) (j : Journal) → HasTextIn v j → All (IsNoteIn v) notes → map note_line notes ++ tail ≡ notes_on j
     → ((y : Note) → IsNoteIn v y → (ls : List (List ℕ)) → tail ≢ note_line y ∷ ls) → tail ≡ go_line ∷ log_lines 1 j.log
 no_more_notes v notes tail j has all e none =
-    let b = behind_notes v notes tail j has all e in by_after b.after b.tail_is b.fitting where
+    let b = after_notes v notes tail j has all e in by_after b.after b.tail_is b.fitting where
       by_after : (after : List Note) → tail ≡ map note_line after ++ (go_line ∷ log_lines 1 j.log) → All (IsNoteIn v) after → tail ≡ go_line ∷ log_lines 1 j.log
       by_after [] is f = is
       by_after (y ∷ ys) is f = absurd (none y (All-head (IsNoteIn v) y ys f) (map note_line ys ++ (go_line ∷ log_lines 1 j.log)) is)
@@ -55,10 +55,10 @@ notes_begin (n ∷ notes) line more y none ls e = note_is_no_step n y (head_line
 
 -- ---- what is read before the end of the plan
 
-pub record BodyRead (h : PlanHead) (steps : List Step) (notes : List Note) (text behind_head behind_steps rest : List ℕ) : Type 0 where
-  pub head_read : PlanHeadRead h text behind_head
-  pub steps_read : ItemsRead (IsStepIn h.numbers.version) step_line step_place steps behind_head behind_steps
-  pub notes_read : AreItems (IsNoteIn h.numbers.version) note_line note_place notes behind_steps rest
+pub record BodyRead (h : PlanHead) (steps : List Step) (notes : List Note) (text after_head after_steps rest : List ℕ) : Type 0 where
+  pub head_read : PlanHeadRead h text after_head
+  pub steps_read : ItemsRead (IsStepIn h.numbers.version) step_line step_place steps after_head after_steps
+  pub notes_read : AreItems (IsNoteIn h.numbers.version) note_line note_place notes after_steps rest
 
 body_lines : (h : PlanHead) (steps : List Step) (notes : List Note) (text t1 t2 rest : List ℕ) → BodyRead h steps notes text t1 t2 rest
     → AreLines ((head h ++ map step_line steps) ++ map note_line notes) text rest
@@ -104,7 +104,7 @@ bad_note_goes_on : (v : Version) (notes : List Note) (item : Note) (line : List 
     → line ≡ note_line item → is_below (last_of bottom (map note_place notes)) (note_place item) ≡ false
     → map note_line notes ++ line ∷ more ≡ notes_on j → ⊥
 bad_note_goes_on v notes item line more j has all is line_is stops e =
-    let b = behind_notes v notes (line ∷ more) j has all e in by_after b.after b.places b.tail_is b.fitting where
+    let b = after_notes v notes (line ∷ more) j has all e in by_after b.after b.places b.tail_is b.fitting where
       by_after : (after : List Note) → map note_place j.plan.notes ≡ map note_place notes ++ map note_place after → line ∷ more ≡ map note_line after ++ (go_line ∷ log_lines 1 j.log) → All (IsNoteIn v) after → ⊥
       by_after [] places tail f = go_is_no_note item (sym (head_line line go_line more (log_lines 1 j.log) tail) ∙ line_is)
       by_after (y ∷ ys) places tail f =
@@ -122,15 +122,15 @@ bad_note h steps text t1 t2 number hr sr b =
       lines = body_lines h steps b.before text t1 t2 b.rest r;
       number_is = b.number_is ∙ omega (arith, body_length h steps b.before);
       begins = body_begins h steps b.before text t1 t2 b.rest r;
-      stops = λ line behind one e g.
-          let cut = same_cut 10 line (note_line b.item) behind b.behind one b.one_line (sym e ∙ b.parts) in
+      stops = λ line following one e g.
+          let cut = same_cut 10 line (note_line b.item) following b.following one b.one_line (sym e ∙ b.parts) in
           let c = continues h (map step_line steps ++ (map note_line b.before ++ line ∷ g.more)) _
           (none_in_items h steps b.before (line ∷ g.more) (λ no_steps no_notes k next ls x. note_is_no_keyword b.item k (sym cut.front ∙ head_line line (keyword_line k) g.more ls x)))
           (goes_on h steps b.before line g.more) g.spelled in
           let n = no_more_steps h.numbers.version steps (map note_line b.before ++ line ∷ g.more) c.journal c.has sr.are.fitting c.tail_is
           (λ y f. notes_begin b.before line g.more y (λ _ x. note_is_no_step b.item y (sym cut.front ∙ x))) in
           bad_note_goes_on h.numbers.version b.before b.item line g.more c.journal c.has b.are.fitting b.fitting cut.front b.stops n.tail_is;
-      unfinished = λ one s. no_cut 10 b.rest (note_line b.item) b.behind one b.parts;
+      unfinished = λ one s. no_cut 10 b.rest (note_line b.item) b.following one b.parts;
     }
 
 -- ---- a line that is not `go`
@@ -158,17 +158,17 @@ bad_go h steps notes text t1 t2 t3 number hr sr nr none number_is =
       lines = body_lines h steps notes text t1 t2 t3 r;
       number_is = number_is ∙ omega (arith, body_length h steps notes);
       begins = body_begins h steps notes text t1 t2 t3 r;
-      stops = λ line behind one e g.
+      stops = λ line following one e g.
           let notes_text : notes ≡ [] → t2 ≡ t3 = no_items_text (IsNoteIn v) note_line note_place notes t2 t3 nr.are in
           let steps_text : steps ≡ [] → t1 ≡ t2 = no_items_text (IsStepIn v) step_line step_place steps t1 t2 sr.are in
           let c = continues h (map step_line steps ++ (map note_line notes ++ line ∷ g.more)) _
           (none_in_items h steps notes (line ∷ g.more) (λ no_steps no_notes k next ls x.
-          hr.all line behind one (steps_text no_steps ∙ (notes_text no_notes ∙ e)) k next (head_line line (keyword_line k) g.more ls x)))
+          hr.all line following one (steps_text no_steps ∙ (notes_text no_notes ∙ e)) k next (head_line line (keyword_line k) g.more ls x)))
           (goes_on h steps notes line g.more) g.spelled in
           let n = no_more_steps v steps (map note_line notes ++ line ∷ g.more) c.journal c.has sr.are.fitting c.tail_is
-          (λ y f. notes_begin notes line g.more y (λ empty x. sr.all line behind one (notes_text empty ∙ e) y f x)) in
-          let go = no_more_notes v notes (line ∷ g.more) c.journal c.has nr.are.fitting n.tail_is (λ y f ls x. nr.all line behind one e y f (head_line line (note_line y) g.more ls x)) in
-          none line behind one e tt tt (head_line line go_line g.more (log_lines 1 c.journal.log) go);
+          (λ y f. notes_begin notes line g.more y (λ empty x. sr.all line following one (notes_text empty ∙ e) y f x)) in
+          let go = no_more_notes v notes (line ∷ g.more) c.journal c.has nr.are.fitting n.tail_is (λ y f ls x. nr.all line following one e y f (head_line line (note_line y) g.more ls x)) in
+          none line following one e tt tt (head_line line go_line g.more (log_lines 1 c.journal.log) go);
       unfinished = λ one s.
           let c = continues h (map step_line steps ++ (map note_line notes ++ [])) _ (none_in_items h steps notes [] (λ no_steps no_notes k next ls x. nothing (keyword_line k) ls x))
           (sym (regroup3 h steps notes []) ∙ append-nil ((head h ++ map step_line steps) ++ map note_line notes)) s in
@@ -297,8 +297,8 @@ bad_log h steps notes text t1 t2 t3 t4 number hr sr nr ge b =
           same = append-nil before ∙ log_shape h steps notes (log_lines 1 b.before) ∙ sym (shape v (journal_of h steps notes b.before));
         };
       };
-      stops = λ line behind one e g.
-          let cut = same_cut 10 line b.line behind b.behind one b.one_line (sym e ∙ b.parts) in
+      stops = λ line following one e g.
+          let cut = same_cut 10 line b.line following b.following one b.one_line (sym e ∙ b.parts) in
           let tail : List (List ℕ) = log_lines 1 b.before ++ line ∷ g.more in
           let whole : head h ++ (map step_line steps ++ (map note_line notes ++ (go_line ∷ tail))) ≡ (before ++ line ∷ []) ++ g.more =
           sym (log_shape h steps notes tail) ∙ sym (append_assoc (plan_lines_of h steps notes) (log_lines 1 b.before) (line ∷ g.more))
@@ -313,7 +313,7 @@ bad_log h steps notes text t1 t2 t3 t4 number hr sr nr ge b =
           let count : 1 + length b.before ≡ length b.before + 1 = omega arith in
           b.none l.logged (same_fits_at j.plan.steps steps (length b.before) l.logged n.places l.fits)
           (sym cut.front ∙ l.line_is ∙ ap (λ (x : ℕ). log_line x l.logged) count);
-      unfinished = λ one s. no_cut 10 b.rest b.line b.behind one b.parts;
+      unfinished = λ one s. no_cut 10 b.rest b.line b.following one b.parts;
     }
 
 -- ---- a journal
@@ -335,7 +335,7 @@ journal_is h steps notes log text t1 t2 t3 t4 rest hr sr nr ge lr =
 -- ---- by the fault
 
 pub stops_in_steps : (h : PlanHead) (text t1 : List ℕ) (fault : BookFault) → HasGo text → PlanHeadRead h text t1
-    → TellsItem (IsStepIn h.numbers.version) step_line step_place (head_length h) t1 fault → TellsJournal text fault
+    → ReportsItem (IsStepIn h.numbers.version) step_line step_place (head_length h) t1 fault → ReportsJournal text fault
 stops_in_steps h text t1 Stopped go hr t = t
 stops_in_steps h text t1 (BadState n) go hr t = t
 stops_in_steps h text t1 (BadJournal n) go hr t = (go, bad_step h text t1 n hr t)
@@ -343,7 +343,7 @@ stops_in_steps h text t1 NoMemory go hr t = tt
 
 pub stops_in_notes : (h : PlanHead) (steps : List Step) (text t1 t2 : List ℕ) (fault : BookFault) → HasGo text → PlanHeadRead h text t1
     → ItemsRead (IsStepIn h.numbers.version) step_line step_place steps t1 t2
-    → TellsItem (IsNoteIn h.numbers.version) note_line note_place (head_length h + length steps) t2 fault → TellsJournal text fault
+    → ReportsItem (IsNoteIn h.numbers.version) note_line note_place (head_length h + length steps) t2 fault → ReportsJournal text fault
 stops_in_notes h steps text t1 t2 Stopped go hr sr t = t
 stops_in_notes h steps text t1 t2 (BadState n) go hr sr t = t
 stops_in_notes h steps text t1 t2 (BadJournal n) go hr sr t = (go, bad_note h steps text t1 t2 n hr sr t)
@@ -351,7 +351,7 @@ stops_in_notes h steps text t1 t2 NoMemory go hr sr t = tt
 
 pub stops_in_log : (h : PlanHead) (steps : List Step) (notes : List Note) (text t1 t2 t3 t4 : List ℕ) (fault : BookFault) → HasGo text → PlanHeadRead h text t1
     → ItemsRead (IsStepIn h.numbers.version) step_line step_place steps t1 t2 → ItemsRead (IsNoteIn h.numbers.version) note_line note_place notes t2 t3 → t3 ≡ go_line ++ 10 ∷ t4
-    → TellsLog steps (head_length h + length steps + length notes + 1) t4 fault → TellsJournal text fault
+    → ReportsLog steps (head_length h + length steps + length notes + 1) t4 fault → ReportsJournal text fault
 stops_in_log h steps notes text t1 t2 t3 t4 Stopped go hr sr nr ge t = t
 stops_in_log h steps notes text t1 t2 t3 t4 (BadState n) go hr sr nr ge t = t
 stops_in_log h steps notes text t1 t2 t3 t4 (BadJournal n) go hr sr nr ge t = (go, bad_log h steps notes text t1 t2 t3 t4 n hr sr nr ge t)

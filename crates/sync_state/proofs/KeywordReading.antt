@@ -64,16 +64,16 @@ added_last k [] below = refl
 added_last k (x ∷ ks) below =
     let first : x.letter < k.letter = All-head (λ (y : Keyword). y.letter < k.letter) x ks below in
     let other : nat_lt k.letter x.letter ≡ false = grind (arith, nat_tests) in
-    let behind = added_last k ks (All-tail (λ (y : Keyword). y.letter < k.letter) x ks below) in
-    ap (λ (b : Bool). cond b (k ∷ x ∷ ks) (x ∷ with_keyword k ks)) other ∙ ap (λ (l : List Keyword). x ∷ l) behind
+    let following = added_last k ks (All-tail (λ (y : Keyword). y.letter < k.letter) x ks below) in
+    ap (λ (b : Bool). cond b (k ∷ x ∷ ks) (x ∷ with_keyword k ks)) other ∙ ap (λ (l : List Keyword). x ∷ l) following
 
 -- ---- a line that is not taken
 
 -- the first line of this text is none of these
 pub no_such_line : (ks : List Keyword) (text first rest : List ℕ) → text ≡ first ++ 10 ∷ rest → OneLine first
     → ((k : Keyword) → IsMap (ks ++ k ∷ []) → first ≢ keyword_line k) → HasNoLine [] (IsNextKeyword Two ks) keyword_line text
-no_such_line ks text first rest parts one none = λ line behind lacks e k next same.
-    let s = same_cut 10 first line rest behind one lacks (sym parts ∙ e) in
+no_such_line ks text first rest parts one none = λ line following lacks e k next same.
+    let s = same_cut 10 first line rest following one lacks (sym parts ∙ e) in
     none k next.map_is (s.front ∙ same)
 
 pub not_above : (ks : List Keyword) (k : Keyword) (line : List ℕ) → line ≡ keyword_line k → ¬ All (λ x. x.letter < k.letter) ks
@@ -109,7 +109,7 @@ none_read v goes_on start second first = record {
   taken = omega arith;
   words = by_version v;
   version = second;
-  all = λ stops. subst (λ (u : Version). HasNoLine [] (IsNextKeyword u []) keyword_line start.rest.now) (sym (first stops)) (λ line behind one e k next same. none_in_first k next);
+  all = λ stops. subst (λ (u : Version). HasNoLine [] (IsNextKeyword u []) keyword_line start.rest.now) (sym (first stops)) (λ line following one e k next same. none_in_first k next);
 } where
   by_version : (u : Version) → HasKeywords u []
   by_version One = refl

@@ -34,11 +34,11 @@ side_known a b fa fb e =
     let s = same_cut 32 (decimal a.validity) (decimal b.validity) (decimal a.highest ++ 32 ∷ decimal a.next) (decimal b.highest ++ 32 ∷ decimal b.next)
     (decimal-lacks 32 (omega arith) a.validity (omega (arith, fa.validity.fits))) (decimal-lacks 32 (omega arith) b.validity (omega (arith, fb.validity.fits))) e in
     let t = same_cut 32 (decimal a.highest) (decimal b.highest) (decimal a.next) (decimal b.next)
-    (decimal-lacks 32 (omega arith) a.highest (omega (arith, fa.highest))) (decimal-lacks 32 (omega arith) b.highest (omega (arith, fb.highest))) s.behind in
+    (decimal-lacks 32 (omega arith) a.highest (omega (arith, fa.highest))) (decimal-lacks 32 (omega arith) b.highest (omega (arith, fb.highest))) s.following in
     side_from a b
     (decimal_injective a.validity b.validity (omega (arith, fa.validity.fits)) (omega (arith, fb.validity.fits)) s.front)
     (decimal_injective a.highest b.highest (omega (arith, fa.highest)) (omega (arith, fb.highest)) t.front)
-    (decimal_injective a.next b.next (omega (arith, fa.next.fits)) (omega (arith, fb.next.fits)) t.behind)
+    (decimal_injective a.next b.next (omega (arith, fa.next.fits)) (omega (arith, fb.next.fits)) t.following)
 
 -- ---- the log
 
@@ -83,11 +83,11 @@ lines_of_one v w a b fa fb e =
     let keywords = same_items Any keyword_line (λ k l fk fl. keyword_known k l) a.plan.keywords b.plan.keywords (steps_on a) (steps_on b) (λ i d below. tt) (λ i d below. tt)
     (end_of_keywords a.plan.steps a.plan.notes (log_lines 1 a.log)) (end_of_keywords b.plan.steps b.plan.notes (log_lines 1 b.log)) (ap (λ (x : List (List ℕ)). drop 4 x) shaped) in
     let steps = same_items IsStep step_line step_known a.plan.steps b.plan.steps (notes_on a) (notes_on b) fa.plan.steps fb.plan.steps
-    (end_of_steps IsStep a.plan.notes (log_lines 1 a.log)) (end_of_steps IsStep b.plan.notes (log_lines 1 b.log)) keywords.behind in
+    (end_of_steps IsStep a.plan.notes (log_lines 1 a.log)) (end_of_steps IsStep b.plan.notes (log_lines 1 b.log)) keywords.following in
     let notes = same_items IsNote note_line note_known a.plan.notes b.plan.notes (go_line ∷ log_lines 1 a.log) (go_line ∷ log_lines 1 b.log) fa.plan.notes fb.plan.notes
-    (end_of_notes IsNote (log_lines 1 a.log)) (end_of_notes IsNote (log_lines 1 b.log)) steps.behind in
+    (end_of_notes IsNote (log_lines 1 a.log)) (end_of_notes IsNote (log_lines 1 b.log)) steps.following in
     let log = log_known b.plan.steps 1 a.log b.log (subst (λ (x : List Step). IsLog x a.log) steps.items fa.log) fb.log
-    (tail_lines go_line go_line (log_lines 1 a.log) (log_lines 1 b.log) notes.behind) in
+    (tail_lines go_line go_line (log_lines 1 a.log) (log_lines 1 b.log) notes.following) in
     record { version = version; journal = journal_from a b (plan_from a.plan b.plan run far near keywords.items steps.items notes.items) log }
 
 written_from : (a b : WrittenJournal) → a.version ≡ b.version → a.journal ≡ b.journal → a.is_torn ≡ b.is_torn → a ≡ b
@@ -103,4 +103,4 @@ written_known a b text wa wb =
     let lines = same_lines (journal_lines a.version a.journal) (journal_lines b.version b.journal) wa.torn wb.torn la.whole lb.whole wa.spelled.no_line wb.spelled.no_line (sym la.parts ∙ lb.parts) in
     let one = lines_of_one a.version b.version a.journal b.journal wa.spelled.fits wb.spelled.fits lines.lines in
     written_from a b one.version one.journal
-    (wa.is_torn ∙ (ap (λ (x : List ℕ). not (length x == 0)) lines.behind ∙ sym wb.is_torn))
+    (wa.is_torn ∙ (ap (λ (x : List ℕ). not (length x == 0)) lines.following ∙ sym wb.is_torn))

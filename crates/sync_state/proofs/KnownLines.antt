@@ -34,12 +34,12 @@ Spaced (b ∷ rest) = b ≡ 32
 
 -- a word is known from the text that it begins
 word_before : (a b r q : List ℕ) → Lacks 32 a → Lacks 32 b → Spaced r → Spaced q → a ++ r ≡ b ++ q → SameCut a b r q
-word_before a b [] [] la lb sr sq e = record { front = sym (append-nil a) ∙ (e ∙ append-nil b); behind = refl }
+word_before a b [] [] la lb sr sq e = record { front = sym (append-nil a) ∙ (e ∙ append-nil b); following = refl }
 word_before a b [] (y ∷ q) la lb sr sq e = absurd (no_cut 32 a b q la (sym (append-nil a) ∙ (e ∙ ap (λ (z : ℕ). b ++ z ∷ q) sq)))
 word_before a b (x ∷ r) [] la lb sr sq e = absurd (no_cut 32 b a r lb (sym (append-nil b) ∙ (sym e ∙ ap (λ (z : ℕ). a ++ z ∷ r) sr)))
 word_before a b (x ∷ r) (y ∷ q) la lb sr sq e =
     let c = same_cut 32 a b r q la lb (sym (ap (λ (z : ℕ). a ++ z ∷ r) sr) ∙ (e ∙ ap (λ (z : ℕ). b ++ z ∷ q) sq)) in
-    record { front = c.front; behind = ap (λ (z : ℕ). z ∷ r) (sr ∙ sym sq) ∙ ap (λ (z : List ℕ). y ∷ z) c.behind }
+    record { front = c.front; following = ap (λ (z : ℕ). z ∷ r) (sr ∙ sym sq) ∙ ap (λ (z : List ℕ). y ∷ z) c.following }
 
 change_is_spaced : (sign flags : ℕ) → Spaced (change sign flags)
 change_is_spaced sign flags = elim (flags == 0) as (λ b. Spaced (cond b [] (32 ∷ sign ∷ letters_of flags))) [ true ↦ tt | false ↦ refl ]
@@ -76,7 +76,7 @@ changes_known s t c d fs ft fc fd e = by_tests (s == 0) (t == 0) refl refl e whe
   by_tests false false is it h =
       let w = word_before (letters_of s) (letters_of t) (change 45 c) (change 45 d) (letters-lack 32 (omega arith) s) (letters-lack 32 (omega arith) t)
       (change_is_spaced 45 c) (change_is_spaced 45 d) (ap (λ (z : List ℕ). drop 2 z) h) in
-      record { set = set_from_letters s t fs ft w.front; cleared = change_known 45 c d fc fd w.behind }
+      record { set = set_from_letters s t fs ft w.front; cleared = change_known 45 c d fc fd w.following }
 
 -- ---- lines
 
@@ -84,26 +84,26 @@ pub step_known : (a b : Step) → IsStep a → IsStep b → step_line a ≡ step
 step_known (step.New d u w m) (step.New d' u' w' m') fa fb e =
     let s = same_cut 32 (direction_word d) (direction_word d') (decimal u ++ 32 ∷ (flags_word w ++ 32 ∷ m)) (decimal u' ++ 32 ∷ (flags_word w' ++ 32 ∷ m'))
     (direction-lacks d) (direction-lacks d') (ap (λ (z : List ℕ). drop 6 z) e) in
-    let t = same_cut 32 (decimal u) (decimal u') (flags_word w ++ 32 ∷ m) (flags_word w' ++ 32 ∷ m') (uid-lacks u fa.0) (uid-lacks u' fb.0) s.behind in
-    let v = same_cut 32 (flags_word w) (flags_word w') m m' (flags-lack w) (flags-lack w') t.behind in
+    let t = same_cut 32 (decimal u) (decimal u') (flags_word w ++ 32 ∷ m) (flags_word w' ++ 32 ∷ m') (uid-lacks u fa.0) (uid-lacks u' fb.0) s.following in
+    let v = same_cut 32 (flags_word w) (flags_word w') m m' (flags-lack w) (flags-lack w') t.following in
     let same_d = direction-injective d d' s.front in
     let same_u = uid-injective u u' fa.0 fb.0 t.front in
     let same_w = flags_word-injective w w' fa.1 fb.1 v.front in
-    let same_m = v.behind in cc
+    let same_m = v.following in cc
 step_known (step.Gone d f n) (step.Gone d' f' n') fa fb e =
     let s = same_cut 32 (direction_word d) (direction_word d') (decimal f ++ 32 ∷ decimal n) (decimal f' ++ 32 ∷ decimal n')
     (direction-lacks d) (direction-lacks d') (ap (λ (z : List ℕ). drop 7 z) e) in
-    let t = same_cut 32 (decimal f) (decimal f') (decimal n) (decimal n') (uid-lacks f fa.0) (uid-lacks f' fb.0) s.behind in
+    let t = same_cut 32 (decimal f) (decimal f') (decimal n) (decimal n') (uid-lacks f fa.0) (uid-lacks f' fb.0) s.following in
     let same_d = direction-injective d d' s.front in
     let same_f = uid-injective f f' fa.0 fb.0 t.front in
-    let same_n = uid-injective n n' fa.1 fb.1 t.behind in cc
+    let same_n = uid-injective n n' fa.1 fb.1 t.following in cc
 step_known (step.Flags d f n s c) (step.Flags d' f' n' s' c') fa fb e =
     let cut = same_cut 32 (direction_word d) (direction_word d') (decimal f ++ 32 ∷ (decimal n ++ (change 43 s ++ change 45 c))) (decimal f' ++ 32 ∷ (decimal n' ++ (change 43 s' ++ change 45 c')))
     (direction-lacks d) (direction-lacks d') (ap (λ (z : List ℕ). drop 8 z) e) in
-    let t = same_cut 32 (decimal f) (decimal f') (decimal n ++ (change 43 s ++ change 45 c)) (decimal n' ++ (change 43 s' ++ change 45 c')) (uid-lacks f fa.0) (uid-lacks f' fb.0) cut.behind in
+    let t = same_cut 32 (decimal f) (decimal f') (decimal n ++ (change 43 s ++ change 45 c)) (decimal n' ++ (change 43 s' ++ change 45 c')) (uid-lacks f fa.0) (uid-lacks f' fb.0) cut.following in
     let v = word_before (decimal n) (decimal n') (change 43 s ++ change 45 c) (change 43 s' ++ change 45 c') (uid-lacks n fa.1) (uid-lacks n' fb.1)
-    (changes_are_spaced s c) (changes_are_spaced s' c') t.behind in
-    let changes = changes_known s s' c c' fa.2 fb.2 fa.3 fb.3 v.behind in
+    (changes_are_spaced s c) (changes_are_spaced s' c') t.following in
+    let changes = changes_known s s' c c' fa.2 fb.2 fa.3 fb.3 v.following in
     let same_d = direction-injective d d' cut.front in
     let same_f = uid-injective f f' fa.0 fb.0 t.front in
     let same_n = uid-injective n n' fa.1 fb.1 v.front in
@@ -112,7 +112,7 @@ step_known (step.Flags d f n s c) (step.Flags d' f' n' s' c') fa fb e =
 step_known (step.Expunge side u) (step.Expunge side' u') fa fb e =
     let s = same_cut 32 (side_word side) (side_word side') (decimal u) (decimal u') (side_word-lacks side) (side_word-lacks side') (ap (λ (z : List ℕ). drop 10 z) e) in
     let same_side = side_word-injective side side' s.front in
-    let same_u = uid-injective u u' fa fb s.behind in cc
+    let same_u = uid-injective u u' fa fb s.following in cc
 step_known (step.New d u w m) (step.Gone d' f' n') fa fb e = absurd (other_kind _ _ 2 110 103 refl refl (λ h. absurd (omega (arith, h))) e)
 step_known (step.New d u w m) (step.Flags d' f' n' s' c') fa fb e = absurd (other_kind _ _ 2 110 102 refl refl (λ h. absurd (omega (arith, h))) e)
 step_known (step.New d u w m) (step.Expunge side' u') fa fb e = absurd (other_kind _ _ 2 110 101 refl refl (λ h. absurd (omega (arith, h))) e)
@@ -129,14 +129,14 @@ step_known (step.Expunge side u) (step.Flags d' f' n' s' c') fa fb e = absurd (o
 pub note_known : (a b : Note) → IsNote a → IsNote b → note_line a ≡ note_line b → a ≡ b
 note_known (note.Record f n w) (note.Record f' n' w') fa fb e =
     let s = same_cut 32 (decimal f) (decimal f') (decimal n ++ 32 ∷ flags_word w) (decimal n' ++ 32 ∷ flags_word w') (uid-lacks f fa.0) (uid-lacks f' fb.0) (ap (λ (z : List ℕ). drop 9 z) e) in
-    let t = same_cut 32 (decimal n) (decimal n') (flags_word w) (flags_word w') (uid-lacks n fa.1) (uid-lacks n' fb.1) s.behind in
+    let t = same_cut 32 (decimal n) (decimal n') (flags_word w) (flags_word w') (uid-lacks n fa.1) (uid-lacks n' fb.1) s.following in
     let same_f = uid-injective f f' fa.0 fb.0 s.front in
     let same_n = uid-injective n n' fa.1 fb.1 t.front in
-    let same_w = flags_word-injective w w' fa.2 fb.2 t.behind in cc
+    let same_w = flags_word-injective w w' fa.2 fb.2 t.following in cc
 note_known (note.Drop f n) (note.Drop f' n') fa fb e =
     let s = same_cut 32 (decimal (unwrap_or f 0)) (decimal (unwrap_or f' 0)) (decimal (unwrap_or n 0)) (decimal (unwrap_or n' 0)) (side-lacks f fa.0) (side-lacks f' fb.0) (ap (λ (z : List ℕ). drop 7 z) e) in
     let same_f = side-injective f f' fa.0 fb.0 s.front in
-    let same_n = side-injective n n' fa.1 fb.1 s.behind in cc
+    let same_n = side-injective n n' fa.1 fb.1 s.following in cc
 note_known (note.Record f n w) (note.Drop f' n') fa fb e = absurd (other_kind _ _ 2 114 100 refl refl (λ h. absurd (omega (arith, h))) e)
 note_known (note.Drop f n) (note.Record f' n' w') fa fb e = absurd (other_kind _ _ 2 100 114 refl refl (λ h. absurd (omega (arith, h))) e)
 
@@ -161,9 +161,9 @@ note_places a b fa fb e = ap note_place (note_known a b fa fb e)
 
 new_logged_known : (number : ℕ) (a b : Logged) → LogsNew a → LogsNew b → log_line number a ≡ log_line number b → a ≡ b
 new_logged_known number (Copied u) (Copied v) fa fb e =
-    let behind : decimal number ++ 32 ∷ decimal u ≡ decimal number ++ 32 ∷ decimal v = ap (λ (z : List ℕ). drop 2 z) e in
+    let following : decimal number ++ 32 ∷ decimal u ≡ decimal number ++ 32 ∷ decimal v = ap (λ (z : List ℕ). drop 2 z) e in
     let same : decimal u ≡ decimal v = ap (λ (z : List ℕ). drop 1 z)
-    (sym (drop_at (decimal number) (32 ∷ decimal u) (length (decimal number)) refl) ∙ (ap (λ (z : List ℕ). drop (length (decimal number)) z) behind
+    (sym (drop_at (decimal number) (32 ∷ decimal u) (length (decimal number)) refl) ∙ (ap (λ (z : List ℕ). drop (length (decimal number)) z) following
     ∙ drop_at (decimal number) (32 ∷ decimal v) (length (decimal number)) refl)) in
     ap (λ (x : ℕ). Copied x) (uid-injective u v fa fb same)
 new_logged_known number (Copied u) Done fa fb e = absurd fb

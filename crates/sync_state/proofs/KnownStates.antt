@@ -16,7 +16,7 @@ use Rattle.sync_state.specs.WordLaws.{decimal-lacks, version-injective}
 use Rattle.sync_state.specs.Lines.{lines_text, OneLine}
 use Rattle.sync_state.specs.StateText.{state_title, run_line, far_line, near_line, entry_line, end_line, state_lines, IsHighest, IsEntry, HasText, IsStateText, StateText}
 use Rattle.sync_state.proofs.ItemLemmas.{IsEnd}
-use Rattle.sync_state.proofs.LfLemmas.{uid_or_none, flags, spaced, behind}
+use Rattle.sync_state.proofs.LfLemmas.{uid_or_none, flags, spaced, following}
 use Rattle.sync_state.proofs.StateLemmas.{lacks_lf, nth, entry_line-injective, no_end}
 use Rattle.sync_state.proofs.KnownTexts.{same_lines, same_items}
 
@@ -30,7 +30,7 @@ two_numbers validity highest is below = spaced (decimal validity) (decimal highe
 
 entry_is_one_line : (v : Version) (e : Entry) → IsEntry v e → OneLine (entry_line e)
 entry_is_one_line v e is =
-    behind (codes "e ") (decimal (uid_of Far e) ++ 32 ∷ (decimal (uid_of Near e) ++ 32 ∷ flags_word e.flags)) (lacks_lf (codes "e ") refl)
+    following (codes "e ") (decimal (uid_of Far e) ++ 32 ∷ (decimal (uid_of Near e) ++ 32 ∷ flags_word e.flags)) (lacks_lf (codes "e ") refl)
     (spaced (decimal (uid_of Far e)) (decimal (uid_of Near e) ++ 32 ∷ flags_word e.flags) (uid_or_none e.far is.far)
     (spaced (decimal (uid_of Near e)) (flags_word e.flags) (uid_or_none e.near is.near) (flags e.flags)))
 
@@ -40,10 +40,10 @@ title Two = lacks_lf (state_title Two) refl
 
 pub state_is_lines : (v : Version) (s : SyncState) → HasText v s → All OneLine (state_lines v s)
 state_is_lines v s fits =
-    let run : OneLine (run_line s.run) = behind (codes "run ") (decimal s.run) (lacks_lf (codes "run ") refl) (number s.run fits.run.fits) in
-    let far : OneLine (far_line s.far_validity s.max_pulled) = behind (codes "far ") (decimal s.far_validity ++ 32 ∷ decimal s.max_pulled) (lacks_lf (codes "far ") refl)
+    let run : OneLine (run_line s.run) = following (codes "run ") (decimal s.run) (lacks_lf (codes "run ") refl) (number s.run fits.run.fits) in
+    let far : OneLine (far_line s.far_validity s.max_pulled) = following (codes "far ") (decimal s.far_validity ++ 32 ∷ decimal s.max_pulled) (lacks_lf (codes "far ") refl)
     (two_numbers s.far_validity s.max_pulled fits.far_validity fits.max_pulled) in
-    let near : OneLine (near_line s.near_validity s.max_pushed) = behind (codes "near ") (decimal s.near_validity ++ 32 ∷ decimal s.max_pushed) (lacks_lf (codes "near ") refl)
+    let near : OneLine (near_line s.near_validity s.max_pushed) = following (codes "near ") (decimal s.near_validity ++ 32 ∷ decimal s.max_pushed) (lacks_lf (codes "near ") refl)
     (two_numbers s.near_validity s.max_pushed fits.near_validity fits.max_pushed) in
     let entries : List (List ℕ) = map entry_line s.entries in
     All-cons OneLine (state_title v) (run_line s.run ∷ far_line s.far_validity s.max_pulled ∷ near_line s.near_validity s.max_pushed ∷ (entries ++ end_line ∷ [])) (title v)
@@ -64,7 +64,7 @@ two_known a b c d pa pb hc hd e =
     let s = same_cut 32 (decimal a) (decimal b) (decimal c) (decimal d) (decimal-lacks 32 (omega arith) a (omega (arith, pa.fits))) (decimal-lacks 32 (omega arith) b (omega (arith, pb.fits))) e in
     record {
       first = decimal_injective a b (omega (arith, pa.fits)) (omega (arith, pb.fits)) s.front;
-      second = decimal_injective c d (omega (arith, hc)) (omega (arith, hd)) s.behind;
+      second = decimal_injective c d (omega (arith, hc)) (omega (arith, hd)) s.following;
     }
 
 entries_end : (v : Version) → IsEnd (IsEntry v) entry_line (end_line ∷ [])

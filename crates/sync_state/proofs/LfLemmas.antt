@@ -75,8 +75,8 @@ changed sign f other = elim (f == 0) as (λ b. OneLine (cond b [] (32 ∷ sign �
 pub spaced : (a b : List ℕ) → OneLine a → OneLine b → OneLine (a ++ 32 ∷ b)
 spaced a b la lb = All-append IsInside a (32 ∷ b) la (All-cons IsInside 32 b (λ e. absurd (omega (arith, e))) lb)
 
-pub behind : (start a : List ℕ) → OneLine start → OneLine a → OneLine (start ++ a)
-behind start a ls la = All-append IsInside start a ls la
+pub following : (start a : List ℕ) → OneLine start → OneLine a → OneLine (start ++ a)
+following start a ls la = All-append IsInside start a ls la
 
 -- ---- lines
 
@@ -96,7 +96,7 @@ atom name is =
 pub keyword_is_one_line : (k : Keyword) → is_keyword_letter k.letter ≡ true → is_keyword_name k.name ≡ true → OneLine (keyword_line k)
 keyword_is_one_line k letter name =
     let inside : IsInside k.letter = λ e. let none : is_keyword_letter 10 ≡ true = subst (λ (x : ℕ). is_keyword_letter x ≡ true) e letter in false≢true none in
-    behind (codes "k ") (k.letter ∷ 32 ∷ k.name) (lacks_lf (codes "k ") refl)
+    following (codes "k ") (k.letter ∷ 32 ∷ k.name) (lacks_lf (codes "k ") refl)
     (All-cons IsInside k.letter (32 ∷ k.name) inside
     (All-cons IsInside 32 k.name (λ e. absurd (omega (arith, e))) (atom k.name (and_parts (is_atom k.name) (is_none (flag_named k.name)) name).0)))
 
@@ -108,33 +108,33 @@ head_lines : (v : Version) (p : Plan) → IsPlan p → All OneLine (plan_head_li
 head_lines v p is =
     let keywords : List (List ℕ) = map keyword_line p.keywords in
     All-cons OneLine (journal_title v) (run_line p.run ∷ plan_far_line p.far ∷ plan_near_line p.near ∷ keywords) (title v)
-    (All-cons OneLine (run_line p.run) (plan_far_line p.far ∷ plan_near_line p.near ∷ keywords) (behind (codes "run ") (decimal p.run) (lacks_lf (codes "run ") refl) (decimal-lacks 10 (omega arith) p.run is.run))
-    (All-cons OneLine (plan_far_line p.far) (plan_near_line p.near ∷ keywords) (behind (codes "far ") (plan_side_text p.far) (lacks_lf (codes "far ") refl) (side_text p.far is.far))
-    (All-cons OneLine (plan_near_line p.near) keywords (behind (codes "near ") (plan_side_text p.near) (lacks_lf (codes "near ") refl) (side_text p.near is.near)) (keywords_are_lines p.keywords is.keywords))))
+    (All-cons OneLine (run_line p.run) (plan_far_line p.far ∷ plan_near_line p.near ∷ keywords) (following (codes "run ") (decimal p.run) (lacks_lf (codes "run ") refl) (decimal-lacks 10 (omega arith) p.run is.run))
+    (All-cons OneLine (plan_far_line p.far) (plan_near_line p.near ∷ keywords) (following (codes "far ") (plan_side_text p.far) (lacks_lf (codes "far ") refl) (side_text p.far is.far))
+    (All-cons OneLine (plan_near_line p.near) keywords (following (codes "near ") (plan_side_text p.near) (lacks_lf (codes "near ") refl) (side_text p.near is.near)) (keywords_are_lines p.keywords is.keywords))))
 
 step_is_one_line : (s : Step) → IsStep s → OneLine (step_line s)
 step_is_one_line (step.New d u f m) is =
-    behind (codes "s new ") (direction_word d ++ 32 ∷ (decimal u ++ 32 ∷ (flags_word f ++ 32 ∷ m))) (lacks_lf (codes "s new ") refl)
+    following (codes "s new ") (direction_word d ++ 32 ∷ (decimal u ++ 32 ∷ (flags_word f ++ 32 ∷ m))) (lacks_lf (codes "s new ") refl)
     (spaced (direction_word d) (decimal u ++ 32 ∷ (flags_word f ++ 32 ∷ m)) (direction d)
     (spaced (decimal u) (flags_word f ++ 32 ∷ m) (uid u is.0) (spaced (flags_word f) m (flags f) (mark m is.2))))
 step_is_one_line (step.Gone d far near) is =
-    behind (codes "s gone ") (direction_word d ++ 32 ∷ (decimal far ++ 32 ∷ decimal near)) (lacks_lf (codes "s gone ") refl)
+    following (codes "s gone ") (direction_word d ++ 32 ∷ (decimal far ++ 32 ∷ decimal near)) (lacks_lf (codes "s gone ") refl)
     (spaced (direction_word d) (decimal far ++ 32 ∷ decimal near) (direction d) (spaced (decimal far) (decimal near) (uid far is.0) (uid near is.1)))
 step_is_one_line (step.Flags d far near set cleared) is =
-    behind (codes "s flags ") (direction_word d ++ 32 ∷ (decimal far ++ 32 ∷ (decimal near ++ (change 43 set ++ change 45 cleared)))) (lacks_lf (codes "s flags ") refl)
+    following (codes "s flags ") (direction_word d ++ 32 ∷ (decimal far ++ 32 ∷ (decimal near ++ (change 43 set ++ change 45 cleared)))) (lacks_lf (codes "s flags ") refl)
     (spaced (direction_word d) (decimal far ++ 32 ∷ (decimal near ++ (change 43 set ++ change 45 cleared))) (direction d)
     (spaced (decimal far) (decimal near ++ (change 43 set ++ change 45 cleared)) (uid far is.0)
-    (behind (decimal near) (change 43 set ++ change 45 cleared) (uid near is.1)
-    (behind (change 43 set) (change 45 cleared) (changed 43 set (λ e. absurd (omega (arith, e)))) (changed 45 cleared (λ e. absurd (omega (arith, e))))))))
+    (following (decimal near) (change 43 set ++ change 45 cleared) (uid near is.1)
+    (following (change 43 set) (change 45 cleared) (changed 43 set (λ e. absurd (omega (arith, e)))) (changed 45 cleared (λ e. absurd (omega (arith, e))))))))
 step_is_one_line (step.Expunge s u) is =
-    behind (codes "s expunge ") (side_word s ++ 32 ∷ decimal u) (lacks_lf (codes "s expunge ") refl) (spaced (side_word s) (decimal u) (side s) (uid u is))
+    following (codes "s expunge ") (side_word s ++ 32 ∷ decimal u) (lacks_lf (codes "s expunge ") refl) (spaced (side_word s) (decimal u) (side s) (uid u is))
 
 note_is_one_line : (n : Note) → IsNote n → OneLine (note_line n)
 note_is_one_line (note.Record far near f) is =
-    behind (codes "n record ") (decimal far ++ 32 ∷ (decimal near ++ 32 ∷ flags_word f)) (lacks_lf (codes "n record ") refl)
+    following (codes "n record ") (decimal far ++ 32 ∷ (decimal near ++ 32 ∷ flags_word f)) (lacks_lf (codes "n record ") refl)
     (spaced (decimal far) (decimal near ++ 32 ∷ flags_word f) (uid far is.0) (spaced (decimal near) (flags_word f) (uid near is.1) (flags f)))
 note_is_one_line (note.Drop far near) is =
-    behind (codes "n drop ") (decimal (unwrap_or far 0) ++ 32 ∷ decimal (unwrap_or near 0)) (lacks_lf (codes "n drop ") refl)
+    following (codes "n drop ") (decimal (unwrap_or far 0) ++ 32 ∷ decimal (unwrap_or near 0)) (lacks_lf (codes "n drop ") refl)
     (spaced (decimal (unwrap_or far 0)) (decimal (unwrap_or near 0)) (uid_or_none far is.0) (uid_or_none near is.1))
 
 -- the lines of a plan but its last
@@ -157,11 +157,11 @@ plan_is_lines v p is = subst (λ (ls : List (List ℕ)). All OneLine ls) (sym (l
 -- a line that logs a step
 pub log_line_is_one_line : (s : Step) (l : Logged) (number : ℕ) → number < 2 ^ 64 → FitsStep s l → OneLine (log_line number l)
 log_line_is_one_line (step.New d u f m) (Copied copy) number small fits =
-    behind (codes "d ") (decimal number ++ 32 ∷ decimal copy) (lacks_lf (codes "d ") refl) (spaced (decimal number) (decimal copy) (decimal-lacks 10 (omega arith) number small) (uid copy fits))
+    following (codes "d ") (decimal number ++ 32 ∷ decimal copy) (lacks_lf (codes "d ") refl) (spaced (decimal number) (decimal copy) (decimal-lacks 10 (omega arith) number small) (uid copy fits))
 log_line_is_one_line (step.Gone d far near) (Copied copy) number small fits = absurd fits
 log_line_is_one_line (step.Flags d far near set cleared) (Copied copy) number small fits = absurd fits
 log_line_is_one_line (step.Expunge e u) (Copied copy) number small fits = absurd fits
 log_line_is_one_line s Done number small fits =
-    behind (codes "d ") (decimal number) (lacks_lf (codes "d ") refl) (decimal-lacks 10 (omega arith) number small)
+    following (codes "d ") (decimal number) (lacks_lf (codes "d ") refl) (decimal-lacks 10 (omega arith) number small)
 log_line_is_one_line s Void number small fits =
-    behind (codes "v ") (decimal number) (lacks_lf (codes "v ") refl) (decimal-lacks 10 (omega arith) number small)
+    following (codes "v ") (decimal number) (lacks_lf (codes "v ") refl) (decimal-lacks 10 (omega arith) number small)

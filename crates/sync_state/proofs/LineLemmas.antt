@@ -8,20 +8,20 @@ use Rattle.texts.proofs.StartLemmas.{starts, no_start}
 use Rattle.sync_state.specs.Cuts.{same_cut, no_cut}
 use Rattle.sync_state.specs.Lines.{lines_text, OneLine, AreLines, HasLine, HasNoLine}
 
-behind_start : (start text rest more : List ℕ) → rest ≡ drop (length start) text → text ≡ start ++ more → rest ≡ more
-behind_start start text rest more is e = is ∙ ap (λ (x : List ℕ). drop (length start) x) e ∙ drop_at start more (length start) refl
+after_start : (start text rest more : List ℕ) → rest ≡ drop (length start) text → text ≡ start ++ more → rest ≡ more
+after_start start text rest more is e = is ∙ ap (λ (x : List ℕ). drop (length start) x) e ∙ drop_at start more (length start) refl
 
 -- a text without a line end has no line
 pub no_line_end : {T X : Type 0} (r : Option X) (start : List ℕ) (fits : T → Type 0) (spelling : T → List ℕ) (text : List ℕ)
     → OneLine text → IfNone r (HasNoLine start fits spelling text)
-no_line_end None start fits spelling text none = λ line behind one e value f same. no_cut 10 text line behind none e
+no_line_end None start fits spelling text none = λ line following one e value f same. no_cut 10 text line following none e
 no_line_end (Some x) start fits spelling text none = tt
 
 -- a line that begins otherwise
 pub other_start : {T X : Type 0} (r : Option X) (start : List ℕ) (fits : T → Type 0) (spelling : T → List ℕ) (text first rest : List ℕ)
     → text ≡ first ++ 10 ∷ rest → OneLine first → pointwise eqb (take (length start) first) start ≡ false → IfNone r (HasNoLine start fits spelling text)
-other_start None start fits spelling text first rest parts one other = λ line behind lacks e value f same.
-    let s = same_cut 10 first line rest behind one lacks (sym parts ∙ e) in
+other_start None start fits spelling text first rest parts one other = λ line following lacks e value f same.
+    let s = same_cut 10 first line rest following one lacks (sym parts ∙ e) in
     no_start start first (spelling value) other (s.front ∙ same)
 other_start (Some x) start fits spelling text first rest parts one other = tt
 
@@ -29,9 +29,9 @@ other_start (Some x) start fits spelling text first rest parts one other = tt
 pub other_value : {T X : Type 0} (r : Option X) (start : List ℕ) (fits : T → Type 0) (spelling : T → List ℕ) (text first rest left : List ℕ)
     → text ≡ first ++ 10 ∷ rest → OneLine first → left ≡ drop (length start) first → ((value : T) → fits value → left ≢ spelling value)
     → IfNone r (HasNoLine start fits spelling text)
-other_value None start fits spelling text first rest left parts one is none = λ line behind lacks e value f same.
-    let s = same_cut 10 first line rest behind one lacks (sym parts ∙ e) in
-    none value f (behind_start start first left (spelling value) is (s.front ∙ same))
+other_value None start fits spelling text first rest left parts one is none = λ line following lacks e value f same.
+    let s = same_cut 10 first line rest following one lacks (sym parts ∙ e) in
+    none value f (after_start start first left (spelling value) is (s.front ∙ same))
 other_value (Some x) start fits spelling text first rest left parts one is none = tt
 
 pub line_is : {T : Type 0} (start : List ℕ) (fits : T → Type 0) (spelling : T → List ℕ) (value : T) (text first rest left : List ℕ)

@@ -15,13 +15,13 @@ rest_lacks n b bs h = λ k d l. h (suc k) d (omega arith)
 
 pub record SameCut (a b x y : List ℕ) : Type 0 where
   pub front : a ≡ b
-  pub behind : x ≡ y
+  pub following : x ≡ y
 
 more : (c : ℕ) (a b x y : List ℕ) → SameCut a b x y → SameCut (c ∷ a) (c ∷ b) x y
-more c a b x y s = record { front = ap (λ (z : List ℕ). c ∷ z) s.front; behind = s.behind }
+more c a b x y s = record { front = ap (λ (z : List ℕ). c ∷ z) s.front; following = s.following }
 
 pub same_cut : (n : ℕ) (a b x y : List ℕ) → Lacks n a → Lacks n b → a ++ n ∷ x ≡ b ++ n ∷ y → SameCut a b x y
-same_cut n [] [] x y la lb e = record { front = refl; behind = cc }
+same_cut n [] [] x y la lb e = record { front = refl; following = cc }
 same_cut n [] (d ∷ b) x y la lb e = let h : d ≡ n = cc in absurd (first_other n d b lb h)
 same_cut n (c ∷ a) [] x y la lb e = let h : c ≡ n = cc in absurd (first_other n c a la h)
 same_cut n (c ∷ a) (d ∷ b) x y la lb e =
@@ -29,7 +29,7 @@ same_cut n (c ∷ a) (d ∷ b) x y la lb e =
     let rest : a ++ n ∷ x ≡ b ++ n ∷ y = cc in
     let s = same_cut n a b x y (rest_lacks n c a la) (rest_lacks n d b lb) rest in
     let f = s.front in
-    record { front = cc; behind = s.behind }
+    record { front = cc; following = s.following }
 
 pub no_cut : (n : ℕ) (t a x : List ℕ) → Lacks n t → t ≢ a ++ n ∷ x
 no_cut n t a x none e =
@@ -47,5 +47,5 @@ pub spaced-injective : {A B : Type 0} (fits : A → Type 0) (spelling : A → Li
 spaced-injective {A} {B} fits spelling fits_too spelling_too word one two p q fp fq e =
     let s = same_cut 32 (spelling p.0) (spelling q.0) (spelling_too p.1) (spelling_too q.1) (word p.0 fp.0) (word q.0 fq.0) e in
     let first : p.0 ≡ q.0 = one p.0 q.0 fp.0 fq.0 s.front in
-    let second : p.1 ≡ q.1 = two p.1 q.1 fp.1 fq.1 s.behind in
+    let second : p.1 ≡ q.1 = two p.1 q.1 fp.1 fq.1 s.following in
     ap (λ (x : A). let z : A × B = (x, p.1) in z) first ∙ ap (λ (y : B). let z : A × B = (q.0, y) in z) second

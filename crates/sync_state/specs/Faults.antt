@@ -6,8 +6,8 @@ use Rattle.sync_state.specs.Lines.{IsBadLine}
 use Rattle.sync_state.specs.StateText.{StateLines}
 
 -- the bad line of a state text, or `NoMemory`
-abbrev pub TellsState : List ℕ → BookFault → Type 0
-TellsState text Stopped = ⊥
-TellsState text (BadState line) = IsBadLine StateLines text line
-TellsState text (BadJournal line) = ⊥
-TellsState text NoMemory = Unit {0}
+abbrev pub ReportsState : List ℕ → BookFault → Type 0
+ReportsState text Stopped = ⊥
+ReportsState text (BadState line) = IsBadLine StateLines text line
+ReportsState text (BadJournal line) = ⊥
+ReportsState text NoMemory = Unit {0}

@@ -26,23 +26,23 @@ abbrev pub IsNoteIn : Version → Note → Type 0
 IsNoteIn version n = IsNote n × NoteLetters version n
 
 -- the bad line of a journal's text with `go`, or `NoMemory`
-abbrev pub TellsJournal : List ℕ → BookFault → Type 0
-TellsJournal text Stopped = ⊥
-TellsJournal text (BadState line) = ⊥
-TellsJournal text (BadJournal line) = HasGo text × IsBadJournal text line
-TellsJournal text NoMemory = Unit {0}
+abbrev pub ReportsJournal : List ℕ → BookFault → Type 0
+ReportsJournal text Stopped = ⊥
+ReportsJournal text (BadState line) = ⊥
+ReportsJournal text (BadJournal line) = HasGo text × IsBadJournal text line
+ReportsJournal text NoMemory = Unit {0}
 
 -- ---- the head
 
-abbrev pub TellsNumbers : List ℕ → BookFault → Type 0
-TellsNumbers text Stopped = ⊥
-TellsNumbers text (BadState line) = ⊥
-TellsNumbers text (BadJournal line) = IsBadJournal text line
-TellsNumbers text NoMemory = ⊥
+abbrev pub ReportsNumbers : List ℕ → BookFault → Type 0
+ReportsNumbers text Stopped = ⊥
+ReportsNumbers text (BadState line) = ⊥
+ReportsNumbers text (BadJournal line) = IsBadJournal text line
+ReportsNumbers text NoMemory = ⊥
 
 -- the bad line of the head, or `NoMemory`
-abbrev pub TellsHead : List ℕ → BookFault → Type 0
-TellsHead text fault = (fault ≡ NoMemory) ⊎ TellsNumbers text fault
+abbrev pub ReportsHead : List ℕ → BookFault → Type 0
+ReportsHead text fault = (fault ≡ NoMemory) ⊎ ReportsNumbers text fault
 
 abbrev pub with_items : PlanHead → List Step → List Note → Plan
 with_items h steps notes =
@@ -106,19 +106,19 @@ pub record IsBadItem {A : Type 0} (fits : A → Type 0) (line : A → List ℕ) 
   pub before : List A
   pub item : A
   pub rest : List ℕ
-  pub behind : List ℕ
+  pub following : List ℕ
   pub are : AreItems fits line place before text rest
   pub fitting : fits item
   pub one_line : OneLine (line item)
-  pub parts : rest ≡ line item ++ 10 ∷ behind
+  pub parts : rest ≡ line item ++ 10 ∷ following
   pub stops : is_below (last_of bottom (map place before)) (place item) ≡ false
   pub number_is : number ≡ taken + length before + 1
 
-abbrev pub TellsItem : {A : Type 0} → (A → Type 0) → (A → List ℕ) → (A → ℕ × ℕ × ℕ) → ℕ → List ℕ → BookFault → Type 0
-TellsItem fits line place taken text Stopped = ⊥
-TellsItem fits line place taken text (BadState number) = ⊥
-TellsItem fits line place taken text (BadJournal number) = IsBadItem fits line place taken text number
-TellsItem fits line place taken text NoMemory = Unit {0}
+abbrev pub ReportsItem : {A : Type 0} → (A → Type 0) → (A → List ℕ) → (A → ℕ × ℕ × ℕ) → ℕ → List ℕ → BookFault → Type 0
+ReportsItem fits line place taken text Stopped = ⊥
+ReportsItem fits line place taken text (BadState number) = ⊥
+ReportsItem fits line place taken text (BadJournal number) = IsBadItem fits line place taken text number
+ReportsItem fits line place taken text NoMemory = Unit {0}
 
 -- ---- the log
 
@@ -141,18 +141,18 @@ pub record IsBadLog (steps : List Step) (taken : ℕ) (text : List ℕ) (number 
   pub before : List Logged
   pub line : List ℕ
   pub rest : List ℕ
-  pub behind : List ℕ
+  pub following : List ℕ
   pub are : AreLogged steps before text rest
   pub one_line : OneLine line
-  pub parts : rest ≡ line ++ 10 ∷ behind
+  pub parts : rest ≡ line ++ 10 ∷ following
   pub none : (logged : Logged) → FitsAt steps (length before) logged → line ≢ log_line (length before + 1) logged
   pub number_is : number ≡ taken + length before + 1
 
-abbrev pub TellsLog : List Step → ℕ → List ℕ → BookFault → Type 0
-TellsLog steps taken text Stopped = ⊥
-TellsLog steps taken text (BadState number) = ⊥
-TellsLog steps taken text (BadJournal number) = IsBadLog steps taken text number
-TellsLog steps taken text NoMemory = Unit {0}
+abbrev pub ReportsLog : List Step → ℕ → List ℕ → BookFault → Type 0
+ReportsLog steps taken text Stopped = ⊥
+ReportsLog steps taken text (BadState number) = ⊥
+ReportsLog steps taken text (BadJournal number) = IsBadLog steps taken text number
+ReportsLog steps taken text NoMemory = Unit {0}
 
 -- a text holds this journal
 pub record IsWritten (written : WrittenJournal) (text : List ℕ) : Type 0 where

@@ -123,8 +123,8 @@ pub record JournalLines (lines : List (List ℕ)) : Type 0 where
 -- `go` is one of the whole lines
 pub record HasGo (text : List ℕ) : Type 0 where
   pub before : List (List ℕ)
-  pub behind : List ℕ
-  pub lines : AreLines before text (go_line ++ 10 ∷ behind)
+  pub following : List ℕ
+  pub lines : AreLines before text (go_line ++ 10 ∷ following)
 
 -- The whole lines before the line of this number begin a journal, and are not all of it where no line follows. If that
 -- line is whole, no journal goes on with it.
@@ -134,5 +134,5 @@ pub record IsBadJournal (text : List ℕ) (number : ℕ) : Type 0 where
   pub lines : AreLines before text rest
   pub number_is : number ≡ length before + 1
   pub begins : Begins JournalLines before
-  pub stops : (line behind : List ℕ) → OneLine line → rest ≡ line ++ 10 ∷ behind → ¬ Begins JournalLines (before ++ line ∷ [])
+  pub stops : (line following : List ℕ) → OneLine line → rest ≡ line ++ 10 ∷ following → ¬ Begins JournalLines (before ++ line ∷ [])
   pub unfinished : OneLine rest → ¬ JournalLines before

@@ -29,16 +29,16 @@ pub record IsBadLine (Spells : List (List ℕ) → Type 0) (text : List ℕ) (nu
   pub lines : AreLines before text rest
   pub number_is : number ≡ length before + 1
   pub begins : Begins Spells before
-  pub stops : (line behind : List ℕ) → OneLine line → rest ≡ line ++ 10 ∷ behind → ¬ Begins Spells (before ++ line ∷ [])
+  pub stops : (line following : List ℕ) → OneLine line → rest ≡ line ++ 10 ∷ following → ¬ Begins Spells (before ++ line ∷ [])
   pub ends_early : rest ≡ [] → ¬ Spells before
 
 -- the text begins with the line of a value, which follows the word or words of its kind
-pub record HasLine {T : Type 0} (start : List ℕ) (fits : T → Type 0) (spelling : T → List ℕ) (value : T) (text behind : List ℕ) : Type 0 where
+pub record HasLine {T : Type 0} (start : List ℕ) (fits : T → Type 0) (spelling : T → List ℕ) (value : T) (text following : List ℕ) : Type 0 where
   pub fitting : fits value
-  pub parts : text ≡ (start ++ spelling value) ++ 10 ∷ behind
+  pub parts : text ≡ (start ++ spelling value) ++ 10 ∷ following
   pub one_line : OneLine (start ++ spelling value)
 
 -- no value has the line with which the text begins, if it begins with a line
 abbrev pub HasNoLine : {T : Type 0} → List ℕ → (T → Type 0) → (T → List ℕ) → List ℕ → Type 0
 HasNoLine {T} start fits spelling text =
-    (line behind : List ℕ) → OneLine line → text ≡ line ++ 10 ∷ behind → (value : T) → fits value → line ≢ start ++ spelling value
+    (line following : List ℕ) → OneLine line → text ≡ line ++ 10 ∷ following → (value : T) → fits value → line ≢ start ++ spelling value

@@ -4,7 +4,7 @@ use Rattle.std.proofs.Common.{ap, arith}
 use Rattle.std.proofs.lemmas.Fmt.{decimal_injective}
 use Rattle.sync_state.specs.declared.words.Positive.{Positive}
 use Rattle.sync_state.specs.declared.words.Highest.{Highest}
-use Rattle.sync_state.specs.declared.words.Run.{Run}
+use Rattle.sync_state.specs.declared.words.RunNumber.{RunNumber}
 use Rattle.sync_state.specs.declared.words.Number.{Number}
 use Rattle.sync_state.specs.declared.words.Plus.{Plus}
 use Rattle.sync_state.specs.declared.words.Minus.{Minus}
@@ -27,8 +27,8 @@ highest-injective a b fa fb e = let s = decimal_injective a.0 b.0 (omega arith) 
 pub highest-lacks : (a : Highest) → a.0 + 1 < 2 ^ 32 → Lacks 32 (decimal a.0)
 highest-lacks a f = decimal-lacks 32 (omega arith) a.0 (omega arith)
 
-pub run-injective : (a b : Run) → IsRun a.0 → IsRun b.0 → decimal a.0 ≡ decimal b.0 → a ≡ b
-run-injective a b fa fb e = let s = decimal_injective a.0 b.0 fa.fits fb.fits e in ap (λ (n : ℕ). let p : Run = record { 0 = n } in p) s
+pub run-injective : (a b : RunNumber) → IsRun a.0 → IsRun b.0 → decimal a.0 ≡ decimal b.0 → a ≡ b
+run-injective a b fa fb e = let s = decimal_injective a.0 b.0 fa.fits fb.fits e in ap (λ (n : ℕ). let p : RunNumber = record { 0 = n } in p) s
 
 pub number-injective : (a b : Number) → a.0 < 2 ^ 64 → b.0 < 2 ^ 64 → decimal a.0 ≡ decimal b.0 → a ≡ b
 number-injective a b fa fb e = let s = decimal_injective a.0 b.0 fa fb e in ap (λ (n : ℕ). let p : Number = record { 0 = n } in p) s

@@ -49,7 +49,7 @@ impl From<DeviceFault> for BookFault {
     ghost use Rattle.std.specs.Prelude.{◌≡◌};
     ghost use Rattle.sync_state.specs.BookFaults.{of_shelf};
 
-    ghost from_gives = { λ fault told. told ≡ of_shelf fault };
+    ghost from_gives = { λ fault reported. reported ≡ of_shelf fault };
 
     fn from(fault: DeviceFault) -> BookFault {
         match fault {

@@ -3,9 +3,9 @@
 ghost use Rattle.std.specs.Prelude.{◌≡◌, ◌↔◌, ◌<◌, ◌^◌, All, true, map};
 ghost use Rattle.sync_state.specs.JournalText.{IsPlan, IsPlanSide, rises, bottom};
 
-use crate::items::Item;
+use crate::items::PlanItem;
 use crate::keyword_lines::map_fits;
-use crate::place::Place;
+use crate::place::StepPlace;
 use crate::version::Version;
 use rules::plan::{Plan, PlanSide};
 
@@ -36,11 +36,11 @@ fn side_has_text(side: PlanSide) -> bool
 }
 
 /// Whether each is in order after the one before it.
-fn are_in_order<A: Item>(items: &[A]) -> bool
+fn are_in_order<A: PlanItem>(items: &[A]) -> bool
     ensures order { result ≡ rises bottom (map A.place items.now) }
     ensures fit { result ≡ true → All (A.fits Version.Two) items.now }
 {
-    let mut last = Place::BOTTOM;
+    let mut last = StepPlace::BOTTOM;
     for item in items {
         let place = item.place();
         if !last.is_below(place) {

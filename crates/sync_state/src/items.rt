@@ -3,12 +3,12 @@
 ghost use Rattle.std.specs.Prelude.{◌≡◌, ◌≢◌, ◌+◌, ◌<◌, ℕ, List, [], length, IfOk, IfErr, IfSome, IfNone};
 ghost use Rattle.sync_state.specs.Lines.{HasLine, HasNoLine};
 ghost use Rattle.sync_state.specs.JournalText.{step_line, note_line, step_place, note_place};
-ghost use Rattle.sync_state.specs.JournalReading.{IsStepIn, IsNoteIn, ItemsRead, TellsItem};
+ghost use Rattle.sync_state.specs.JournalReading.{IsStepIn, IsNoteIn, ItemsRead, ReportsItem};
 ghost use Rattle.sync_state.specs.Places.{place_at};
 
 use crate::fault::BookFault;
 use crate::journal_lines::{read_note, read_step};
-use crate::place::Place;
+use crate::place::StepPlace;
 use crate::version::Version;
 use rules::plan::{Note, Step};
 use std::alloc::Global;
@@ -16,7 +16,7 @@ use texts::cut::cut;
 use texts::lines::Lines;
 
 /// What has a line in a plan, and a place in its order.
-pub trait Item: Copy {
+pub trait PlanItem: Copy {
     ghost use Rattle.sync_state.specs.declared.version.Version.{Version};
 
     /// The values that a text of a version may hold.
@@ -34,12 +34,12 @@ pub trait Item: Copy {
         ensures none { IfNone result ((a : Self) → fits version a → text.now ≢ line a) };
 
     /// Its place. A text of the second version may hold each value of this type.
-    fn place(&self) -> Place
+    fn place(&self) -> StepPlace
         ensures place { place_at result ≡ place self.now }
         ensures fits { fits Version.Two self.now };
 }
 
-impl Item for Step {
+impl PlanItem for Step {
     ghost fits = { IsStepIn };
 
     ghost line = { step_line };
@@ -55,13 +55,13 @@ impl Item for Step {
         }
     }
 
-    fn place(&self) -> Place {
+    fn place(&self) -> StepPlace {
         step_fits(*self);
-        Place::of_step(self)
+        StepPlace::of_step(self)
     }
 }
 
-impl Item for Note {
+impl PlanItem for Note {
     ghost fits = { IsNoteIn };
 
     ghost line = { note_line };
@@ -77,9 +77,9 @@ impl Item for Note {
         }
     }
 
-    fn place(&self) -> Place {
+    fn place(&self) -> StepPlace {
         note_fits(*self);
-        Place::of_note(self)
+        StepPlace::of_note(self)
     }
 }
 
@@ -94,7 +94,7 @@ fn note_fits(note: Note)
 {}
 
 /// Takes the next line if it is one of these in a text of this version.
-fn take_item<A: Item>(lines: &mut Lines<'_>, version: Version) -> Option<A>
+fn take_item<A: PlanItem>(lines: &mut Lines<'_>, version: Version) -> Option<A>
     ensures some { IfSome result (λ a. HasLine [] (A.fits version) A.line a lines.old.rest.now lines.new.rest.now) }
     ensures taken { IfSome result (λ _. lines.new.taken ≡ lines.old.taken + 1) }
     ensures shorter { IfSome result (λ _. length lines.new.rest.now < length lines.old.rest.now) }
@@ -109,17 +109,17 @@ fn take_item<A: Item>(lines: &mut Lines<'_>, version: Version) -> Option<A>
 }
 
 /// Those of the next lines. `BadJournal`: one is not in order after those before it.
-pub fn read_items<A: Item>(
+pub fn read_items<A: PlanItem>(
     alloc: Global,
     lines: &mut Lines<'_>,
     version: Version,
 ) -> Result<Vec<A>, BookFault>
     ensures ok { IfOk result (λ items. ItemsRead (A.fits version) A.line A.place items.items lines.old.rest.now lines.new.rest.now) }
     ensures taken { IfOk result (λ items. lines.new.taken ≡ lines.old.taken + length items.items) }
-    ensures refused { IfErr result (TellsItem (A.fits version) A.line A.place lines.old.taken lines.old.rest.now) }
+    ensures refused { IfErr result (ReportsItem (A.fits version) A.line A.place lines.old.taken lines.old.rest.now) }
 {
     let mut items = Vec::new(alloc);
-    let mut last = Place::BOTTOM;
+    let mut last = StepPlace::BOTTOM;
     while let Some(item) = take_item::<A>(lines, version) {
         let place = item.place();
         if !last.is_below(place) {

@@ -3,7 +3,7 @@
 ghost use Rattle.std.specs.Prelude.{◌≡◌, ◌≢◌, ◌+◌, ◌<◌, [], length, IfOk, IfErr, IfSome, IfNone, OnOk, MatchBool, MatchOption};
 ghost use Rattle.sync_state.specs.declared.journal.Logged.{Logged};
 ghost use Rattle.sync_state.specs.JournalText.{HasGo, log_line};
-ghost use Rattle.sync_state.specs.JournalReading.{TellsHead, TellsNumbers, PlanHeadRead, NumbersRead, FitsAt, LogRead, TellsLog};
+ghost use Rattle.sync_state.specs.JournalReading.{ReportsHead, ReportsNumbers, PlanHeadRead, NumbersRead, FitsAt, LogRead, ReportsLog};
 
 use crate::fault::BookFault;
 use crate::journal::Logged;
@@ -60,7 +60,7 @@ pub fn read_head(alloc: Global, lines: &mut Lines<'_>) -> Result<PlanHead, BookF
     requires { lines.old.taken ≡ 0 }
     ensures ok { IfOk result (λ head. PlanHeadRead head lines.old.rest.now lines.new.rest.now) }
     ensures taken { IfOk result (λ head. lines.new.taken ≡ 4 + length head.keywords) }
-    ensures refused { IfErr result (TellsHead lines.old.rest.now) }
+    ensures refused { IfErr result (ReportsHead lines.old.rest.now) }
 {
     let numbers = read_numbers(lines)?;
     let keywords = read_keywords(alloc, lines, numbers.version)?;
@@ -72,7 +72,7 @@ fn read_numbers(lines: &mut Lines<'_>) -> Result<PlanNumbers, BookFault>
     requires { lines.old.taken ≡ 0 }
     ensures ok { IfOk result (λ numbers. NumbersRead numbers lines.old.rest.now lines.new.rest.now) }
     ensures taken { OnOk result (lines.new.taken ≡ 4) }
-    ensures refused { IfErr result (TellsNumbers lines.old.rest.now) }
+    ensures refused { IfErr result (ReportsNumbers lines.old.rest.now) }
 {
     let Some(version) = take(lines, b"journal ") else {
         return Err(BookFault::BadJournal(1));
@@ -124,7 +124,7 @@ pub fn read_log(
     steps: &[Step],
 ) -> Result<Vec<Logged>, BookFault>
     ensures ok { IfOk result (λ log. LogRead steps.now log.items lines.old.rest.now lines.new.rest.now) }
-    ensures refused { IfErr result (TellsLog steps.now lines.old.taken lines.old.rest.now) }
+    ensures refused { IfErr result (ReportsLog steps.now lines.old.taken lines.old.rest.now) }
 {
     let mut log = Vec::new(alloc);
     while let Some(line) = lines.next_line() {

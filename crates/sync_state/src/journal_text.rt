@@ -3,7 +3,7 @@
 ghost use Rattle.std.specs.Prelude.{◌≡◌, ◌++◌, map, IfOk, IfErr, OnOk, OnErr, MatchOption, Err};
 ghost use Rattle.sync_state.specs.Lines.{lines_text};
 ghost use Rattle.sync_state.specs.JournalText.{HasGo, journal_lines, log_lines, plan_lines, plan_head_lines, step_line, note_line};
-ghost use Rattle.sync_state.specs.JournalReading.{IsWritten, TellsJournal};
+ghost use Rattle.sync_state.specs.JournalReading.{IsWritten, ReportsJournal};
 
 use crate::fault::BookFault;
 use crate::items::read_items;
@@ -106,7 +106,7 @@ fn push_notes(text: &mut Vec<u8>, notes: &[Note]) -> Result<(), AllocError>
 /// `BadJournal`: a whole line is `go`, and this is the first line after which no valid journal is possible.
 pub fn read_journal(alloc: Global, text: &[u8]) -> Result<Option<WrittenJournal>, BookFault>
     ensures read { IfOk result (λ read. MatchOption read (¬ HasGo text.now) (λ written. IsWritten written text.now)) }
-    ensures refused { IfErr result (TellsJournal text.now) }
+    ensures refused { IfErr result (ReportsJournal text.now) }
 {
     if !has_go(text) {
         return Ok(None);

@@ -69,8 +69,8 @@ fn keyword_of(line: &[u8]) -> Option<(u8, &[u8])>
     ensures some { IfSome result (λ k. line.now ≡ keyword_line (record { letter = k.0; name = k.1.now })) }
     ensures none { IfNone result ((k : Keyword) → line.now ≢ keyword_line k) }
 {
-    let (letter, behind) = line.strip_prefix(b"k ")?.split_first()?;
-    Some((*letter, behind.strip_prefix(b" ")?))
+    let (letter, following) = line.strip_prefix(b"k ")?.split_first()?;
+    Some((*letter, following.strip_prefix(b" ")?))
 }
 
 /// Whether a letter is above those of a map.

@@ -9,7 +9,7 @@ use rules::plan::{Note, Step};
 
 /// The kinds of steps and notes, in the order of a plan.
 #[derive(Clone, Copy, PartialEq, Eq, PartialOrd, Ord)]
-enum Kind {
+enum StepKind {
     NewPull,
     NewPush,
     GonePull,
@@ -24,66 +24,70 @@ enum Kind {
 
 /// The kind of a step or a note, and the UIDs by which those of its kind rise.
 #[derive(Clone, Copy)]
-pub struct Place {
-    kind: Kind,
+pub struct StepPlace {
+    kind: StepKind,
     first: u32,
     second: u32,
 }
 
-impl Place {
+impl StepPlace {
     /// Below each step and each note.
-    pub const BOTTOM: Place = Place {
-        kind: Kind::NewPull,
+    pub const BOTTOM: StepPlace = StepPlace {
+        kind: StepKind::NewPull,
         first: 0,
         second: 0,
     };
 
     /// The place of a step.
-    pub fn of_step(step: &Step) -> Place
+    pub fn of_step(step: &Step) -> StepPlace
         ensures { place_at result ≡ step_place step.now }
     {
         match *step {
             Step::New { direction, uid, .. } => match direction {
-                Direction::Pull => Place::at(Kind::NewPull, uid.get(), 0),
-                Direction::Push => Place::at(Kind::NewPush, uid.get(), 0),
+                Direction::Pull => StepPlace::at(StepKind::NewPull, uid.get(), 0),
+                Direction::Push => StepPlace::at(StepKind::NewPush, uid.get(), 0),
             },
             Step::Gone {
                 direction,
                 far,
                 near,
             } => match direction {
-                Direction::Pull => Place::at(Kind::GonePull, near.get(), 0),
-                Direction::Push => Place::at(Kind::GonePush, far.get(), 0),
+                Direction::Pull => StepPlace::at(StepKind::GonePull, near.get(), 0),
+                Direction::Push => StepPlace::at(StepKind::GonePush, far.get(), 0),
             },
             Step::Flags { direction, far, .. } => match direction {
-                Direction::Pull => Place::at(Kind::FlagsPull, far.get(), 0),
-                Direction::Push => Place::at(Kind::FlagsPush, far.get(), 0),
+                Direction::Pull => StepPlace::at(StepKind::FlagsPull, far.get(), 0),
+                Direction::Push => StepPlace::at(StepKind::FlagsPush, far.get(), 0),
             },
             Step::Expunge { side, uid } => match side {
-                Side::Far => Place::at(Kind::ExpungeFar, uid.get(), 0),
-                Side::Near => Place::at(Kind::ExpungeNear, uid.get(), 0),
+                Side::Far => StepPlace::at(StepKind::ExpungeFar, uid.get(), 0),
+                Side::Near => StepPlace::at(StepKind::ExpungeNear, uid.get(), 0),
             },
         }
     }
 
     /// The place of a note.
-    pub fn of_note(note: &Note) -> Place
+    pub fn of_note(note: &Note) -> StepPlace
         ensures { place_at result ≡ note_place note.now }
     {
         match *note {
-            Note::Record { far, near, .. } => Place::at(Kind::RecordFlags, far.get(), near.get()),
-            Note::Drop { far, near } => Place::at(
-                Kind::DropEntry,
+            Note::Record { far, near, .. } => StepPlace::at(
+                StepKind::RecordFlags,
+                far.get(),
+                near.get(),
+            ),
+            Note::Drop { far, near } => StepPlace::at(
+                StepKind::DropEntry,
                 far.map_or(0, |uid| uid.get()),
                 near.map_or(0, |uid| uid.get()),
             ),
         }
     }
 
-    fn at(kind: Kind, first: u32, second: u32) -> Place
+    fn at(kind: StepKind, first: u32, second: u32) -> StepPlace
         ensures { place_at result ≡ (rank kind, first, second) }
     {
-        Place {
+        StepPlace {
             kind,
             first,
             second,
@@ -91,7 +95,7 @@ impl Place {
     }
 
     /// Whether this place is below another.
-    pub fn is_below(self, other: Place) -> bool
+    pub fn is_below(self, other: StepPlace) -> bool
         ensures { result ≡ is_below (place_at self) (place_at other) }
     {
         self.kind < other.kind

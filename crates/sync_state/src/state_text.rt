@@ -4,14 +4,14 @@ ghost use Rattle.std.specs.Prelude.{◌≡◌, ◌≢◌, ◌+◌, ◌++◌, ◌
 ghost use Rattle.rules.specs.declared.entry.Entry.{Entry};
 ghost use Rattle.sync_state.specs.Lines.{lines_text, HasLine, HasNoLine};
 ghost use Rattle.sync_state.specs.StateText.{StateText, IsEntry, entry_line, end_line, state_lines};
-ghost use Rattle.sync_state.specs.Faults.{TellsState};
-ghost use Rattle.sync_state.specs.StateReading.{HeadRead, EntriesRead, TellsEntry, TellsEnd};
+ghost use Rattle.sync_state.specs.Faults.{ReportsState};
+ghost use Rattle.sync_state.specs.StateReading.{HeadRead, EntriesRead, ReportsEntry, ReportsEnd};
 
 use crate::fault::BookFault;
 use crate::fields::after;
 use crate::lines::{push_line, take};
 use crate::version::Version;
-use crate::words::{Highest, Positive, Run};
+use crate::words::{Highest, Positive, RunNumber};
 use mailcore::fault::PushFault;
 use mailcore::flags::Flags;
 use mailcore::uid::Uid;
@@ -26,9 +26,9 @@ type EntryFields = (Option<Uid>, (Option<Uid>, Flags));
 
 /// The numbers with which a state begins.
 #[derive(Clone, Copy)]
-struct Head {
+struct StateHead {
     version: Version,
-    run: Run,
+    run: RunNumber,
     far: (Positive, Highest),
     near: (Positive, Highest),
 }
@@ -36,7 +36,7 @@ struct Head {
 /// The state with this text, in whatever version. `BadState`: it is the text of no state.
 pub fn read_state_text(alloc: Global, text: &[u8]) -> Result<SyncState, BookFault>
     ensures spelled { IfOk result (λ state. StateText state text.now) }
-    ensures refused { IfErr result (TellsState text.now) }
+    ensures refused { IfErr result (ReportsState text.now) }
 {
     let mut lines = Lines::new(text);
     let head = read_head(&mut lines)?;
@@ -53,11 +53,11 @@ pub fn read_state_text(alloc: Global, text: &[u8]) -> Result<SyncState, BookFaul
 }
 
 /// The numbers of the first four lines.
-fn read_head(lines: &mut Lines<'_>) -> Result<Head, BookFault>
+fn read_head(lines: &mut Lines<'_>) -> Result<StateHead, BookFault>
     requires { lines.old.taken ≡ 0 }
     ensures ok { IfOk result (λ head. HeadRead head lines.old.rest.now lines.new.rest.now) }
     ensures taken { OnOk result (lines.new.taken ≡ 4) }
-    ensures refused { IfErr result (TellsState lines.old.rest.now) }
+    ensures refused { IfErr result (ReportsState lines.old.rest.now) }
 {
     let Some(version) = take(lines, b"mbsync state ") else {
         return Err(BookFault::BadState(1));
@@ -71,7 +71,7 @@ fn read_head(lines: &mut Lines<'_>) -> Result<Head, BookFault>
     let Some(near) = take(lines, b"near ") else {
         return Err(BookFault::BadState(4));
     };
-    Ok(Head {
+    Ok(StateHead {
         version,
         run,
         far,
@@ -87,7 +87,7 @@ fn read_entries(
 ) -> Result<Entries, BookFault>
     ensures ok { IfOk result (λ entries. EntriesRead version entries lines.old.rest.now lines.new.rest.now) }
     ensures taken { IfOk result (λ entries. lines.new.taken ≡ lines.old.taken + length entries) }
-    ensures refused { IfErr result (TellsEntry version lines.old.taken lines.old.rest.now) }
+    ensures refused { IfErr result (ReportsEntry version lines.old.taken lines.old.rest.now) }
 {
     let mut entries = Entries::new(alloc);
     while let Some(entry) = take_entry(lines, version) {
@@ -131,7 +131,7 @@ fn entry_of(line: &[u8], version: Version) -> Option<Entry>
 /// The last line, after which nothing follows.
 fn read_end(lines: &mut Lines<'_>) -> Result<(), BookFault>
     ensures ok { OnOk result (lines.old.rest.now ≡ end_line ++ 10 ∷ []) }
-    ensures refused { IfErr result (TellsEnd lines.old.taken lines.old.rest.now) }
+    ensures refused { IfErr result (ReportsEnd lines.old.taken lines.old.rest.now) }
 {
     let Some(()) = take(lines, b"end") else {
         return Err(BookFault::BadState(lines.taken + 1));
@@ -151,7 +151,7 @@ pub fn write_state_text(alloc: Global, state: &SyncState) -> Result<Vec<u8>, Boo
 {
     let mut text = Vec::new(alloc);
     push_line(&mut text, b"mbsync state ", Version::Two)?;
-    push_line(&mut text, b"run ", Run(state.run))?;
+    push_line(&mut text, b"run ", RunNumber(state.run))?;
     let far = (Positive(state.far_validity), Highest(state.max_pulled));
     push_line(&mut text, b"far ", far)?;
     let near = (Positive(state.near_validity), Highest(state.max_pushed));

@@ -76,9 +76,9 @@ impl Word for Highest {
 
 /// The number of a run that was made, from 1 on.
 #[derive(Clone, Copy)]
-pub struct Run(pub u64);
+pub struct RunNumber(pub u64);
 
-impl Fields for Run {
+impl Fields for RunNumber {
     ghost use Rattle.sync_state.specs.NumberLaws.{run-injective};
 
     ghost fits = { λ n. IsRun n.0 };
@@ -87,10 +87,10 @@ impl Fields for Run {
 
     ghost injective = { run-injective };
 
-    fn read(text: &[u8]) -> Option<Run> {
+    fn read(text: &[u8]) -> Option<RunNumber> {
         match read_number(text, u64::MAX)? {
             0 => None,
-            number => Some(Run(number)),
+            number => Some(RunNumber(number)),
         }
     }
 

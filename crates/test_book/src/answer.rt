@@ -4,7 +4,7 @@ use book::book::Book;
 use book::shelf::Shelf;
 use sync_state::fault::BookFault;
 use test_scripts::failure::Failure;
-use test_scripts::told::Told;
+use test_scripts::reported::Reported;
 
 /// What a call of a book answers.
 #[derive(Clone, Copy)]
@@ -28,31 +28,31 @@ impl Answer {
     }
 
     /// Prints it.
-    pub fn tell(self, told: &mut Told) {
+    pub fn report(self, reported: &mut Reported) {
         match self {
-            Answer::Done => told.text("ok"),
-            Answer::MayNot => told.text("may not be called"),
-            Answer::Fault(fault) => told.shown(&fault),
+            Answer::Done => reported.text("ok"),
+            Answer::MayNot => reported.text("may not be called"),
+            Answer::Fault(fault) => reported.shown(&fault),
         }
     }
 }
 
 /// Prints what a book says: the number of the last run, how many entries it left, and how many steps of the pending plan are
 /// logged, of how many, if one is pending.
-pub fn tell_held<S: Shelf>(told: &mut Told, book: &Book<S>) {
+pub fn print_held<S: Shelf>(reported: &mut Reported, book: &Book<S>) {
     let state = book.state();
-    told.text("run ");
-    told.number(state.run);
-    told.text(", ");
-    told.shown(&state.entries.as_slice().len());
-    told.text(" entries, ");
+    reported.text("run ");
+    reported.number(state.run);
+    reported.text(", ");
+    reported.shown(&state.entries.as_slice().len());
+    reported.text(" entries, ");
     match book.pending() {
         Some(journal) => {
-            told.shown(&journal.log.as_slice().len());
-            told.text(" of ");
-            told.shown(&journal.plan.steps.as_slice().len());
-            told.text(" steps logged");
+            reported.shown(&journal.log.as_slice().len());
+            reported.text(" of ");
+            reported.shown(&journal.plan.steps.as_slice().len());
+            reported.text(" steps logged");
         }
-        None => told.text("no plan"),
+        None => reported.text("no plan"),
     }
 }

@@ -1,6 +1,6 @@
 //! A shelf and the book that is open on it.
 
-use crate::answer::{Answer, tell_held};
+use crate::answer::{Answer, print_held};
 use crate::call::make_call;
 use crate::files::read_file;
 use book::book::{Book, OpenFault};
@@ -9,7 +9,7 @@ use device::DeviceFault;
 use rules::plan::Plan;
 use std::alloc::Global;
 use test_scripts::failure::Failure;
-use test_scripts::told::Told;
+use test_scripts::reported::Reported;
 use test_scripts::words::Words;
 
 /// A shelf, or the book that is open on it and has it then, or nothing. `Script`: a call wants another.
@@ -89,7 +89,7 @@ impl<S: Shelf + Drop> Desk<S> {
         alloc: Global,
         word: &str,
         line: &mut Words<'_>,
-        told: &mut Told,
+        reported: &mut Reported,
         plan: Option<&Plan>,
     ) -> Result<(), Failure> {
         match word {
@@ -97,44 +97,44 @@ impl<S: Shelf + Drop> Desk<S> {
             "reopen" => return self.reopen(),
             _ => {}
         }
-        told.begin();
-        let is_told = match word {
-            "open" => self.tell_opened(alloc, told),
-            "held" => self.tell_held(told),
-            _ => self.tell_call(alloc, word, line, told, plan),
+        reported.begin();
+        let is_reported = match word {
+            "open" => self.print_opened(alloc, reported),
+            "held" => self.print_held(reported),
+            _ => self.print_call(alloc, word, line, reported, plan),
         };
-        told.end();
-        is_told
+        reported.end();
+        is_reported
     }
 
     /// Opens a book, and prints what it says or why there is none.
-    pub fn tell_opened(&mut self, alloc: Global, told: &mut Told) -> Result<(), Failure> {
+    pub fn print_opened(&mut self, alloc: Global, reported: &mut Reported) -> Result<(), Failure> {
         match self.open(alloc)? {
-            Answer::Done => self.tell_held(told),
+            Answer::Done => self.print_held(reported),
             refused => {
-                refused.tell(told);
+                refused.report(reported);
                 Ok(())
             }
         }
     }
 
-    fn tell_call(
+    fn print_call(
         &mut self,
         alloc: Global,
         word: &str,
         line: &mut Words<'_>,
-        told: &mut Told,
+        reported: &mut Reported,
         plan: Option<&Plan>,
     ) -> Result<(), Failure> {
-        self.call(alloc, word, line, plan)?.tell(told);
-        told.text("; ");
-        self.tell_held(told)
+        self.call(alloc, word, line, plan)?.report(reported);
+        reported.text("; ");
+        self.print_held(reported)
     }
 
-    fn tell_held(&self, told: &mut Told) -> Result<(), Failure> {
+    fn print_held(&self, reported: &mut Reported) -> Result<(), Failure> {
         match &self.book {
             Some(book) => {
-                tell_held(told, book);
+                print_held(reported, book);
                 Ok(())
             }
             None => Err(Failure::Script),
@@ -147,43 +147,46 @@ impl<S: Shelf + Drop> Desk<S> {
         alloc: Global,
         word: &str,
         line: &mut Words<'_>,
-        told: &mut Told,
+        reported: &mut Reported,
     ) -> Result<(), Failure> {
         let Some(shelf) = &mut self.shelf else {
             return Err(Failure::Script);
         };
         let file = read_file(line);
         match word {
-            "read" => tell_read(told, shelf.read(file)),
-            "append" => tell_done(told, shelf.append(file, &line.bytes(alloc)?)),
-            "replace" => tell_done(told, shelf.replace(file, &line.bytes(alloc)?)),
-            "remove" => tell_done(told, shelf.remove(file)),
+            "read" => print_read(reported, shelf.read(file)),
+            "append" => print_done(reported, shelf.append(file, &line.bytes(alloc)?)),
+            "replace" => print_done(reported, shelf.replace(file, &line.bytes(alloc)?)),
+            "remove" => print_done(reported, shelf.remove(file)),
             _ => Err(Failure::Script),
         }
     }
 }
 
 /// Prints the bytes that were read, or that the file is missing.
-fn tell_read(told: &mut Told, read: Result<Option<Vec<u8>>, DeviceFault>) -> Result<(), Failure> {
+fn print_read(
+    reported: &mut Reported,
+    read: Result<Option<Vec<u8>>, DeviceFault>,
+) -> Result<(), Failure> {
     match read {
         Ok(Some(bytes)) => {
-            told.begin();
-            told.quoted(&bytes);
-            told.end();
+            reported.begin();
+            reported.quoted(&bytes);
+            reported.end();
             Ok(())
         }
         Ok(None) => {
-            told.answer("missing");
+            reported.answer("missing");
             Ok(())
         }
-        Err(fault) => tell_done(told, Err(fault)),
+        Err(fault) => print_done(reported, Err(fault)),
     }
 }
 
-fn tell_done(told: &mut Told, done: Result<(), DeviceFault>) -> Result<(), Failure> {
+fn print_done(reported: &mut Reported, done: Result<(), DeviceFault>) -> Result<(), Failure> {
     match done {
-        Ok(()) => told.answer("ok"),
-        Err(DeviceFault::Stopped) => told.answer("stopped"),
+        Ok(()) => reported.answer("ok"),
+        Err(DeviceFault::Stopped) => reported.answer("stopped"),
         Err(DeviceFault::NoMemory) => return Err(Failure::NoMemory),
     }
     Ok(())

@@ -1,20 +1,20 @@
 //! The two files of a shelf, as a script has them.
 
 use book::mem_shelf::{MemShelf, ShelfCall};
-use book::shelf::File;
-use device::schedule::Stop;
+use book::shelf::ShelfFile;
+use device::schedule::CallStop;
 use std::alloc::{AllocError, Global};
-use test_scripts::told::Told;
+use test_scripts::reported::Reported;
 use test_scripts::words::Words;
 
 /// `state` or `journal`.
-pub fn read_file(line: &mut Words<'_>) -> File {
+pub fn read_file(line: &mut Words<'_>) -> ShelfFile {
     match line.word() {
-        "state" => File::State,
-        "journal" => File::Journal,
+        "state" => ShelfFile::State,
+        "journal" => ShelfFile::Journal,
         _ => {
             line.refuse();
-            File::State
+            ShelfFile::State
         }
     }
 }
@@ -23,10 +23,10 @@ pub fn read_file(line: &mut Words<'_>) -> File {
 pub fn shelf_with(
     alloc: Global,
     files: &MemShelf,
-    schedule: Vec<Stop<ShelfCall>>,
+    schedule: Vec<CallStop<ShelfCall>>,
 ) -> Result<MemShelf, AllocError> {
     let mut shelf = MemShelf::new(alloc, schedule);
-    for file in [File::State, File::Journal] {
+    for file in [ShelfFile::State, ShelfFile::Journal] {
         if let Some(bytes) = files.bytes(file) {
             shelf.put(file, Some(Vec::from_slice(alloc, bytes)?));
         }
@@ -35,35 +35,35 @@ pub fn shelf_with(
 }
 
 /// Prints both files of a shelf in memory.
-pub fn tell_files(told: &mut Told, shelf: &MemShelf) {
-    tell_file(told, "state", shelf.bytes(File::State));
-    tell_file(told, "journal", shelf.bytes(File::Journal));
+pub fn print_files(reported: &mut Reported, shelf: &MemShelf) {
+    print_file(reported, "state", shelf.bytes(ShelfFile::State));
+    print_file(reported, "journal", shelf.bytes(ShelfFile::Journal));
 }
 
 /// Prints a file in the form in which a script has it.
-pub fn tell_file(told: &mut Told, word: &str, bytes: Option<&[u8]>) {
-    told.begin();
-    told.text(word);
+pub fn print_file(reported: &mut Reported, word: &str, bytes: Option<&[u8]>) {
+    reported.begin();
+    reported.text(word);
     match bytes {
-        Some(bytes) => tell_lines(told, bytes),
+        Some(bytes) => print_lines(reported, bytes),
         None => {
-            told.text(" missing");
-            told.end();
+            reported.text(" missing");
+            reported.end();
         }
     }
 }
 
-fn tell_lines(told: &mut Told, bytes: &[u8]) {
+fn print_lines(reported: &mut Reported, bytes: &[u8]) {
     match bytes {
         [] | [.., b'\n'] => {}
-        _ => told.text(" torn"),
+        _ => reported.text(" torn"),
     }
-    told.end();
+    reported.end();
     let text = str::from_utf8(bytes).unwrap_or("(no text)");
     for line in text.split_inclusive('\n') {
-        told.begin();
-        told.bytes(line.strip_suffix('\n').unwrap_or(line).as_bytes());
-        told.end();
+        reported.begin();
+        reported.bytes(line.strip_suffix('\n').unwrap_or(line).as_bytes());
+        reported.end();
     }
-    told.answer(".");
+    reported.answer(".");
 }

@@ -1,7 +1,7 @@
 //! The folder in which a script keeps a shelf on a disk: `shelf`, where the program runs.
 
 use book::mem_shelf::MemShelf;
-use book::shelf::File;
+use book::shelf::ShelfFile;
 use std::io::ErrorKind;
 use std::os::unix::fs::{PermissionsExt, symlink};
 use std::{fs, io};
@@ -68,7 +68,7 @@ pub fn clear(rt: &HostRuntime) -> io::Result<()> {
 pub fn fill(rt: &HostRuntime, files: &MemShelf) -> io::Result<()> {
     clear(rt)?;
     fs::create_dir(rt, PATH)?;
-    for (file, path) in [(File::State, STATE), (File::Journal, JOURNAL)] {
+    for (file, path) in [(ShelfFile::State, STATE), (ShelfFile::Journal, JOURNAL)] {
         if let Some(bytes) = files.bytes(file) {
             fs::write(rt, path, bytes)?;
         }

@@ -12,7 +12,7 @@
 //! | `journal` | the journal's file, in all these ways |
 //! | `plan` | a plan: the lines of a journal's plan without the first and the last one, up to `.` |
 //! | `stop before append 2`, `stop after append 2` | the second append of the next shelf in memory stops before or after its effect |
-//! | `stop behind 7 append 1` | the first one stops after seven bytes |
+//! | `stop following 7 append 1` | the first one stops after seven bytes |
 //! | `shelf memory` | a shelf in memory, with the files |
 //! | `shelf disk` | a shelf on a disk, in the folder `shelf`, with the files |
 //!

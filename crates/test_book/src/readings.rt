@@ -3,7 +3,7 @@
 use crate::rule::Rule;
 use crate::runs::{Place, Runs};
 use book::agreement::disagreement;
-use book::shelf::File;
+use book::shelf::ShelfFile;
 use rules::state::SyncState;
 use std::alloc::Global;
 use sync_state::fault::BookFault;
@@ -12,51 +12,51 @@ use sync_state::journal_text::{read_journal, write_journal_in, write_plan};
 use sync_state::state_text::{read_state_text, write_state_text};
 use sync_state::version::Version;
 use test_scripts::failure::Failure;
-use test_scripts::told::Told;
+use test_scripts::reported::Reported;
 
 /// Prints what is read of the text of a file.
-pub fn tell_reading(
+pub fn print_reading(
     alloc: Global,
-    told: &mut Told,
-    file: File,
+    reported: &mut Reported,
+    file: ShelfFile,
     text: &[u8],
 ) -> Result<(), Failure> {
     match file {
-        File::State => match read_state_text(alloc, text) {
-            Ok(state) => tell_state(alloc, told, &state, text),
-            Err(fault) => tell_fault(told, fault),
+        ShelfFile::State => match read_state_text(alloc, text) {
+            Ok(state) => print_state(alloc, reported, &state, text),
+            Err(fault) => report_fault(reported, fault),
         },
-        File::Journal => match read_journal(alloc, text) {
-            Ok(Some(written)) => tell_journal(alloc, told, &written, text),
+        ShelfFile::Journal => match read_journal(alloc, text) {
+            Ok(Some(written)) => print_journal(alloc, reported, &written, text),
             Ok(None) => {
-                told.text("no plan");
+                reported.text("no plan");
                 Ok(())
             }
-            Err(fault) => tell_fault(told, fault),
+            Err(fault) => report_fault(reported, fault),
         },
     }
 }
 
 /// Prints what is read of each beginning of a text, the whole of it too, and where that is wrong by this rule.
-pub fn tell_beginnings(
+pub fn print_beginnings(
     alloc: Global,
-    told: &mut Told,
-    file: File,
+    reported: &mut Reported,
+    file: ShelfFile,
     text: &[u8],
     rule: Rule<'_>,
 ) -> Result<(), Failure> {
     let mut runs = Runs::new(alloc, "the first");
     for length in 0..=text.len() {
         let beginning = &text[..length];
-        tell_reading(alloc, &mut runs.next, file, beginning)?;
+        print_reading(alloc, &mut runs.next, file, beginning)?;
         rule.judge(beginning, &mut runs.next)?;
-        runs.add(told, Place::Length(length));
+        runs.add(reported, Place::Length(length));
     }
-    runs.finish(told)
+    runs.finish(reported)
 }
 
-fn tell_fault(told: &mut Told, fault: BookFault) -> Result<(), Failure> {
-    told.shown(&fault);
+fn report_fault(reported: &mut Reported, fault: BookFault) -> Result<(), Failure> {
+    reported.shown(&fault);
     match fault {
         BookFault::NoMemory => Err(Failure::NoMemory),
         _ => Ok(()),
@@ -64,19 +64,19 @@ fn tell_fault(told: &mut Told, fault: BookFault) -> Result<(), Failure> {
 }
 
 /// Prints the run of a state and how many entries it has.
-fn tell_state(
+fn print_state(
     alloc: Global,
-    told: &mut Told,
+    reported: &mut Reported,
     state: &SyncState,
     text: &[u8],
 ) -> Result<(), Failure> {
     let written = write_state_text(alloc, state).map_err(failure_of)?;
-    told.text("run ");
-    told.number(state.run);
-    told.text(", ");
-    told.shown(&state.entries.as_slice().len());
-    told.text(" entries, ");
-    told.text(how_written(&written, text));
+    reported.text("run ");
+    reported.number(state.run);
+    reported.text(", ");
+    reported.shown(&state.entries.as_slice().len());
+    reported.text(" entries, ");
+    reported.text(how_written(&written, text));
     Ok(())
 }
 
@@ -92,24 +92,24 @@ fn how_written(written: &[u8], text: &[u8]) -> &'static str {
 }
 
 /// Prints the run of a journal's plan and how many steps, notes and logged steps it has.
-fn tell_journal(
+fn print_journal(
     alloc: Global,
-    told: &mut Told,
+    reported: &mut Reported,
     written: &WrittenJournal,
     text: &[u8],
 ) -> Result<(), Failure> {
     let Journal { plan, log } = &written.journal;
-    told.text("plan of run ");
-    told.number(plan.run);
-    told.text(", ");
-    told.shown(&plan.steps.as_slice().len());
-    told.text(" steps, ");
-    told.shown(&plan.notes.as_slice().len());
-    told.text(" notes, ");
-    told.shown(&log.as_slice().len());
-    told.text(" logged, ");
-    told.text(if written.is_torn { "torn, " } else { "whole, " });
-    told.text(if is_written_as(alloc, written, text)? {
+    reported.text("plan of run ");
+    reported.number(plan.run);
+    reported.text(", ");
+    reported.shown(&plan.steps.as_slice().len());
+    reported.text(" steps, ");
+    reported.shown(&plan.notes.as_slice().len());
+    reported.text(" notes, ");
+    reported.shown(&log.as_slice().len());
+    reported.text(" logged, ");
+    reported.text(if written.is_torn { "torn, " } else { "whole, " });
+    reported.text(if is_written_as(alloc, written, text)? {
         "written as it was"
     } else {
         "written otherwise"
@@ -148,22 +148,22 @@ fn failure_of(fault: BookFault) -> Failure {
 }
 
 /// Prints the first line of a journal that does not agree with a state, if there is one.
-pub fn tell_disagreement(
+pub fn print_disagreement(
     alloc: Global,
-    told: &mut Told,
+    reported: &mut Reported,
     state: &[u8],
     journal: &[u8],
 ) -> Result<(), Failure> {
     let (state, journal) = read_both(alloc, state, journal)?;
-    told.begin();
+    reported.begin();
     match disagreement(alloc, &state.entries, &journal)? {
         Some(line) => {
-            told.text("line ");
-            told.shown(&line);
-            told.text(" disagrees");
+            reported.text("line ");
+            reported.shown(&line);
+            reported.text(" disagrees");
         }
-        None => told.text("each line agrees"),
+        None => reported.text("each line agrees"),
     }
-    told.end();
+    reported.end();
     Ok(())
 }

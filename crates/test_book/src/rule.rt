@@ -1,7 +1,7 @@
 //! A rule that a script states of the beginnings of a text: how they are to be read.
 
 use test_scripts::failure::Failure;
-use test_scripts::told::Told;
+use test_scripts::reported::Reported;
 use test_scripts::words::Words;
 
 /// The rows of a rule. Each says of the beginnings with so many whole lines how they are to be read: `N: ANSWER` or `N to N: ANSWER`,
@@ -21,14 +21,14 @@ impl<'a> Rule<'a> {
     }
 
     /// Adds to what was printed of a beginning what is wrong with it by the rule, if anything is. `Script`: a row is none.
-    pub fn judge(self, beginning: &[u8], told: &mut Told) -> Result<(), Failure> {
+    pub fn judge(self, beginning: &[u8], reported: &mut Reported) -> Result<(), Failure> {
         match self.answer(beginning)? {
-            Some(answer) if answer == told.as_str() => {}
+            Some(answer) if answer == reported.as_str() => {}
             Some(answer) => {
-                told.text(", WRONG, by the rule ");
-                told.text(answer);
+                reported.text(", WRONG, by the rule ");
+                reported.text(answer);
             }
-            None => told.text(", WRONG, the rule says nothing of it"),
+            None => reported.text(", WRONG, the rule says nothing of it"),
         }
         Ok(())
     }

@@ -4,7 +4,7 @@ use device::schedule::Moment;
 use std::alloc::Global;
 use std::mem;
 use test_scripts::failure::Failure;
-use test_scripts::told::Told;
+use test_scripts::reported::Reported;
 
 /// Where an answer is given.
 #[derive(Clone, Copy)]
@@ -16,15 +16,15 @@ pub enum Place {
 }
 
 impl Place {
-    fn tell(self, told: &mut Told) {
+    fn report(self, reported: &mut Reported) {
         match self {
-            Place::Length(length) => told.shown(&length),
-            Place::Stop(Moment::Before) => told.text("before"),
+            Place::Length(length) => reported.shown(&length),
+            Place::Stop(Moment::Before) => reported.text("before"),
             Place::Stop(Moment::Part(count)) => {
-                told.text("behind ");
-                told.shown(&count);
+                reported.text("behind ");
+                reported.shown(&count);
             }
-            Place::Stop(Moment::After) => told.text("after"),
+            Place::Stop(Moment::After) => reported.text("after"),
         }
     }
 }
@@ -37,9 +37,9 @@ pub struct Runs {
     /// The places of its first and its last answer.
     places: Option<(Place, Place)>,
     is_single: bool,
-    answer: Told,
+    answer: Reported,
     /// Where the next answer is printed.
-    pub next: Told,
+    pub next: Reported,
     is_lost: bool,
 }
 
@@ -51,15 +51,15 @@ impl Runs {
             what,
             places: None,
             is_single: true,
-            answer: Told::new(alloc),
-            next: Told::new(alloc),
+            answer: Reported::new(alloc),
+            next: Reported::new(alloc),
             is_lost: false,
         }
     }
 
     /// Adds the next answer, which is given at this place. If it is another than the last one, the run of that is printed.
-    pub fn add(&mut self, told: &mut Told, place: Place) {
-        let next = mem::replace(&mut self.next, Told::new(self.alloc));
+    pub fn add(&mut self, reported: &mut Reported, place: Place) {
+        let next = mem::replace(&mut self.next, Reported::new(self.alloc));
         self.is_lost = self.is_lost || next.is_lost();
         let is_same = next.as_str() == self.answer.as_str();
         match self.places {
@@ -68,7 +68,7 @@ impl Runs {
                 self.is_single = false;
             }
             _ => {
-                self.tell_run(told);
+                self.print_run(reported);
                 self.places = Some((place, place));
                 self.is_single = true;
                 self.answer = next;
@@ -77,8 +77,8 @@ impl Runs {
     }
 
     /// Prints the last run. `NoMemory`: an answer was lost.
-    pub fn finish(&self, told: &mut Told) -> Result<(), Failure> {
-        self.tell_run(told);
+    pub fn finish(&self, reported: &mut Reported) -> Result<(), Failure> {
+        self.print_run(reported);
         if self.is_lost {
             Err(Failure::NoMemory)
         } else {
@@ -86,19 +86,19 @@ impl Runs {
         }
     }
 
-    fn tell_run(&self, told: &mut Told) {
+    fn print_run(&self, reported: &mut Reported) {
         if let Some((first, last)) = self.places {
-            told.begin();
-            told.text(self.what);
-            told.text(" ");
-            first.tell(told);
+            reported.begin();
+            reported.text(self.what);
+            reported.text(" ");
+            first.report(reported);
             if !self.is_single {
-                told.text(" to ");
-                last.tell(told);
+                reported.text(" to ");
+                last.report(reported);
             }
-            told.text(": ");
-            told.text(self.answer.as_str());
-            told.end();
+            reported.text(": ");
+            reported.text(self.answer.as_str());
+            reported.end();
         }
     }
 }

@@ -1,23 +1,23 @@
 //! What a case has so far, and how its lines are played.
 
 use crate::desk::Desk;
-use crate::files::{read_file, shelf_with, tell_file, tell_files};
+use crate::files::{print_file, print_files, read_file, shelf_with};
 use crate::folder;
 use crate::plan_text::Draft;
-use crate::readings::{tell_beginnings, tell_disagreement, tell_reading};
+use crate::readings::{print_beginnings, print_disagreement, print_reading};
 use crate::rule::Rule;
 use crate::stops::Trial;
 use book::disk_shelf::DiskShelf;
 use book::mem_shelf::{MemShelf, ShelfCall};
-use book::shelf::File;
-use device::schedule::Stop;
+use book::shelf::ShelfFile;
+use device::schedule::CallStop;
 use rules::plan::Plan;
 use std::{fs, mem};
 use sync_state::has_text::has_text;
 use test_scripts::failure::Failure;
 use test_scripts::play::Player;
+use test_scripts::reported::Reported;
 use test_scripts::script::Script;
-use test_scripts::told::Told;
 use test_scripts::words::Words;
 
 /// What a case has so far.
@@ -28,7 +28,7 @@ pub struct Stage<'a> {
     files: MemShelf,
     plan: Option<Plan>,
     /// Where the next shelf in memory stops.
-    schedule: Vec<Stop<ShelfCall>>,
+    schedule: Vec<CallStop<ShelfCall>>,
     is_on_disk: bool,
     memory: Desk<MemShelf>,
     disk: Desk<DiskShelf<HostRuntime>>,
@@ -43,16 +43,16 @@ impl Player for Stage<'_> {
 
     fn play(&mut self, line: &mut Words<'_>, script: &mut Script<'_>) -> Result<(), Failure> {
         match line.word() {
-            "state" => self.take_file(File::State, line, script),
-            "journal" => self.take_file(File::Journal, line, script),
+            "state" => self.take_file(ShelfFile::State, line, script),
+            "journal" => self.take_file(ShelfFile::Journal, line, script),
             "plan" => self.take_plan(script.block(b".")?),
-            "beginnings" => self.tell_beginnings(line, script),
+            "beginnings" => self.print_beginnings(line, script),
             "stop" => self.add_stop(line),
-            "shelf" => self.stand(line, &mut script.told),
+            "shelf" => self.stand(line, &mut script.reported),
             "folder" => Ok(folder::change(self.rt, line)?),
-            "mode" => self.tell_mode(line, &mut script.told),
-            "show" => self.tell_shelf(&mut script.told),
-            word => self.ask(word, line, &mut script.told),
+            "mode" => self.print_mode(line, &mut script.reported),
+            "show" => self.print_shelf(&mut script.reported),
+            word => self.ask(word, line, &mut script.reported),
         }
     }
 
@@ -77,7 +77,7 @@ impl<'a> Stage<'a> {
 
     fn take_file(
         &mut self,
-        file: File,
+        file: ShelfFile,
         line: &mut Words<'_>,
         script: &mut Script<'_>,
     ) -> Result<(), Failure> {
@@ -101,7 +101,7 @@ impl<'a> Stage<'a> {
         }
     }
 
-    fn put(&mut self, file: File, text: &[u8]) -> Result<(), Failure> {
+    fn put(&mut self, file: ShelfFile, text: &[u8]) -> Result<(), Failure> {
         let bytes = Vec::from_slice(self.rt.alloc(), text)?;
         self.files.put(file, Some(bytes));
         Ok(())
@@ -125,7 +125,7 @@ impl<'a> Stage<'a> {
         };
         let number = line.long_number();
         Ok(
-            self.schedule.push(Stop {
+            self.schedule.push(CallStop {
                 call,
                 number,
                 moment,
@@ -134,13 +134,13 @@ impl<'a> Stage<'a> {
     }
 
     /// `memory` or `disk`: stands at such a shelf. Another word: makes that call of the shelf.
-    fn stand(&mut self, line: &mut Words<'_>, told: &mut Told) -> Result<(), Failure> {
+    fn stand(&mut self, line: &mut Words<'_>, reported: &mut Reported) -> Result<(), Failure> {
         let alloc = self.rt.alloc();
         match line.word() {
             "memory" => self.stand_in_memory(),
             "disk" => self.stand_on_disk(),
-            word if self.is_on_disk => self.disk.use_shelf(alloc, word, line, told),
-            word => self.memory.use_shelf(alloc, word, line, told),
+            word if self.is_on_disk => self.disk.use_shelf(alloc, word, line, reported),
+            word => self.memory.use_shelf(alloc, word, line, reported),
         }
     }
 
@@ -159,55 +159,65 @@ impl<'a> Stage<'a> {
         Ok(())
     }
 
-    fn tell_mode(&self, line: &mut Words<'_>, told: &mut Told) -> Result<(), Failure> {
+    fn print_mode(&self, line: &mut Words<'_>, reported: &mut Reported) -> Result<(), Failure> {
         let mode = folder::mode_of(self.rt, line)?;
-        told.say(&format_args!("{mode:o}"));
+        reported.say(&format_args!("{mode:o}"));
         Ok(())
     }
 
     /// Prints both files of the shelf, and how many calls of a shelf in memory have stopped.
-    fn tell_shelf(&self, told: &mut Told) -> Result<(), Failure> {
+    fn print_shelf(&self, reported: &mut Reported) -> Result<(), Failure> {
         if self.is_on_disk {
-            self.tell_disk_file(told, "state", folder::STATE)?;
-            return self.tell_disk_file(told, "journal", folder::JOURNAL);
+            self.print_disk_file(reported, "state", folder::STATE)?;
+            return self.print_disk_file(reported, "journal", folder::JOURNAL);
         }
         let shelf = self.memory.shelf()?;
-        tell_files(told, shelf);
-        told.begin();
-        told.shown(&shelf.stops());
-        told.text(" calls have stopped");
-        told.end();
+        print_files(reported, shelf);
+        reported.begin();
+        reported.shown(&shelf.stops());
+        reported.text(" calls have stopped");
+        reported.end();
         Ok(())
     }
 
-    fn tell_disk_file(&self, told: &mut Told, word: &str, path: &str) -> Result<(), Failure> {
+    fn print_disk_file(
+        &self,
+        reported: &mut Reported,
+        word: &str,
+        path: &str,
+    ) -> Result<(), Failure> {
         match folder::read(self.rt, path)? {
-            Some(bytes) => tell_file(told, word, Some(&bytes)),
-            None => tell_file(told, word, None),
+            Some(bytes) => print_file(reported, word, Some(&bytes)),
+            None => print_file(reported, word, None),
         }
         Ok(())
     }
 
     /// Plays a line that asks about the files and the plan, or one for the desk.
-    fn ask(&mut self, word: &str, line: &mut Words<'_>, told: &mut Told) -> Result<(), Failure> {
+    fn ask(
+        &mut self,
+        word: &str,
+        line: &mut Words<'_>,
+        reported: &mut Reported,
+    ) -> Result<(), Failure> {
         match word {
-            "read" => self.tell_reading(line, told),
-            "disagreement" => self.tell_both(line, told),
-            "has_text" => self.tell_has_text(line, told),
-            "stops" => self.tell_stops(line, told),
+            "read" => self.print_reading(line, reported),
+            "disagreement" => self.print_both(line, reported),
+            "has_text" => self.print_has_text(line, reported),
+            "stops" => self.print_stops(line, reported),
             _ => {
                 let (alloc, plan) = (self.rt.alloc(), self.plan.as_ref());
                 if self.is_on_disk {
-                    self.disk.play(alloc, word, line, told, plan)
+                    self.disk.play(alloc, word, line, reported, plan)
                 } else {
-                    self.memory.play(alloc, word, line, told, plan)
+                    self.memory.play(alloc, word, line, reported, plan)
                 }
             }
         }
     }
 
     /// The text of a file. The line is bad where it is missing.
-    fn text(&self, file: File, line: &mut Words<'_>) -> &[u8] {
+    fn text(&self, file: ShelfFile, line: &mut Words<'_>) -> &[u8] {
         match self.files.bytes(file) {
             Some(text) => text,
             None => {
@@ -217,16 +227,16 @@ impl<'a> Stage<'a> {
         }
     }
 
-    fn tell_reading(&self, line: &mut Words<'_>, told: &mut Told) -> Result<(), Failure> {
+    fn print_reading(&self, line: &mut Words<'_>, reported: &mut Reported) -> Result<(), Failure> {
         let file = read_file(line);
-        told.begin();
-        let is_told = tell_reading(self.rt.alloc(), told, file, self.text(file, line));
-        told.end();
-        is_told
+        reported.begin();
+        let is_reported = print_reading(self.rt.alloc(), reported, file, self.text(file, line));
+        reported.end();
+        is_reported
     }
 
     /// `FILE`, and a rule in the lines after it.
-    fn tell_beginnings(
+    fn print_beginnings(
         &self,
         line: &mut Words<'_>,
         script: &mut Script<'_>,
@@ -234,26 +244,26 @@ impl<'a> Stage<'a> {
         let file = read_file(line);
         let rule = Rule::read(script.block(b".")?)?;
         let text = self.text(file, line);
-        tell_beginnings(self.rt.alloc(), &mut script.told, file, text, rule)
+        print_beginnings(self.rt.alloc(), &mut script.reported, file, text, rule)
     }
 
-    fn tell_both(&self, line: &mut Words<'_>, told: &mut Told) -> Result<(), Failure> {
+    fn print_both(&self, line: &mut Words<'_>, reported: &mut Reported) -> Result<(), Failure> {
         let alloc = self.rt.alloc();
-        let state = self.text(File::State, line);
-        let journal = self.text(File::Journal, line);
-        tell_disagreement(alloc, told, state, journal)
+        let state = self.text(ShelfFile::State, line);
+        let journal = self.text(ShelfFile::Journal, line);
+        print_disagreement(alloc, reported, state, journal)
     }
 
-    fn tell_has_text(&self, line: &mut Words<'_>, told: &mut Told) -> Result<(), Failure> {
+    fn print_has_text(&self, line: &mut Words<'_>, reported: &mut Reported) -> Result<(), Failure> {
         match &self.plan {
-            Some(plan) if has_text(plan) => told.answer("it has a text"),
-            Some(_) => told.answer("it has no text"),
+            Some(plan) if has_text(plan) => reported.answer("it has a text"),
+            Some(_) => reported.answer("it has no text"),
             None => line.refuse(),
         }
         Ok(())
     }
 
-    fn tell_stops(&self, line: &mut Words<'_>, told: &mut Told) -> Result<(), Failure> {
+    fn print_stops(&self, line: &mut Words<'_>, reported: &mut Reported) -> Result<(), Failure> {
         let trial = Trial {
             alloc: self.rt.alloc(),
             before: &self.files,
@@ -261,6 +271,6 @@ impl<'a> Stage<'a> {
             call: *line,
         };
         line.rest();
-        trial.tell(told)
+        trial.report(reported)
     }
 }

@@ -2,15 +2,15 @@
 
 use crate::answer::Answer;
 use crate::desk::Desk;
-use crate::files::{shelf_with, tell_files};
+use crate::files::{print_files, shelf_with};
 use crate::runs::{Place, Runs};
 use book::mem_shelf::{MemShelf, ShelfCall};
-use book::shelf::File;
-use device::schedule::{Moment, Stop};
+use book::shelf::ShelfFile;
+use device::schedule::{CallStop, Moment};
 use rules::plan::Plan;
 use std::alloc::Global;
 use test_scripts::failure::Failure;
-use test_scripts::told::Told;
+use test_scripts::reported::Reported;
 use test_scripts::words::Words;
 
 /// The calls that are stopped in turn: of each kind as many as a call of a book makes, the reading of both files among them.
@@ -42,43 +42,43 @@ pub struct Trial<'a> {
 impl<'a> Trial<'a> {
     /// Prints what is left of the call without a stop, and of the call with a stop at each call of its shelf. `Script`: it is not
     /// done, though nothing stops.
-    pub fn tell(&self, told: &mut Told) -> Result<(), Failure> {
+    pub fn report(&self, reported: &mut Reported) -> Result<(), Failure> {
         let shelf = shelf_with(self.alloc, self.before, Vec::new(self.alloc))?;
-        let mut held = Told::new(self.alloc);
-        self.tell_from(told, &mut Desk::new(Some(shelf)), &mut held)
+        let mut held = Reported::new(self.alloc);
+        self.print_from(reported, &mut Desk::new(Some(shelf)), &mut held)
     }
 
-    fn tell_from(
+    fn print_from(
         &self,
-        told: &mut Told,
+        reported: &mut Reported,
         desk: &mut Desk<MemShelf>,
-        held: &mut Told,
+        held: &mut Reported,
     ) -> Result<(), Failure> {
         self.make_unbroken(desk, held)?;
-        told.begin();
-        told.text("unbroken: ");
-        told.text(held.as_str());
-        told.end();
+        reported.begin();
+        reported.text("unbroken: ");
+        reported.text(held.as_str());
+        reported.end();
         let after = desk.shelf()?;
-        tell_files(told, after);
+        print_files(reported, after);
         let stopped = Stopped {
             trial: *self,
             after,
             held: held.as_str(),
         };
         for (call, number, what) in CALLS {
-            stopped.tell_moments(told, what, call, number)?;
+            stopped.print_moments(reported, what, call, number)?;
         }
         Ok(())
     }
 
     /// Makes the call without a stop, and prints what a new book says then.
-    fn make_unbroken(&self, desk: &mut Desk<MemShelf>, held: &mut Told) -> Result<(), Failure> {
+    fn make_unbroken(&self, desk: &mut Desk<MemShelf>, held: &mut Reported) -> Result<(), Failure> {
         let Answer::Done = self.open_and_call(desk)? else {
             return Err(Failure::Script);
         };
         desk.close()?;
-        desk.tell_opened(self.alloc, held)?;
+        desk.print_opened(self.alloc, held)?;
         desk.close()
     }
 
@@ -114,9 +114,9 @@ struct Stopped<'a> {
 
 impl Stopped<'_> {
     /// Prints what is left for each moment of this call of the shelf.
-    fn tell_moments(
+    fn print_moments(
         &self,
-        told: &mut Told,
+        reported: &mut Reported,
         what: &'static str,
         call: ShelfCall,
         number: u64,
@@ -124,51 +124,55 @@ impl Stopped<'_> {
         let mut runs = Runs::new(self.trial.alloc, what);
         for place in 0..LONGEST + 3 {
             let moment = moment_at(place);
-            let stop = Stop {
+            let stop = CallStop {
                 call,
                 number,
                 moment,
             };
-            self.tell_stop(&mut runs.next, stop)?;
-            runs.add(told, Place::Stop(moment));
+            self.print_stop(&mut runs.next, stop)?;
+            runs.add(reported, Place::Stop(moment));
         }
-        runs.finish(told)
+        runs.finish(reported)
     }
 
     /// Makes the call with this stop, and prints what it answers and what is left.
-    fn tell_stop(&self, told: &mut Told, stop: Stop<ShelfCall>) -> Result<(), Failure> {
+    fn print_stop(
+        &self,
+        reported: &mut Reported,
+        stop: CallStop<ShelfCall>,
+    ) -> Result<(), Failure> {
         let alloc = self.trial.alloc;
         let schedule = Vec::from_slice(alloc, &[stop])?;
         let shelf = shelf_with(alloc, self.trial.before, schedule)?;
-        self.tell_stop_at(told, &mut Desk::new(Some(shelf)), stop)
+        self.print_stop_at(reported, &mut Desk::new(Some(shelf)), stop)
     }
 
-    fn tell_stop_at(
+    fn print_stop_at(
         &self,
-        told: &mut Told,
+        reported: &mut Reported,
         desk: &mut Desk<MemShelf>,
-        stop: Stop<ShelfCall>,
+        stop: CallStop<ShelfCall>,
     ) -> Result<(), Failure> {
         let answer = self.trial.open_and_call(desk)?;
         let later = self.close(desk, answer)?;
         let shelf = desk.shelf()?;
         if shelf.stops() == 0 {
-            told.text("not made, ");
+            reported.text("not made, ");
         }
-        answer.tell(told);
+        answer.report(reported);
         if let Some(later) = later {
-            told.text(", then ");
-            later.tell(told);
+            reported.text(", then ");
+            later.report(reported);
         }
-        told.text("; ");
-        told.text(self.left_on(shelf, stop));
-        told.text("; ");
+        reported.text("; ");
+        reported.text(self.left_on(shelf, stop));
+        reported.text("; ");
         desk.reopen()?;
-        desk.tell_opened(self.trial.alloc, told)?;
-        if told.as_str().ends_with(self.held) {
+        desk.print_opened(self.trial.alloc, reported)?;
+        if reported.as_str().ends_with(self.held) {
             Ok(())
         } else {
-            self.tell_again(told, desk, stop)
+            self.print_again(reported, desk, stop)
         }
     }
 
@@ -187,11 +191,11 @@ impl Stopped<'_> {
 
     /// Resumes the call, as a run does, where a new book does not say what it says after the unbroken call: where a plan is
     /// to be begun, a journal without one is discarded before, and where a step is to be logged, a torn line is mended.
-    fn tell_again(
+    fn print_again(
         &self,
-        told: &mut Told,
+        reported: &mut Reported,
         desk: &mut Desk<MemShelf>,
-        stop: Stop<ShelfCall>,
+        stop: CallStop<ShelfCall>,
     ) -> Result<(), Failure> {
         let mut words = self.trial.call;
         match words.word() {
@@ -199,11 +203,11 @@ impl Stopped<'_> {
             "done" | "void" | "log" => self.make_plain(desk, "mend")?,
             _ => Answer::Done,
         };
-        told.text("; again ");
-        self.trial.make(desk)?.tell(told);
+        reported.text("; again ");
+        self.trial.make(desk)?.report(reported);
         desk.close()?;
-        told.text(", ");
-        told.text(self.left_on(desk.shelf()?, stop));
+        reported.text(", ");
+        reported.text(self.left_on(desk.shelf()?, stop));
         Ok(())
     }
 
@@ -213,12 +217,12 @@ impl Stopped<'_> {
     }
 
     /// What the files of this shelf are, seen from the call.
-    fn left_on(&self, shelf: &MemShelf, stop: Stop<ShelfCall>) -> &'static str {
+    fn left_on(&self, shelf: &MemShelf, stop: CallStop<ShelfCall>) -> &'static str {
         let (before, after) = (self.trial.before, self.after);
-        let is_old_state = shelf.bytes(File::State) == before.bytes(File::State);
-        let is_new_state = shelf.bytes(File::State) == after.bytes(File::State);
-        let is_old_journal = shelf.bytes(File::Journal) == before.bytes(File::Journal);
-        let is_new_journal = shelf.bytes(File::Journal) == after.bytes(File::Journal);
+        let is_old_state = shelf.bytes(ShelfFile::State) == before.bytes(ShelfFile::State);
+        let is_new_state = shelf.bytes(ShelfFile::State) == after.bytes(ShelfFile::State);
+        let is_old_journal = shelf.bytes(ShelfFile::Journal) == before.bytes(ShelfFile::Journal);
+        let is_new_journal = shelf.bytes(ShelfFile::Journal) == after.bytes(ShelfFile::Journal);
         if is_old_state && is_old_journal {
             "files as before"
         } else if is_new_state && is_new_journal {
@@ -233,13 +237,17 @@ impl Stopped<'_> {
     }
 
     /// Whether as many bytes follow the old journal as the stop let pass of those that the call appends.
-    fn is_part_of_journal(&self, shelf: &MemShelf, stop: Stop<ShelfCall>) -> bool {
+    fn is_part_of_journal(&self, shelf: &MemShelf, stop: CallStop<ShelfCall>) -> bool {
         match (stop.call, stop.moment) {
             (ShelfCall::Append, Moment::Part(count)) => {
-                let before = self.trial.before.bytes(File::Journal).unwrap_or_default();
-                let after = self.after.bytes(File::Journal).unwrap_or_default();
+                let before = self
+                    .trial
+                    .before
+                    .bytes(ShelfFile::Journal)
+                    .unwrap_or_default();
+                let after = self.after.bytes(ShelfFile::Journal).unwrap_or_default();
                 let end = before.len().saturating_add(count).min(after.len());
-                shelf.bytes(File::Journal) == after.get(..end)
+                shelf.bytes(ShelfFile::Journal) == after.get(..end)
             }
             _ => false,
         }

@@ -2,7 +2,7 @@
 
 use crate::work::{Played, Work};
 use test_scripts::failure::Failure;
-use test_scripts::told::Told;
+use test_scripts::reported::Reported;
 
 /// A stream that can fail.
 #[derive(Clone, Copy)]
@@ -29,42 +29,42 @@ impl Stream {
     }
 
     /// Prints that so many mailboxes are lent where this stream fails after so many bytes.
-    fn tell(self, told: &mut Told, room: usize, lent: usize) {
-        told.begin();
-        told.text(match self {
+    fn report(self, reported: &mut Reported, room: usize, lent: usize) {
+        reported.begin();
+        reported.text(match self {
             Stream::Out => "out",
             Stream::Err => "err",
         });
-        told.text(" broken behind ");
-        told.number(room as u64);
-        told.text(": ");
-        told.number(lent as u64);
-        told.text(" lent");
-        told.end();
+        reported.text(" broken behind ");
+        reported.number(room as u64);
+        reported.text(": ");
+        reported.number(lent as u64);
+        reported.text(" lent");
+        reported.end();
     }
 }
 
 /// Makes the run again with a standard output, and then a standard error, that fails after each count of bytes. Prints how many
 /// mailboxes were lent, wherever that changes, and how many runs had another status than 1, or wrote or asked something else before.
-pub(crate) fn break_each(work: Work<'_>, told: &mut Told) -> Result<(), Failure> {
+pub(crate) fn break_each(work: Work<'_>, reported: &mut Reported) -> Result<(), Failure> {
     let whole = work.played(usize::MAX, usize::MAX)?;
-    break_both(work, told, &whole)
+    break_both(work, reported, &whole)
 }
 
-fn break_both(work: Work<'_>, told: &mut Told, whole: &Played<'_>) -> Result<(), Failure> {
-    let out = break_stream(work, told, whole, Stream::Out)?;
-    let err = break_stream(work, told, whole, Stream::Err)?;
-    told.begin();
-    told.text("others ");
-    told.number(out.saturating_add(err));
-    told.end();
+fn break_both(work: Work<'_>, reported: &mut Reported, whole: &Played<'_>) -> Result<(), Failure> {
+    let out = break_stream(work, reported, whole, Stream::Out)?;
+    let err = break_stream(work, reported, whole, Stream::Err)?;
+    reported.begin();
+    reported.text("others ");
+    reported.number(out.saturating_add(err));
+    reported.end();
     Ok(())
 }
 
 /// How many runs with this stream failing came to something else than the beginning of the whole one.
 fn break_stream(
     work: Work<'_>,
-    told: &mut Told,
+    reported: &mut Reported,
     whole: &Played<'_>,
     stream: Stream,
 ) -> Result<u64, Failure> {
@@ -77,7 +77,7 @@ fn break_stream(
         }
         if lent != broken.stores.boxes.len() {
             lent = broken.stores.boxes.len();
-            stream.tell(told, room, lent);
+            stream.report(reported, room, lent);
         }
     }
     Ok(others)

@@ -2,7 +2,7 @@
 
 use std::alloc::Global;
 use test_scripts::failure::Failure;
-use test_scripts::told::Told;
+use test_scripts::reported::Reported;
 use test_scripts::words::Words;
 
 /// The words that the lines begin with.
@@ -38,14 +38,14 @@ const WORDS: [&str; 26] = [
 /// The lines that a case has so far, as they stand.
 #[derive(Drop)]
 pub(crate) struct Facts {
-    text: Told,
+    text: Reported,
 }
 
 impl Facts {
     /// None.
     pub(crate) fn new(alloc: Global) -> Facts {
         Facts {
-            text: Told::new(alloc),
+            text: Reported::new(alloc),
         }
     }
 
@@ -72,7 +72,7 @@ impl Facts {
     /// What follows a word and a name in the first line that begins with both.
     pub(crate) fn of(&self, word: &str, name: &str) -> Option<&str> {
         for line in self.as_str().lines() {
-            if let Some(rest) = behind(line, word, name) {
+            if let Some(rest) = following(line, word, name) {
                 return Some(rest);
             }
         }
@@ -86,7 +86,7 @@ impl Facts {
 }
 
 /// What follows a word and a name in a line that begins with both.
-pub(crate) fn behind<'a>(line: &'a str, word: &str, name: &str) -> Option<&'a str> {
+pub(crate) fn following<'a>(line: &'a str, word: &str, name: &str) -> Option<&'a str> {
     let (first, rest) = line.split_once(' ')?;
     let (second, rest) = match rest.split_once(' ') {
         Some(parts) => parts,

@@ -1,13 +1,13 @@
 //! A mailbox in memory, as a case gives it.
 
-use crate::facts::{Facts, behind};
+use crate::facts::{Facts, following};
 use book::mem_shelf::MemShelf;
-use book::shelf::File;
+use book::shelf::ShelfFile;
 use std::alloc::Global;
 use test_run::calls::Schedule;
 use test_run::stage::{MemOutside, Stage, left_in, outside_of, parts_of, stage_of};
 use test_scripts::failure::Failure;
-use test_scripts::told::Told;
+use test_scripts::reported::Reported;
 use test_scripts::words::Words;
 
 /// A mailbox that was lent, by its far name.
@@ -54,11 +54,11 @@ fn stage_named(alloc: Global, facts: &Facts, name: &str) -> Result<Stage, Failur
 }
 
 /// The text of its world.
-fn world_text(alloc: Global, facts: &Facts, name: &str) -> Told {
-    let mut text = Told::new(alloc);
+fn world_text(alloc: Global, facts: &Facts, name: &str) -> Reported {
+    let mut text = Reported::new(alloc);
     text.text("sync None\nexpunge None\n");
     for line in facts.as_str().lines() {
-        if let Some(line) = behind(line, "in", name) {
+        if let Some(line) = following(line, "in", name) {
             text.text(line);
             text.end();
         }
@@ -73,10 +73,10 @@ fn world_text(alloc: Global, facts: &Facts, name: &str) -> Told {
 /// Adds the stops and refusals of its calls.
 fn set_schedule(schedule: &mut Schedule, facts: &Facts, name: &str) -> Result<(), Failure> {
     for line in facts.as_str().lines() {
-        if let Some(text) = behind(line, "stop", name) {
+        if let Some(text) = following(line, "stop", name) {
             schedule.read_stop(&mut Words::new(text.as_bytes()))?;
         }
-        if let Some(text) = behind(line, "refuse", name) {
+        if let Some(text) = following(line, "refuse", name) {
             schedule.read_refusal(&mut Words::new(text.as_bytes()))?;
         }
     }
@@ -90,7 +90,7 @@ fn put_texts(
     facts: &Facts,
     name: &str,
 ) -> Result<(), Failure> {
-    for (word, file) in [("state", File::State), ("journal", File::Journal)] {
+    for (word, file) in [("state", ShelfFile::State), ("journal", ShelfFile::Journal)] {
         if let Some(text) = facts.of(word, name) {
             let bytes = Words::new(text.as_bytes()).bytes(alloc)?;
             shelf.put(file, Some(bytes));
@@ -100,24 +100,24 @@ fn put_texts(
 }
 
 /// Prints the worlds of those mailboxes that the case wants to see, from their line `far` on, with the name before each line.
-pub(crate) fn show(alloc: Global, told: &mut Told, facts: &Facts, boxes: Vec<LentBox>) {
+pub(crate) fn show(alloc: Global, reported: &mut Reported, facts: &Facts, boxes: Vec<LentBox>) {
     for one in boxes {
         if facts.has("show", &one.name) {
-            tell_box(alloc, told, one);
+            print_box(alloc, reported, one);
         }
     }
 }
 
-fn tell_box(alloc: Global, told: &mut Told, one: LentBox) {
+fn print_box(alloc: Global, reported: &mut Reported, one: LentBox) {
     let LentBox { name, outside } = one;
     let Ok(text) = left_in(alloc, &parts_of(outside)) else {
-        return told.answer("no memory");
+        return reported.answer("no memory");
     };
     for line in text.lines() {
-        told.begin();
-        told.text(&name);
-        told.text(": ");
-        told.text(line);
-        told.end();
+        reported.begin();
+        reported.text(&name);
+        reported.text(": ");
+        reported.text(line);
+        reported.end();
     }
 }

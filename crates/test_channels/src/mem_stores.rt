@@ -12,7 +12,7 @@ use channels::boxes::in_order;
 use channels::channel_box::{ChannelBox, ChannelStores};
 use channels::notice::Notice;
 use channels::stop_cause::StopCause;
-use channels::store_fault::{ListFault, ServerFault, StoreFault};
+use channels::store_fault::{ConnectFault, ListFault, StoreFault};
 use channels::stores::{BoxLists, Stores, Work};
 use config::config::{ImapStore, MaildirStore};
 use device::trouble::Trouble;
@@ -22,7 +22,7 @@ use runner::fault::RunFault;
 use std::alloc::{AllocError, Global};
 use test_run::stage::has_map;
 use test_scripts::failure::Failure;
-use test_scripts::told::Told;
+use test_scripts::reported::Reported;
 
 /// Stores in memory, as a case gives them, and what they were asked.
 #[derive(Drop)]
@@ -30,13 +30,13 @@ pub(crate) struct MemStores<'a> {
     alloc: Global,
     facts: &'a Facts,
     /// What the stores were asked, a line each.
-    pub(crate) asked: Told,
+    pub(crate) asked: Reported,
     /// The mailboxes that were lent, the last one last.
     pub(crate) boxes: Vec<LentBox>,
     /// Whether it is still to be reported what stopped the run over the last one.
-    is_untold: bool,
+    is_unreported: bool,
     /// Whether it was reported which message has stopped a run.
-    is_message_told: bool,
+    is_message_reported: bool,
     /// What is to be reported beside faults.
     said: Said,
     /// Why a mailbox of the case cannot be had.
@@ -49,10 +49,10 @@ impl<'a> MemStores<'a> {
         MemStores {
             alloc,
             facts,
-            asked: Told::new(alloc),
+            asked: Reported::new(alloc),
             boxes: Vec::new(alloc),
-            is_untold: false,
-            is_message_told: false,
+            is_unreported: false,
+            is_message_reported: false,
             said: Said::new(alloc),
             failure: None,
         }
@@ -83,12 +83,12 @@ impl<'a> MemStores<'a> {
     }
 
     /// Why the server does not open where a store or a mailbox of this name is asked for.
-    fn why_barred(&mut self, name: &str) -> ServerFault {
+    fn why_barred(&mut self, name: &str) -> ConnectFault {
         match server_fault(self.facts.of("barred", name).unwrap_or("")) {
             Some(why) => why,
             None => {
                 self.failure = Some(Failure::Script);
-                ServerFault::Ended
+                ConnectFault::Ended
             }
         }
     }
@@ -138,10 +138,10 @@ impl<'a> MemStores<'a> {
     }
 
     /// Prints the progress of the run over a mailbox, where the case asks for it.
-    fn tell_steps(&mut self, name: &str, steps: &Steps) {
+    fn print_steps(&mut self, name: &str, steps: &Steps) {
         if self.facts.has("steps", name) {
             self.asked.text("steps");
-            steps.tell_all(&mut self.asked);
+            steps.print_all(&mut self.asked);
             self.asked.end();
         }
     }
@@ -179,7 +179,7 @@ impl<'a> MemStores<'a> {
 
     /// The path or the store, and the UID, of a message that a line of this word gives a mailbox.
     fn message(&self, word: &str, name: &str) -> Option<(String, u32)> {
-        if self.is_message_told {
+        if self.is_message_reported {
             return None;
         }
         let (uid, text) = self.facts.of(word, name)?.split_once(' ')?;
@@ -191,7 +191,7 @@ impl<'a> MemStores<'a> {
 }
 
 /// That the server of the store of this name does not open.
-fn server_list_fault(alloc: Global, store: &str, why: ServerFault) -> ListFault {
+fn server_list_fault(alloc: Global, store: &str, why: ConnectFault) -> ListFault {
     match String::from_str(alloc, store) {
         Ok(store) => ListFault::Server(store, why),
         Err(AllocError) => ListFault::NoMemory,
@@ -207,7 +207,7 @@ fn shut_list_fault(alloc: Global, name: &str) -> ListFault {
 }
 
 /// That the server of the store of this name does not open where a mailbox is to be lent.
-fn server_store_fault(alloc: Global, store: &str, why: ServerFault) -> StoreFault {
+fn server_store_fault(alloc: Global, store: &str, why: ConnectFault) -> StoreFault {
     match String::from_str(alloc, store) {
         Ok(store) => StoreFault::Server(store, why),
         Err(AllocError) => StoreFault::Box(RunFault::NoMemory),
@@ -286,10 +286,10 @@ impl Stores for MemStores<'_> {
         place: ChannelBox<'_>,
         work: W,
     ) -> Result<W::Answer, StoreFault> {
-        self.is_untold = false;
+        self.is_unreported = false;
         self.ask("outside ", place.far.as_str());
         self.lend(place.of.far_store.name.as_str(), place.far.as_str())?;
-        self.is_untold = true;
+        self.is_unreported = true;
         let steps = Steps::new(self.alloc);
         let answer = match self.boxes.last_mut() {
             Some(one) if has_map(&one.outside, work.keywords()) => {
@@ -300,17 +300,17 @@ impl Stores for MemStores<'_> {
                 Err(StoreFault::Box(RunFault::Stopped))
             }
         };
-        self.tell_steps(place.far.as_str(), &steps);
+        self.print_steps(place.far.as_str(), &steps);
         answer
     }
 
     fn stop_cause(&mut self) -> Option<StopCause> {
-        if !self.is_untold {
+        if !self.is_unreported {
             return None;
         }
-        self.is_untold = false;
+        self.is_unreported = false;
         let cause = self.cause();
-        self.is_message_told = true;
+        self.is_message_reported = true;
         cause
     }
 

@@ -7,13 +7,13 @@ use crate::run_line::request_of;
 use crate::work::{Played, Work};
 use config::config::Config;
 use config::read::read_config;
-use config::request::Request;
+use config::request::RunRequest;
 use config_words::fault::{ConfigFault, FaultKind};
 use std::alloc::Global;
 use test_scripts::failure::Failure;
 use test_scripts::play::{Player, play_all};
+use test_scripts::reported::Reported;
 use test_scripts::script::Script;
-use test_scripts::told::Told;
 use test_scripts::words::Words;
 
 /// Plays the command lines of a script.
@@ -37,7 +37,7 @@ struct CommandLines {
     /// What there is before the run.
     facts: Facts,
     /// What the last line `run` asked for.
-    request: Option<Request>,
+    request: Option<RunRequest>,
 }
 
 impl Player for CommandLines {
@@ -50,8 +50,8 @@ impl Player for CommandLines {
     fn play(&mut self, line: &mut Words<'_>, script: &mut Script<'_>) -> Result<(), Failure> {
         match line.word() {
             "config" => self.set_config(script.block(b".")?),
-            "run" => self.run(line.text(), &mut script.told),
-            "each" => self.break_each(line.word(), &mut script.told),
+            "run" => self.run(line.text(), &mut script.reported),
+            "each" => self.break_each(line.word(), &mut script.reported),
             word => self.facts.add(word, line),
         }
     }
@@ -73,21 +73,21 @@ impl CommandLines {
     }
 
     /// Makes a run, and prints what came of it.
-    fn run(&mut self, words: &str, told: &mut Told) -> Result<(), Failure> {
+    fn run(&mut self, words: &str, reported: &mut Reported) -> Result<(), Failure> {
         self.request = Some(request_of(self.alloc, words)?);
         let played = self.work()?.played(usize::MAX, usize::MAX)?;
-        played.tell(told);
+        played.report(reported);
         let Played { stores, .. } = played;
-        show(self.alloc, told, &self.facts, stores.boxes);
+        show(self.alloc, reported, &self.facts, stores.boxes);
         Ok(())
     }
 
     /// `break`: makes the last run again with streams that fail.
-    fn break_each(&mut self, word: &str, told: &mut Told) -> Result<(), Failure> {
+    fn break_each(&mut self, word: &str, reported: &mut Reported) -> Result<(), Failure> {
         if word != "break" {
             return Err(Failure::Script);
         }
-        break_each(self.work()?, told)
+        break_each(self.work()?, reported)
     }
 
     /// The run that the last line `run` asked for.

@@ -1,8 +1,8 @@
 //! What a line `run` asks for.
 
-use config::request::{Chosen, Request};
+use config::request::{Chosen, RunRequest};
 use mailcore::side::Direction;
-use rules::sync_words::{Kind, SyncWord};
+use rules::sync_words::{SyncType, SyncWord};
 use std::alloc::Global;
 use test_scripts::failure::Failure;
 
@@ -10,16 +10,16 @@ use test_scripts::failure::Failure;
 const FLAGS: [(&str, SyncWord); 7] = [
     ("--pull", SyncWord::Way(Direction::Pull)),
     ("--push", SyncWord::Way(Direction::Push)),
-    ("--new", SyncWord::Sort(Kind::New)),
-    ("--gone", SyncWord::Sort(Kind::Gone)),
-    ("--flags", SyncWord::Sort(Kind::Flags)),
+    ("--new", SyncWord::Sort(SyncType::New)),
+    ("--gone", SyncWord::Sort(SyncType::Gone)),
+    ("--flags", SyncWord::Sort(SyncType::Flags)),
     ("--full", SyncWord::Full),
     ("--noop", SyncWord::Nothing),
 ];
 
 /// What these words of a command line ask for.
-pub(crate) fn request_of(alloc: Global, words: &str) -> Result<Request, Failure> {
-    let mut request = Request {
+pub(crate) fn request_of(alloc: Global, words: &str) -> Result<RunRequest, Failure> {
+    let mut request = RunRequest {
         file: None,
         chosen: Chosen::Named(Vec::new(alloc)),
         lists: false,
@@ -32,7 +32,7 @@ pub(crate) fn request_of(alloc: Global, words: &str) -> Result<Request, Failure>
     }
 }
 
-fn add_words(alloc: Global, request: &mut Request, words: &str) -> Result<(), Failure> {
+fn add_words(alloc: Global, request: &mut RunRequest, words: &str) -> Result<(), Failure> {
     for word in words.split_whitespace() {
         match word {
             "-a" => request.chosen = Chosen::All,
@@ -45,7 +45,7 @@ fn add_words(alloc: Global, request: &mut Request, words: &str) -> Result<(), Fa
 }
 
 /// Adds a flag of Sync, or a name, which is ignored where all channels are chosen.
-fn add_word(alloc: Global, request: &mut Request, word: &str) -> Result<(), Failure> {
+fn add_word(alloc: Global, request: &mut RunRequest, word: &str) -> Result<(), Failure> {
     if let Some((_, flag)) = FLAGS.iter().find(|(name, _)| *name == word) {
         return Ok(request.sync_words.push(*flag)?);
     }

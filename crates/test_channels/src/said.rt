@@ -60,18 +60,18 @@ impl Said {
 
     /// What is to be reported beside faults for this channel, once. What it cannot have chosen stays.
     pub(crate) fn notices(&mut self, of: ChannelStores<'_>) -> Vec<Notice> {
-        let mut told = Vec::new(self.alloc);
+        let mut reported = Vec::new(self.alloc);
         let mut left = Vec::new(self.alloc);
         for notice in mem::replace(&mut self.notices, Vec::new(self.alloc)) {
             let notices = if is_for(&notice, of) {
-                &mut told
+                &mut reported
             } else {
                 &mut left
             };
             let _ = notices.push(notice);
         }
         self.notices = left;
-        told
+        reported
     }
 
     /// What a server said last, once.

@@ -1,22 +1,22 @@
 //! The faults of servers and of mailboxes, as the lines of a case name them.
 
-use channels::store_fault::ServerFault;
+use channels::store_fault::ConnectFault;
 use mailcore::side::Side;
 use runner::fault::RunFault;
 use std::io::ErrorKind;
 
 /// Why a server does not open, by its word.
-pub(crate) fn server_fault(word: &str) -> Option<ServerFault> {
+pub(crate) fn server_fault(word: &str) -> Option<ConnectFault> {
     match word {
-        "unreached" => Some(ServerFault::Unreached(None)),
-        "connection_refused" => Some(ServerFault::Unreached(Some(ErrorKind::ConnectionRefused))),
-        "ended" => Some(ServerFault::Ended),
-        "dismissed" => Some(ServerFault::Dismissed),
-        "no_answer" => Some(ServerFault::NoAnswer),
-        "no_rev2" => Some(ServerFault::NoRev2),
-        "login" => Some(ServerFault::LoginRefused),
-        "refused" => Some(ServerFault::Refused),
-        "unsendable" => Some(ServerFault::Unsendable),
+        "unreached" => Some(ConnectFault::Unreached(None)),
+        "connection_refused" => Some(ConnectFault::Unreached(Some(ErrorKind::ConnectionRefused))),
+        "ended" => Some(ConnectFault::Ended),
+        "dismissed" => Some(ConnectFault::Dismissed),
+        "no_answer" => Some(ConnectFault::NoAnswer),
+        "no_rev2" => Some(ConnectFault::NoRev2),
+        "login" => Some(ConnectFault::LoginRefused),
+        "refused" => Some(ConnectFault::Refused),
+        "unsendable" => Some(ConnectFault::Unsendable),
         _ => None,
     }
 }

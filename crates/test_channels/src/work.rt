@@ -5,10 +5,10 @@ use crate::failing::Failing;
 use crate::mem_stores::MemStores;
 use channels::run::run_config;
 use config::config::Config;
-use config::request::Request;
+use config::request::RunRequest;
 use std::alloc::Global;
 use test_scripts::failure::Failure;
-use test_scripts::told::Told;
+use test_scripts::reported::Reported;
 use worlds::trial_generator::TrialGenerator;
 
 /// A command line, its configuration, and what there is.
@@ -16,7 +16,7 @@ use worlds::trial_generator::TrialGenerator;
 pub(crate) struct Work<'a> {
     pub(crate) alloc: Global,
     pub(crate) config: &'a Config,
-    pub(crate) request: &'a Request,
+    pub(crate) request: &'a RunRequest,
     pub(crate) facts: &'a Facts,
 }
 
@@ -58,23 +58,23 @@ impl<'a> Work<'a> {
 
 impl Played<'_> {
     /// Prints the lines of standard output and standard error, what the stores were asked, and the exit status.
-    pub(crate) fn tell(&self, told: &mut Told) {
-        tell_lines(told, "out ", &self.out.written);
-        tell_lines(told, "err ", &self.err.written);
-        tell_lines(told, "ask ", self.stores.asked.as_str().as_bytes());
-        told.begin();
-        told.text("status ");
-        told.number(u64::from(self.status));
-        told.end();
+    pub(crate) fn report(&self, reported: &mut Reported) {
+        print_lines(reported, "out ", &self.out.written);
+        print_lines(reported, "err ", &self.err.written);
+        print_lines(reported, "ask ", self.stores.asked.as_str().as_bytes());
+        reported.begin();
+        reported.text("status ");
+        reported.number(u64::from(self.status));
+        reported.end();
     }
 }
 
 /// An answer for each line of a text, after a word.
-fn tell_lines(told: &mut Told, word: &str, text: &[u8]) {
+fn print_lines(reported: &mut Reported, word: &str, text: &[u8]) {
     for line in str::from_utf8(text).unwrap_or("(no text)").lines() {
-        told.begin();
-        told.text(word);
-        told.text(line);
-        told.end();
+        reported.begin();
+        reported.text(word);
+        reported.text(line);
+        reported.end();
     }
 }

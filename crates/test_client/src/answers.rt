@@ -3,7 +3,7 @@
 use imap_link::fault::FarFault;
 use mailcore::listing::{Item, Listing};
 use mailcore::uid::Uid;
-use test_scripts::told::Told;
+use test_scripts::reported::Reported;
 
 /// Texts with more bytes are shown by their beginning.
 const SHOWN_MAX: usize = 200;
@@ -12,7 +12,7 @@ const SHOWN_MAX: usize = 200;
 const BEGINNING: usize = 60;
 
 /// A fault, by its name.
-pub fn tell_fault(told: &mut Told, fault: FarFault) {
+pub fn report_fault(reported: &mut Reported, fault: FarFault) {
     let name = match fault {
         FarFault::Stopped => "Stopped",
         FarFault::Refused => "Refused",
@@ -22,73 +22,73 @@ pub fn tell_fault(told: &mut Told, fault: FarFault) {
         FarFault::ReadOnly => "ReadOnly",
         FarFault::NoMemory => "NoMemory",
     };
-    told.text(name);
+    reported.text(name);
 }
 
 /// The answer of a call that gives nothing.
-pub fn tell_done(told: &mut Told, answered: Result<(), FarFault>) {
+pub fn print_done(reported: &mut Reported, answered: Result<(), FarFault>) {
     match answered {
-        Ok(()) => told.text("done"),
-        Err(fault) => tell_fault(told, fault),
+        Ok(()) => reported.text("done"),
+        Err(fault) => report_fault(reported, fault),
     }
 }
 
 /// A UID, or `none`.
-pub fn tell_uid(told: &mut Told, answered: Result<Option<Uid>, FarFault>) {
+pub fn print_uid(reported: &mut Reported, answered: Result<Option<Uid>, FarFault>) {
     match answered {
-        Ok(Some(uid)) => told.number(u64::from(uid.get())),
-        Ok(None) => told.text("none"),
-        Err(fault) => tell_fault(told, fault),
+        Ok(Some(uid)) => reported.number(u64::from(uid.get())),
+        Ok(None) => reported.text("none"),
+        Err(fault) => report_fault(reported, fault),
     }
 }
 
 /// The bytes of a message, or `none`.
-pub fn tell_body(told: &mut Told, answered: Result<Option<&[u8]>, FarFault>) {
+pub fn print_body(reported: &mut Reported, answered: Result<Option<&[u8]>, FarFault>) {
     match answered {
-        Ok(Some(bytes)) => tell_bytes(told, bytes),
-        Ok(None) => told.text("none"),
-        Err(fault) => tell_fault(told, fault),
+        Ok(Some(bytes)) => print_bytes(reported, bytes),
+        Ok(None) => reported.text("none"),
+        Err(fault) => report_fault(reported, fault),
     }
 }
 
 /// The name of the mailbox at this place among others.
-pub fn tell_name(told: &mut Told, place: usize, name: &str) {
+pub fn print_name(reported: &mut Reported, place: usize, name: &str) {
     if place > 0 {
-        told.text(" ");
+        reported.text(" ");
     }
-    tell_bytes(told, name.as_bytes());
+    print_bytes(reported, name.as_bytes());
 }
 
 /// Escaped bytes between quotes, or their beginning and how many they are.
-fn tell_bytes(told: &mut Told, bytes: &[u8]) {
+fn print_bytes(reported: &mut Reported, bytes: &[u8]) {
     let length = bytes.len();
     if length <= SHOWN_MAX {
-        told.quoted(bytes);
+        reported.quoted(bytes);
     } else {
-        told.quoted(bytes.get(..BEGINNING).unwrap_or(bytes));
-        told.text(" .. (");
-        told.number(length as u64);
-        told.text(" bytes)");
+        reported.quoted(bytes.get(..BEGINNING).unwrap_or(bytes));
+        reported.text(" .. (");
+        reported.number(length as u64);
+        reported.text(" bytes)");
     }
 }
 
 /// `validity V, next N`, and for each message `; UID FLAGS`, with `unfit` after it if the message is not fit to be copied.
-pub fn tell_listing(told: &mut Told, listing: &Listing) {
-    told.text("validity ");
-    told.number(u64::from(listing.validity));
-    told.text(", next ");
-    told.number(u64::from(listing.next));
+pub fn print_listing(reported: &mut Reported, listing: &Listing) {
+    reported.text("validity ");
+    reported.number(u64::from(listing.validity));
+    reported.text(", next ");
+    reported.number(u64::from(listing.next));
     for item in listing.items.as_slice() {
-        tell_item(told, item);
+        print_item(reported, item);
     }
 }
 
-fn tell_item(told: &mut Told, item: &Item) {
-    told.text("; ");
-    told.number(u64::from(item.uid.get()));
-    told.text(" ");
-    told.flags(item.flags);
+fn print_item(reported: &mut Reported, item: &Item) {
+    reported.text("; ");
+    reported.number(u64::from(item.uid.get()));
+    reported.text(" ");
+    reported.flags(item.flags);
     if !item.fit {
-        told.text(" unfit");
+        reported.text(" unfit");
     }
 }

@@ -1,6 +1,6 @@
 //! A client, and its calls.
 
-use crate::answers::{tell_done, tell_fault};
+use crate::answers::{print_done, report_fault};
 use crate::mailbox_calls::ask_mailbox;
 use crate::session_calls::{ask_session, is_word};
 use imap_client::far_box::FarBox;
@@ -10,7 +10,7 @@ use mailcore::keywords::Keywords;
 use std::alloc::Global;
 use std::mem;
 use test_scripts::failure::Failure;
-use test_scripts::told::Told;
+use test_scripts::reported::Reported;
 use test_scripts::words::Words;
 
 /// What a client has.
@@ -54,15 +54,15 @@ impl<L: Link + Drop> Client<L> {
         &mut self,
         word: &str,
         line: &mut Words<'_>,
-        told: &mut Told,
+        reported: &mut Reported,
     ) -> Result<(), Failure> {
         match word {
-            "open" => self.open(line, told),
-            "select" => self.select(line, told),
-            "logout" => self.logout(line, told),
-            "into_session" => self.into_session(line, told),
-            "into_link" => self.leave(line, told),
-            "reconnect" | "login" | "names" | "create" => self.ask_session(word, line, told),
+            "open" => self.open(line, reported),
+            "select" => self.select(line, reported),
+            "logout" => self.logout(line, reported),
+            "into_session" => self.into_session(line, reported),
+            "into_link" => self.leave(line, reported),
+            "reconnect" | "login" | "names" | "create" => self.ask_session(word, line, reported),
             "list"
             | "count"
             | "fetch"
@@ -70,16 +70,16 @@ impl<L: Link + Drop> Client<L> {
             | "append"
             | "add_flags"
             | "remove_flags"
-            | "expunge" => return self.ask_mailbox(word, line, told),
+            | "expunge" => return self.ask_mailbox(word, line, reported),
             _ => line.refuse(),
         }
         Ok(())
     }
 
-    fn ask_session(&mut self, word: &str, line: &mut Words<'_>, told: &mut Told) {
+    fn ask_session(&mut self, word: &str, line: &mut Words<'_>, reported: &mut Reported) {
         match &mut self.stand {
-            Stand::Session(session) => ask_session(session, word, line, told),
-            _ => tell_not_made(line, told),
+            Stand::Session(session) => ask_session(session, word, line, reported),
+            _ => print_not_made(line, reported),
         }
     }
 
@@ -87,12 +87,12 @@ impl<L: Link + Drop> Client<L> {
         &mut self,
         word: &str,
         line: &mut Words<'_>,
-        told: &mut Told,
+        reported: &mut Reported,
     ) -> Result<(), Failure> {
         match &mut self.stand {
-            Stand::Mailbox(mailbox) => ask_mailbox(self.alloc, mailbox, word, line, told),
+            Stand::Mailbox(mailbox) => ask_mailbox(self.alloc, mailbox, word, line, reported),
             _ => {
-                tell_not_made(line, told);
+                print_not_made(line, reported);
                 Ok(())
             }
         }
@@ -107,68 +107,68 @@ impl<L: Link + Drop> Client<L> {
     }
 
     /// Puts back what the call cannot take.
-    fn keep_other(&mut self, stand: Stand<L>, line: &mut Words<'_>, told: &mut Told) {
+    fn keep_other(&mut self, stand: Stand<L>, line: &mut Words<'_>, reported: &mut Reported) {
         self.stand = stand;
-        tell_not_made(line, told);
+        print_not_made(line, reported);
     }
 
-    fn open(&mut self, line: &mut Words<'_>, told: &mut Told) {
+    fn open(&mut self, line: &mut Words<'_>, reported: &mut Reported) {
         match self.take() {
             Stand::Link(link) => match Session::open(self.alloc, link) {
                 Ok(session) => {
-                    told.text("done");
+                    reported.text("done");
                     self.keep(Stand::Session(session));
                 }
                 Err((fault, link)) => {
-                    tell_fault(told, fault);
+                    report_fault(reported, fault);
                     self.keep(Stand::Link(link));
                 }
             },
-            other => self.keep_other(other, line, told),
+            other => self.keep_other(other, line, reported),
         }
     }
 
-    fn select(&mut self, line: &mut Words<'_>, told: &mut Told) {
+    fn select(&mut self, line: &mut Words<'_>, reported: &mut Reported) {
         match self.take() {
             Stand::Session(session) => {
-                let stand = selected(self.alloc, session, line, told);
+                let stand = selected(self.alloc, session, line, reported);
                 self.keep(stand);
             }
-            other => self.keep_other(other, line, told),
+            other => self.keep_other(other, line, reported),
         }
     }
 
-    fn logout(&mut self, line: &mut Words<'_>, told: &mut Told) {
+    fn logout(&mut self, line: &mut Words<'_>, reported: &mut Reported) {
         match self.take() {
             Stand::Session(session) => {
                 let (answered, link) = match session.logout() {
                     Ok(link) => (Ok(()), link),
                     Err((fault, link)) => (Err(fault), link),
                 };
-                tell_done(told, answered);
+                print_done(reported, answered);
                 self.keep(Stand::Link(link));
             }
-            other => self.keep_other(other, line, told),
+            other => self.keep_other(other, line, reported),
         }
     }
 
-    fn into_session(&mut self, line: &mut Words<'_>, told: &mut Told) {
+    fn into_session(&mut self, line: &mut Words<'_>, reported: &mut Reported) {
         match self.take() {
             Stand::Mailbox(mailbox) => {
-                told.text("done");
+                reported.text("done");
                 self.keep(Stand::Session(mailbox.into_session()));
             }
-            other => self.keep_other(other, line, told),
+            other => self.keep_other(other, line, reported),
         }
     }
 
-    fn leave(&mut self, line: &mut Words<'_>, told: &mut Told) {
+    fn leave(&mut self, line: &mut Words<'_>, reported: &mut Reported) {
         match self.take() {
             Stand::Session(session) => {
-                told.text("done");
+                reported.text("done");
                 self.keep(Stand::Link(session.into_link()));
             }
-            other => self.keep_other(other, line, told),
+            other => self.keep_other(other, line, reported),
         }
     }
 }
@@ -178,7 +178,7 @@ fn selected<L: Link + Drop>(
     alloc: Global,
     session: Session<L>,
     line: &mut Words<'_>,
-    told: &mut Told,
+    reported: &mut Reported,
 ) -> Stand<L> {
     let name = line.text().as_bytes();
     if !is_word(name) {
@@ -187,20 +187,20 @@ fn selected<L: Link + Drop>(
     }
     match session.select(name, Keywords::new(alloc)) {
         Ok(mailbox) => {
-            told.text("done");
+            reported.text("done");
             Stand::Mailbox(mailbox)
         }
         Err((fault, session)) => {
-            tell_fault(told, fault);
+            report_fault(reported, fault);
             Stand::Session(session)
         }
     }
 }
 
 /// The call cannot be made; the rest of its line is skipped.
-fn tell_not_made(line: &mut Words<'_>, told: &mut Told) {
+fn print_not_made(line: &mut Words<'_>, reported: &mut Reported) {
     if !line.is_over() {
         let _ = line.rest();
     }
-    told.text("not made");
+    reported.text("not made");
 }

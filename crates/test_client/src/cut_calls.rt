@@ -4,15 +4,15 @@ use crate::scene::Scene;
 use std::alloc::Global;
 use test_scripts::failure::Failure;
 use test_scripts::play::{Player, play_all};
+use test_scripts::reported::Reported;
 use test_scripts::script::Script;
-use test_scripts::told::Told;
 use test_scripts::words::Words;
 
 /// Plays the lines of a script.
 pub fn run_cuts(rt: &HostRuntime, script: &mut Script<'_>) -> Result<(), Failure> {
     let mut player = CutCalls {
         alloc: rt.alloc(),
-        lines: Told::new(rt.alloc()),
+        lines: Reported::new(rt.alloc()),
     };
     play_all(rt, &mut player, script)
 }
@@ -21,12 +21,12 @@ pub fn run_cuts(rt: &HostRuntime, script: &mut Script<'_>) -> Result<(), Failure
 #[derive(Drop)]
 struct CutCalls {
     alloc: Global,
-    lines: Told,
+    lines: Reported,
 }
 
 impl Player for CutCalls {
     fn begin(&mut self) -> Result<(), Failure> {
-        self.lines = Told::new(self.alloc);
+        self.lines = Reported::new(self.alloc);
         Ok(())
     }
 
@@ -38,7 +38,7 @@ impl Player for CutCalls {
                 lines: self.lines.as_str(),
                 call,
             };
-            return scene.tell(&mut script.told);
+            return scene.report(&mut script.reported);
         }
         self.lines.text(text);
         self.lines.end();

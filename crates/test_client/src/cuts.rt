@@ -3,7 +3,7 @@
 use crate::record::Record;
 use std::alloc::Global;
 use test_scripts::failure::Failure;
-use test_scripts::told::Told;
+use test_scripts::reported::Reported;
 
 /// What an end of the bytes does.
 #[derive(Clone, Copy)]
@@ -22,12 +22,17 @@ struct Run {
 }
 
 /// Plays these lines with each beginning of what the server says in them, and reports what comes of it.
-pub fn tell_cuts(alloc: Global, lines: &str, told: &mut Told) -> Result<(), Failure> {
+pub fn print_cuts(alloc: Global, lines: &str, reported: &mut Reported) -> Result<(), Failure> {
     let whole = Record::of(alloc, lines, usize::MAX)?;
-    tell_runs(alloc, lines, &whole, told)
+    print_runs(alloc, lines, &whole, reported)
 }
 
-fn tell_runs(alloc: Global, lines: &str, whole: &Record, told: &mut Told) -> Result<(), Failure> {
+fn print_runs(
+    alloc: Global,
+    lines: &str,
+    whole: &Record,
+    reported: &mut Reported,
+) -> Result<(), Failure> {
     let mut run = Run {
         from: 0,
         effect: Effect {
@@ -38,11 +43,11 @@ fn tell_runs(alloc: Global, lines: &str, whole: &Record, told: &mut Told) -> Res
     for room in 0..whole.spoken {
         let effect = effect_at(alloc, lines, whole, room)?;
         if effect.place != run.effect.place || effect.stops != run.effect.stops {
-            run.tell(told, whole, room);
+            run.report(reported, whole, room);
             run = Run { from: room, effect };
         }
     }
-    run.tell(told, whole, whole.spoken);
+    run.report(reported, whole, whole.spoken);
     Ok(())
 }
 
@@ -88,28 +93,28 @@ fn is_stuck(call: &str, answer: &str) -> bool {
 
 impl Run {
     /// Reports the cuts of a run, up to this one.
-    fn tell(self, told: &mut Told, whole: &Record, end: usize) {
+    fn report(self, reported: &mut Reported, whole: &Record, end: usize) {
         if self.from >= end {
             return;
         }
-        told.begin();
-        told.number(end.saturating_sub(self.from) as u64);
-        told.text(" places, ");
-        told.number(self.from as u64);
-        told.text(" to ");
-        told.number(end.saturating_sub(1) as u64);
-        told.text(": ");
+        reported.begin();
+        reported.number(end.saturating_sub(self.from) as u64);
+        reported.text(" places, ");
+        reported.number(self.from as u64);
+        reported.text(" to ");
+        reported.number(end.saturating_sub(1) as u64);
+        reported.text(": ");
         match whole.calls.as_str().lines().nth(self.effect.place) {
             Some(call) => {
-                told.text(call);
-                told.text(if self.effect.stops {
+                reported.text(call);
+                reported.text(if self.effect.stops {
                     ": stopped, and so is each call behind it"
                 } else {
                     ": something else"
                 });
             }
-            None => told.text("as before"),
+            None => reported.text("as before"),
         }
-        told.end();
+        reported.end();
     }
 }

@@ -1,48 +1,52 @@
 //! What a server holds.
 
-use crate::answers::{tell_listing, tell_name};
+use crate::answers::{print_listing, print_name};
 use mailcore::listing::Listing;
-use mailcore::mailbox::Mailbox;
+use mailcore::mailbox::StoredMailbox;
 use mailcore::side::Side;
 use std::alloc::{AllocError, Global};
-use test_scripts::told::Told;
+use test_scripts::reported::Reported;
 
 /// What a server holds, as a client that lists it reports it.
 #[derive(Drop)]
 pub struct Held {
     /// How a client goes on whose call was cut: it connects anew, and lists the mailboxes and each of them.
-    pub calls: Told,
+    pub calls: Reported,
     /// What these calls answer from the login on.
-    pub answers: Told,
+    pub answers: Reported,
     /// For each mailbox a line with its name and what it lists.
-    pub listings: Told,
+    pub listings: Reported,
     // the bytes of all messages
-    bodies: Told,
+    bodies: Reported,
 }
 
 impl Held {
     /// Nothing so far.
     pub fn new(alloc: Global) -> Held {
         Held {
-            calls: Told::new(alloc),
-            answers: Told::new(alloc),
-            listings: Told::new(alloc),
-            bodies: Told::new(alloc),
+            calls: Reported::new(alloc),
+            answers: Reported::new(alloc),
+            listings: Reported::new(alloc),
+            bodies: Reported::new(alloc),
         }
     }
 
     /// Adds what a server with these mailboxes holds.
-    pub fn tell(&mut self, alloc: Global, mailboxes: &[Mailbox]) -> Result<(), AllocError> {
-        self.tell_names(alloc, mailboxes)?;
+    pub fn report(&mut self, alloc: Global, mailboxes: &[StoredMailbox]) -> Result<(), AllocError> {
+        self.print_names(alloc, mailboxes)?;
         for mailbox in mailboxes {
             let listing = mailbox.listing(alloc, Side::Far)?;
-            self.tell_mailbox(mailbox, &listing);
+            self.print_mailbox(mailbox, &listing);
         }
         Ok(())
     }
 
     /// The login, and the names in the order of their bytes.
-    fn tell_names(&mut self, alloc: Global, mailboxes: &[Mailbox]) -> Result<(), AllocError> {
+    fn print_names(
+        &mut self,
+        alloc: Global,
+        mailboxes: &[StoredMailbox],
+    ) -> Result<(), AllocError> {
         self.calls
             .text("into_session\nreconnect\nopen\nlogin u p\nnames\n");
         self.answers.answer("done");
@@ -56,25 +60,25 @@ impl Held {
             self.answers.text("no mailbox");
         }
         for (place, name) in names.iter().enumerate() {
-            tell_name(&mut self.answers, place, name);
+            print_name(&mut self.answers, place, name);
         }
         self.answers.end();
         Ok(())
     }
 
-    fn tell_mailbox(&mut self, mailbox: &Mailbox, listing: &Listing) {
+    fn print_mailbox(&mut self, mailbox: &StoredMailbox, listing: &Listing) {
         let name = mailbox.name.as_str();
         self.calls.text("select ");
         self.calls.text(name);
         self.calls.text("\nlist\ninto_session\n");
         self.answers.answer("done");
         self.answers.begin();
-        tell_listing(&mut self.answers, listing);
+        print_listing(&mut self.answers, listing);
         self.answers.end();
         self.answers.answer("done");
         self.listings.text(name);
         self.listings.text(": ");
-        tell_listing(&mut self.listings, listing);
+        print_listing(&mut self.listings, listing);
         self.listings.end();
         for message in mailbox.messages.as_slice() {
             self.bodies.quoted(message.bytes.as_slice());
@@ -96,18 +100,18 @@ impl Held {
     }
 
     /// Reports the mailboxes that have changed.
-    pub fn tell_change(&self, before: &Held, told: &mut Told) {
+    pub fn print_change(&self, before: &Held, reported: &mut Reported) {
         for line in self.listings.as_str().lines() {
             let mut others = before.listings.as_str().lines();
             if !others.any(|other| other == line) {
-                told.begin();
-                told.text("leaves ");
-                told.text(line);
-                told.end();
+                reported.begin();
+                reported.text("leaves ");
+                reported.text(line);
+                reported.end();
             }
         }
         if self.is_as(before) {
-            told.answer("changes nothing on the server");
+            reported.answer("changes nothing on the server");
         }
     }
 }

@@ -1,13 +1,13 @@
 //! Calls of a mailbox.
 
-use crate::answers::{tell_body, tell_done, tell_fault, tell_listing, tell_uid};
+use crate::answers::{print_body, print_done, print_listing, print_uid, report_fault};
 use imap_client::far_box::FarBox;
-use imap_commands::message::Message;
+use imap_commands::message::SentMessage;
 use imap_link::link::Link;
 use mailcore::tuid::Tuid;
 use std::alloc::Global;
 use test_scripts::failure::Failure;
-use test_scripts::told::Told;
+use test_scripts::reported::Reported;
 use test_scripts::words::Words;
 
 /// The most messages that may be removed in a call.
@@ -19,35 +19,35 @@ pub fn ask_mailbox<L: Link>(
     mailbox: &mut FarBox<L>,
     word: &str,
     line: &mut Words<'_>,
-    told: &mut Told,
+    reported: &mut Reported,
 ) -> Result<(), Failure> {
     match word {
-        "list" => list(mailbox, false, told),
-        "count" => list(mailbox, true, told),
-        "fetch" => tell_body(told, mailbox.fetch(line.uid())),
-        "find_mark" => find_mark(mailbox, line, told),
-        "append" => return append(alloc, mailbox, line, told),
-        "expunge" => return expunge(alloc, mailbox, line, told),
-        _ => change_flags(mailbox, word, line, told),
+        "list" => list(mailbox, false, reported),
+        "count" => list(mailbox, true, reported),
+        "fetch" => print_body(reported, mailbox.fetch(line.uid())),
+        "find_mark" => find_mark(mailbox, line, reported),
+        "append" => return append(alloc, mailbox, line, reported),
+        "expunge" => return expunge(alloc, mailbox, line, reported),
+        _ => change_flags(mailbox, word, line, reported),
     }
     Ok(())
 }
 
 /// What the mailbox lists, or how many messages that are.
-fn list<L: Link>(mailbox: &mut FarBox<L>, is_counted: bool, told: &mut Told) {
+fn list<L: Link>(mailbox: &mut FarBox<L>, is_counted: bool, reported: &mut Reported) {
     match mailbox.list() {
-        Ok(listing) if is_counted => told.number(listing.items.as_slice().len() as u64),
-        Ok(listing) => tell_listing(told, &listing),
-        Err(fault) => tell_fault(told, fault),
+        Ok(listing) if is_counted => reported.number(listing.items.as_slice().len() as u64),
+        Ok(listing) => print_listing(reported, &listing),
+        Err(fault) => report_fault(reported, fault),
     }
 }
 
 /// The UID under which a mark stands.
-fn find_mark<L: Link>(mailbox: &mut FarBox<L>, line: &mut Words<'_>, told: &mut Told) {
+fn find_mark<L: Link>(mailbox: &mut FarBox<L>, line: &mut Words<'_>, reported: &mut Reported) {
     let mark = Tuid::read(line.word().as_bytes());
     let from = line.number();
     match mark {
-        Some(mark) => tell_uid(told, mailbox.find_mark(mark, from)),
+        Some(mark) => print_uid(reported, mailbox.find_mark(mark, from)),
         None => line.refuse(),
     }
 }
@@ -56,11 +56,11 @@ fn append<L: Link>(
     alloc: Global,
     mailbox: &mut FarBox<L>,
     line: &mut Words<'_>,
-    told: &mut Told,
+    reported: &mut Reported,
 ) -> Result<(), Failure> {
     let flags = line.flags();
-    match Message::new(line.bytes(alloc)?) {
-        Some(message) => tell_uid(told, mailbox.append(message.octets(), flags)),
+    match SentMessage::new(line.bytes(alloc)?) {
+        Some(message) => print_uid(reported, mailbox.append(message.octets(), flags)),
         None => line.refuse(),
     }
     Ok(())
@@ -70,13 +70,13 @@ fn change_flags<L: Link>(
     mailbox: &mut FarBox<L>,
     word: &str,
     line: &mut Words<'_>,
-    told: &mut Told,
+    reported: &mut Reported,
 ) {
     let uid = line.uid();
     let flags = line.flags();
     match word {
-        "add_flags" => tell_done(told, mailbox.add_flags(uid, flags)),
-        _ => tell_done(told, mailbox.remove_flags(uid, flags)),
+        "add_flags" => print_done(reported, mailbox.add_flags(uid, flags)),
+        _ => print_done(reported, mailbox.remove_flags(uid, flags)),
     }
 }
 
@@ -84,7 +84,7 @@ fn expunge<L: Link>(
     alloc: Global,
     mailbox: &mut FarBox<L>,
     line: &mut Words<'_>,
-    told: &mut Told,
+    reported: &mut Reported,
 ) -> Result<(), Failure> {
     let mut uids = Vec::new(alloc);
     for _ in 0..MOST_REMOVED {
@@ -94,7 +94,7 @@ fn expunge<L: Link>(
         uids.push(line.uid())?;
     }
     if uids.len() <= MOST_REMOVED {
-        tell_done(told, mailbox.expunge(&uids));
+        print_done(reported, mailbox.expunge(&uids));
     }
     Ok(())
 }

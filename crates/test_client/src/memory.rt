@@ -8,7 +8,7 @@ use crate::tape::PIECE;
 use imap_server::served::are_served;
 use imap_server::server::Server;
 use mailcore::flags::Flags;
-use mailcore::mailbox::{Mailbox, Message};
+use mailcore::mailbox::{Message, StoredMailbox};
 use mailcore::octets::Octets;
 use mailcore::uid::Uid;
 use mem_link::mem_link::MemLink;
@@ -17,7 +17,7 @@ use std::alloc::Global;
 use std::mem;
 use test_scripts::failure::Failure;
 use test_scripts::mail::{read_mailbox, read_message};
-use test_scripts::told::Told;
+use test_scripts::reported::Reported;
 use test_scripts::words::Words;
 
 /// The mailboxes of a server, and a client over a link to it.
@@ -25,7 +25,7 @@ use test_scripts::words::Words;
 pub struct Memory {
     alloc: Global,
     /// The mailboxes, up to the first call.
-    pub mailboxes: Vec<Mailbox>,
+    pub mailboxes: Vec<StoredMailbox>,
     piece: usize,
     // where the link stops
     stop: Option<LinkStop>,
@@ -46,14 +46,14 @@ impl Memory {
     }
 
     /// Plays a line: one of the server, or a call, whose answer is reported.
-    pub fn play(&mut self, line: &mut Words<'_>, told: &mut Told) -> Result<(), Failure> {
+    pub fn play(&mut self, line: &mut Words<'_>, reported: &mut Reported) -> Result<(), Failure> {
         match line.word() {
             "mailbox" => self.mailboxes.push(read_mailbox(self.alloc, line)?)?,
             "message" => self.push(read_message(self.alloc, line)?)?,
             "messages" => self.fill(line.number())?,
             "body" => self.push_body(line.count())?,
             "pieces" => self.piece = line.count(),
-            word => self.call(word, line, told)?,
+            word => self.call(word, line, reported)?,
         }
         Ok(())
     }
@@ -101,14 +101,19 @@ impl Memory {
         }
     }
 
-    fn call(&mut self, word: &str, line: &mut Words<'_>, told: &mut Told) -> Result<(), Failure> {
+    fn call(
+        &mut self,
+        word: &str,
+        line: &mut Words<'_>,
+        reported: &mut Reported,
+    ) -> Result<(), Failure> {
         if self.client.is_none() {
             self.client = Some(self.connected()?);
         }
         if let Some(client) = &mut self.client {
-            told.begin();
-            client.make(word, line, told)?;
-            told.end();
+            reported.begin();
+            client.make(word, line, reported)?;
+            reported.end();
         }
         Ok(())
     }
@@ -131,7 +136,7 @@ impl Memory {
 }
 
 /// A server with these mailboxes, for the user `u` with the password `p`. `Script`: it cannot have them.
-fn server_of(alloc: Global, mailboxes: Vec<Mailbox>) -> Result<Server, Failure>
+fn server_of(alloc: Global, mailboxes: Vec<StoredMailbox>) -> Result<Server, Failure>
     ensures { IfOk result (λ server. AreServed server.server.mailboxes) }
 {
     if !are_served(&mailboxes) {

@@ -1,7 +1,7 @@
 //! Scripts of calls over a link whose other end says what the script says.
 
 use crate::client::Client;
-use crate::cuts::tell_cuts;
+use crate::cuts::print_cuts;
 use crate::memory::Memory;
 use crate::record::Record;
 use crate::stage::Stage;
@@ -11,8 +11,8 @@ use std::cell::RefCell;
 use std::mem;
 use test_scripts::failure::Failure;
 use test_scripts::play::{Player, play_all};
+use test_scripts::reported::Reported;
 use test_scripts::script::Script;
-use test_scripts::told::Told;
 use test_scripts::words::Words;
 
 /// Plays the lines of a script.
@@ -23,7 +23,7 @@ pub fn run(rt: &HostRuntime, script: &mut Script<'_>) -> Result<(), Failure> {
         tape: &tape,
         stage: Stage::new(rt.alloc(), &tape),
         over: Over::Tape,
-        lines: Told::new(rt.alloc()),
+        lines: Reported::new(rt.alloc()),
         kept: Vec::new(rt.alloc()),
     };
     play_all(rt, &mut player, script)
@@ -44,7 +44,7 @@ enum Over {
 #[derive(Drop)]
 struct Kept {
     name: String,
-    lines: Told,
+    lines: Reported,
 }
 
 /// What plays the script.
@@ -55,7 +55,7 @@ struct Calls<'r, 't> {
     stage: Stage<'t>,
     over: Over,
     // the lines of this case, with those of the one that it goes on from
-    lines: Told,
+    lines: Reported,
     kept: Vec<Kept>,
 }
 
@@ -66,19 +66,19 @@ impl Player for Calls<'_, '_> {
         }
         self.stage = Stage::new(self.rt.alloc(), self.tape);
         self.over = Over::Tape;
-        self.lines = Told::new(self.rt.alloc());
+        self.lines = Reported::new(self.rt.alloc());
         Ok(())
     }
 
     fn play(&mut self, line: &mut Words<'_>, script: &mut Script<'_>) -> Result<(), Failure> {
-        let told = &mut script.told;
+        let reported = &mut script.reported;
         match &mut self.over {
-            Over::Tape => self.play_line(line, told),
-            Over::Memory(memory) => memory.play(line, told),
+            Over::Tape => self.play_line(line, reported),
+            Over::Memory(memory) => memory.play(line, reported),
             Over::Tcp(client) => {
-                told.begin();
-                client.make(line.word(), line, told)?;
-                told.end();
+                reported.begin();
+                client.make(line.word(), line, reported)?;
+                reported.end();
                 Ok(())
             }
         }
@@ -90,7 +90,7 @@ impl Player for Calls<'_, '_> {
 }
 
 impl Calls<'_, '_> {
-    fn play_line(&mut self, line: &mut Words<'_>, told: &mut Told) -> Result<(), Failure> {
+    fn play_line(&mut self, line: &mut Words<'_>, reported: &mut Reported) -> Result<(), Failure> {
         let mut whole = *line;
         match line.word() {
             "keep" => self.keep(line.text()),
@@ -100,7 +100,7 @@ impl Calls<'_, '_> {
                 if line.word() != "everywhere" {
                     line.refuse();
                 }
-                tell_cuts(self.rt.alloc(), self.lines.as_str(), told)
+                print_cuts(self.rt.alloc(), self.lines.as_str(), reported)
             }
             word => {
                 self.lines.text(whole.text());
@@ -108,7 +108,7 @@ impl Calls<'_, '_> {
                 if self.lines.is_lost() {
                     return Err(Failure::NoMemory);
                 }
-                self.make(word, line, told)
+                self.make(word, line, reported)
             }
         }
     }
@@ -116,7 +116,7 @@ impl Calls<'_, '_> {
     /// Keeps the case by this name.
     fn keep(&mut self, name: &str) -> Result<(), Failure> {
         let name = String::from_str(self.rt.alloc(), name)?;
-        let lines = mem::replace(&mut self.lines, Told::new(self.rt.alloc()));
+        let lines = mem::replace(&mut self.lines, Reported::new(self.rt.alloc()));
         Ok(self.kept.push(Kept { name, lines })?)
     }
 
@@ -146,14 +146,19 @@ impl Calls<'_, '_> {
     }
 
     /// Takes a line of what goes over the link, or makes a call.
-    fn make(&mut self, word: &str, line: &mut Words<'_>, told: &mut Told) -> Result<(), Failure> {
+    fn make(
+        &mut self,
+        word: &str,
+        line: &mut Words<'_>,
+        reported: &mut Reported,
+    ) -> Result<(), Failure> {
         if self.stage.talk(word, line)? {
             return Ok(());
         }
-        told.begin();
-        self.stage.call(word, line, told)?;
-        told.end();
-        let _ = self.stage.end_call(told)?;
+        reported.begin();
+        self.stage.call(word, line, reported)?;
+        reported.end();
+        let _ = self.stage.end_call(reported)?;
         Ok(())
     }
 }

@@ -5,30 +5,30 @@ use crate::tape::Tape;
 use std::alloc::Global;
 use std::cell::RefCell;
 use test_scripts::failure::Failure;
-use test_scripts::told::Told;
+use test_scripts::reported::Reported;
 use test_scripts::words::Words;
 
 /// The calls of a script that were made, and what came of them.
 #[derive(Drop)]
 pub struct Record {
     /// Each call, in a line.
-    pub calls: Told,
+    pub calls: Reported,
     /// The answer of each, in a line, and `(sent)` where anything was sent.
-    pub answers: Told,
+    pub answers: Reported,
     /// How many bytes the server has said.
     pub spoken: usize,
     // what was sent or not, against what the script says
-    amiss: Told,
+    amiss: Reported,
 }
 
 impl Record {
     /// No call.
     pub fn new(alloc: Global) -> Record {
         Record {
-            calls: Told::new(alloc),
-            answers: Told::new(alloc),
+            calls: Reported::new(alloc),
+            answers: Reported::new(alloc),
             spoken: 0,
-            amiss: Told::new(alloc),
+            amiss: Reported::new(alloc),
         }
     }
 

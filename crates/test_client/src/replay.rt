@@ -5,18 +5,18 @@ use crate::memory::Memory;
 use mem_link::schedule::LinkStop;
 use std::alloc::Global;
 use test_scripts::failure::Failure;
-use test_scripts::told::Told;
+use test_scripts::reported::Reported;
 use test_scripts::words::Words;
 
 /// What came of calls.
 #[derive(Drop)]
 pub struct Came {
     /// The answers of the calls before the last one.
-    pub earlier: Told,
+    pub earlier: Reported,
     /// The answer of the last one.
-    pub last: Told,
+    pub last: Reported,
     /// The answers of those that look what stands then.
-    pub look: Told,
+    pub look: Reported,
     /// What the server holds after them.
     pub held: Held,
     /// How many calls of the link have stopped.
@@ -32,9 +32,9 @@ pub fn replay(
     stop: Option<LinkStop>,
 ) -> Result<Came, Failure> {
     let mut came = Came {
-        earlier: Told::new(alloc),
-        last: Told::new(alloc),
-        look: Told::new(alloc),
+        earlier: Reported::new(alloc),
+        last: Reported::new(alloc),
+        look: Reported::new(alloc),
         held: Held::new(alloc),
         stops: 0,
     };
@@ -61,9 +61,9 @@ impl Came {
         match memory.take_link() {
             Some(link) => {
                 self.stops = link.stops();
-                self.held.tell(alloc, link.server().mailboxes())?;
+                self.held.report(alloc, link.server().mailboxes())?;
             }
-            None => self.held.tell(alloc, &memory.mailboxes)?,
+            None => self.held.report(alloc, &memory.mailboxes)?,
         }
         if self.is_lost() {
             return Err(Failure::NoMemory);
@@ -76,10 +76,10 @@ impl Came {
     }
 }
 
-fn play_lines(memory: &mut Memory, lines: &str, told: &mut Told) -> Result<(), Failure> {
+fn play_lines(memory: &mut Memory, lines: &str, reported: &mut Reported) -> Result<(), Failure> {
     for line in lines.lines() {
         let mut words = Words::new(line.as_bytes());
-        memory.play(&mut words, told)?;
+        memory.play(&mut words, reported)?;
         words.end()?;
     }
     Ok(())

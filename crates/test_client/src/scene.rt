@@ -6,7 +6,7 @@ use crate::tally::{Cut, Tally};
 use mem_link::schedule::LinkStop;
 use std::alloc::Global;
 use test_scripts::failure::Failure;
-use test_scripts::told::Told;
+use test_scripts::reported::Reported;
 
 /// A call, and what stands in its case before it.
 #[derive(Clone, Copy)]
@@ -30,29 +30,30 @@ struct Unbroken<'a> {
 
 impl Scene<'_> {
     /// Reports what comes of the call, unbroken and cut.
-    pub fn tell(self, told: &mut Told) -> Result<(), Failure> {
+    pub fn report(self, reported: &mut Reported) -> Result<(), Failure> {
         let before = replay(self.alloc, self.lines, "", "", None)?;
-        self.tell_behind(&before.held, told)
+        self.report_after(&before.held, reported)
     }
 
-    fn tell_behind(self, before: &Held, told: &mut Told) -> Result<(), Failure> {
+    fn report_after(self, before: &Held, reported: &mut Reported) -> Result<(), Failure> {
         let whole = replay(self.alloc, self.lines, self.call, "", None)?;
         let unbroken = Unbroken {
             before,
             whole: &whole,
         };
-        self.tell_cuts(unbroken, told)
+        self.print_cuts(unbroken, reported)
     }
 
     /// `Script`: a call of the link stops without a cut.
-    fn tell_cuts(self, unbroken: Unbroken<'_>, told: &mut Told) -> Result<(), Failure> {
+    fn print_cuts(self, unbroken: Unbroken<'_>, reported: &mut Reported) -> Result<(), Failure> {
         if unbroken.whole.stops > 0 {
             return Err(Failure::Script);
         }
-        told.text(unbroken.whole.last.as_str());
-        unbroken.whole.held.tell_change(unbroken.before, told);
-        self.cut_each(unbroken, true)?.tell(told, "sent: ");
-        self.cut_each(unbroken, false)?.tell(told, "received: ");
+        reported.text(unbroken.whole.last.as_str());
+        unbroken.whole.held.print_change(unbroken.before, reported);
+        self.cut_each(unbroken, true)?.report(reported, "sent: ");
+        self.cut_each(unbroken, false)?
+            .report(reported, "received: ");
         Ok(())
     }
 
@@ -84,7 +85,7 @@ impl Scene<'_> {
         let is_earlier = cut.earlier.as_str() != whole.earlier.as_str();
         let is_as_whole = cut.last.as_str() == whole.last.as_str();
         if cut.stops == 0 {
-            Ok(Cut::Behind(stands && !is_earlier && is_as_whole))
+            Ok(Cut::Following(stands && !is_earlier && is_as_whole))
         } else if is_earlier {
             Ok(Cut::Earlier)
         } else if cut.last.as_str() != "  Stopped\n" {

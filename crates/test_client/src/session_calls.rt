@@ -3,11 +3,11 @@
 ghost use Rattle.std.specs.Prelude.{◌≡◌, IsTrue};
 ghost use Rattle.imap_client.specs.Requests.{IsWord};
 
-use crate::answers::{tell_done, tell_fault, tell_name};
+use crate::answers::{print_done, print_name, report_fault};
 use imap_client::session::Session;
 use imap_link::link::Link;
 use mailcore::mailbox_name::MailboxName;
-use test_scripts::told::Told;
+use test_scripts::reported::Reported;
 use test_scripts::words::Words;
 use wire_strings::line_text::all_text;
 
@@ -16,45 +16,45 @@ pub fn ask_session<L: Link>(
     session: &mut Session<L>,
     word: &str,
     line: &mut Words<'_>,
-    told: &mut Told,
+    reported: &mut Reported,
 ) {
     match word {
-        "reconnect" => tell_done(told, session.reconnect()),
-        "login" => login(session, line, told),
-        "create" => create(session, line, told),
+        "reconnect" => print_done(reported, session.reconnect()),
+        "login" => login(session, line, reported),
+        "create" => create(session, line, reported),
         _ => match session.list() {
-            Ok(names) => tell_names(told, &names),
-            Err(fault) => tell_fault(told, fault),
+            Ok(names) => print_names(reported, &names),
+            Err(fault) => report_fault(reported, fault),
         },
     }
 }
 
-fn login<L: Link>(session: &mut Session<L>, line: &mut Words<'_>, told: &mut Told) {
+fn login<L: Link>(session: &mut Session<L>, line: &mut Words<'_>, reported: &mut Reported) {
     let user = line.word().as_bytes();
     let password = line.text().as_bytes();
     if is_word(user) && is_word(password) {
-        tell_done(told, session.login(user, password));
+        print_done(reported, session.login(user, password));
     } else {
         line.refuse();
     }
 }
 
-fn create<L: Link>(session: &mut Session<L>, line: &mut Words<'_>, told: &mut Told) {
+fn create<L: Link>(session: &mut Session<L>, line: &mut Words<'_>, reported: &mut Reported) {
     let name = line.text().as_bytes();
     if is_word(name) {
-        tell_done(told, session.create(name));
+        print_done(reported, session.create(name));
     } else {
         line.refuse();
     }
 }
 
 /// The names of mailboxes, each between quotes, or `no mailbox`.
-fn tell_names(told: &mut Told, names: &[MailboxName]) {
+fn print_names(reported: &mut Reported, names: &[MailboxName]) {
     if names.is_empty() {
-        told.text("no mailbox");
+        reported.text("no mailbox");
     }
     for (place, name) in names.iter().enumerate() {
-        tell_name(told, place, name.as_str());
+        print_name(reported, place, name.as_str());
     }
 }
 

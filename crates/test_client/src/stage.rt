@@ -6,7 +6,7 @@ use crate::tape::Tape;
 use std::alloc::Global;
 use std::cell::RefCell;
 use test_scripts::failure::Failure;
-use test_scripts::told::Told;
+use test_scripts::reported::Reported;
 use test_scripts::words::Words;
 
 /// A client, and the tape that its link goes over.
@@ -38,17 +38,17 @@ impl<'t> Stage<'t> {
         &mut self,
         word: &str,
         line: &mut Words<'_>,
-        told: &mut Told,
+        reported: &mut Reported,
     ) -> Result<(), Failure> {
-        self.client.make(word, line, told)
+        self.client.make(word, line, reported)
     }
 
     /// Ends a call. Reports what was sent in it though the script does not say so, and what was not, though it does. Returns whether
     /// anything was sent.
-    pub fn end_call(&self, told: &mut Told) -> Result<bool, Failure> {
+    pub fn end_call(&self, reported: &mut Reported) -> Result<bool, Failure> {
         match self.tape.try_borrow_mut() {
             Ok(mut tape) if tape.is_lost() => Err(Failure::NoMemory),
-            Ok(mut tape) => Ok(tape.end_call(told)),
+            Ok(mut tape) => Ok(tape.end_call(reported)),
             Err(_) => Err(Failure::Script),
         }
     }

@@ -1,6 +1,6 @@
 //! What came of the cuts of a call.
 
-use test_scripts::told::Told;
+use test_scripts::reported::Reported;
 
 /// What a cut does.
 #[derive(Clone, Copy)]
@@ -14,7 +14,7 @@ pub enum Cut {
     /// Something is not as it must be; this text says what.
     Wrong(&'static str),
     /// The call needs no more bytes, and comes to what it does without a cut, or does not.
-    Behind(bool),
+    Following(bool),
 }
 
 /// What came of the cuts of a call in one direction.
@@ -40,15 +40,15 @@ impl Tally {
     /// Counts a cut after so many bytes; returns whether it is after the last of them.
     pub fn add(&mut self, place: usize, cut: Cut) -> bool {
         match cut {
-            Cut::Earlier | Cut::Behind(true) => {}
+            Cut::Earlier | Cut::Following(true) => {}
             Cut::WithEffect => self.with_effect = self.with_effect.saturating_add(1),
             Cut::Without => self.without = self.without.saturating_add(1),
             Cut::Wrong(wrong) => self.add_wrong(place, wrong),
-            Cut::Behind(false) => {
+            Cut::Following(false) => {
                 self.add_wrong(place, "it is not cut, and answers something else")
             }
         }
-        matches!(cut, Cut::Behind(_))
+        matches!(cut, Cut::Following(_))
     }
 
     fn add_wrong(&mut self, place: usize, wrong: &'static str) {
@@ -59,26 +59,26 @@ impl Tally {
     }
 
     /// Reports what came of the cuts in this direction.
-    pub fn tell(&self, told: &mut Told, direction: &str) {
+    pub fn report(&self, reported: &mut Reported, direction: &str) {
         let cuts = self.with_effect.saturating_add(self.without);
-        told.begin();
-        told.text(direction);
-        told.number(cuts.saturating_add(self.wrong) as u64);
-        told.text(" cuts, ");
-        told.number(self.with_effect as u64);
-        told.text(" with the effect and ");
-        told.number(self.without as u64);
-        told.text(" without it: ");
+        reported.begin();
+        reported.text(direction);
+        reported.number(cuts.saturating_add(self.wrong) as u64);
+        reported.text(" cuts, ");
+        reported.number(self.with_effect as u64);
+        reported.text(" with the effect and ");
+        reported.number(self.without as u64);
+        reported.text(" without it: ");
         match self.first {
-            None => told.text("as it must be"),
+            None => reported.text("as it must be"),
             Some((place, wrong)) => {
-                told.number(self.wrong as u64);
-                told.text(" WRONG, the first behind ");
-                told.number(place as u64);
-                told.text(" bytes: ");
-                told.text(wrong);
+                reported.number(self.wrong as u64);
+                reported.text(" WRONG, the first behind ");
+                reported.number(place as u64);
+                reported.text(" bytes: ");
+                reported.text(wrong);
             }
         }
-        told.end();
+        reported.end();
     }
 }

@@ -5,7 +5,7 @@ ghost use Rattle.std.specs.Prelude.{◌≤◌, length};
 use std::alloc::{AllocError, Global};
 use std::mem;
 use test_scripts::failure::Failure;
-use test_scripts::told::Told;
+use test_scripts::reported::Reported;
 use test_scripts::words::Words;
 
 /// The most bytes of a piece where a script does not say it.
@@ -168,10 +168,10 @@ impl Tape {
 
     /// The call has ended. Reports what was sent in it though the server does not wait for it, and what was not, though it does. Returns
     /// whether anything was sent.
-    pub fn end_call(&mut self, told: &mut Told) -> bool {
-        tell_lines(told, "sent ", &self.sent);
+    pub fn end_call(&mut self, reported: &mut Reported) -> bool {
+        print_lines(reported, "sent ", &self.sent);
         for turn in self.turns.iter().skip(self.came) {
-            tell_lines(told, "did not send ", &turn.awaited);
+            print_lines(reported, "did not send ", &turn.awaited);
         }
         self.turns.clear();
         self.came = 0;
@@ -193,17 +193,17 @@ impl Tape {
 }
 
 /// An answer for each line in these bytes, after these words.
-fn tell_lines(told: &mut Told, words: &str, bytes: &[u8]) {
+fn print_lines(reported: &mut Reported, words: &str, bytes: &[u8]) {
     for line in bytes.split_inclusive(|byte| *byte == b'\n') {
-        told.begin();
-        told.text(words);
+        reported.begin();
+        reported.text(words);
         match line.strip_suffix(b"\r\n") {
-            Some(text) => told.bytes(text),
+            Some(text) => reported.bytes(text),
             None => {
-                told.bytes(line);
-                told.text(" (no CR LF)");
+                reported.bytes(line);
+                reported.text(" (no CR LF)");
             }
         }
-        told.end();
+        reported.end();
     }
 }

@@ -4,17 +4,17 @@ use config::read::read_config;
 use config_advice::advice::advice;
 use std::alloc::Global;
 use test_scripts::failure::Failure;
-use test_scripts::told::Told;
+use test_scripts::reported::Reported;
 
 /// Prints what to do about a text that is no configuration.
-pub fn tell_advice(alloc: Global, told: &mut Told, text: &[u8]) -> Result<(), Failure> {
+pub fn print_advice(alloc: Global, reported: &mut Reported, text: &[u8]) -> Result<(), Failure> {
     let Err(fault) = read_config(alloc, text) else {
-        told.answer("nothing");
+        reported.answer("nothing");
         return Ok(());
     };
     let lines = advice(alloc, "FILE", text, fault)?;
     for line in lines.as_str().split('\n').skip(1) {
-        told.answer(line);
+        reported.answer(line);
     }
     Ok(())
 }

@@ -1,14 +1,14 @@
 //! How a script of command lines is played.
 
-use crate::requests::tell_request;
+use crate::requests::print_request;
 use command_line::fault::UsageFault;
 use command_line::read::read_words;
-use command_line::tell::tell;
+use command_line::report::report;
 use std::alloc::Global;
 use test_scripts::failure::Failure;
 use test_scripts::play::{Player, play_all};
+use test_scripts::reported::Reported;
 use test_scripts::script::Script;
-use test_scripts::told::Told;
 use test_scripts::words::Words;
 
 /// Plays a script of command lines.
@@ -28,8 +28,8 @@ impl Player for Shell {
     fn play(&mut self, line: &mut Words<'_>, script: &mut Script<'_>) -> Result<(), Failure> {
         let text = line.text();
         match text.strip_prefix("closed ") {
-            Some(text) => tell_line(self.0, &mut script.told, text, true),
-            None => tell_line(self.0, &mut script.told, text, false),
+            Some(text) => print_line(self.0, &mut script.reported, text, true),
+            None => print_line(self.0, &mut script.reported, text, false),
         }
     }
 
@@ -39,16 +39,21 @@ impl Player for Shell {
 }
 
 /// Prints what a command line asks for, or why it asks for nothing. Where all is closed nothing can be written of it.
-fn tell_line(alloc: Global, told: &mut Told, line: &str, is_closed: bool) -> Result<(), Failure> {
+fn print_line(
+    alloc: Global,
+    reported: &mut Reported,
+    line: &str,
+    is_closed: bool,
+) -> Result<(), Failure> {
     let words = line.split(' ').map(word_of).collect::<Vec<_>>(alloc)?;
     if words.first().copied() != Some("mbsync") {
         return Err(Failure::Script);
     }
     match read_words(alloc, &words) {
-        Ok(request) => tell_request(alloc, told, &request),
+        Ok(request) => print_request(alloc, reported, &request),
         Err(UsageFault::NoMemory) => Err(Failure::NoMemory),
         Err(fault) => {
-            tell_fault(alloc, told, &fault, is_closed);
+            report_fault(alloc, reported, &fault, is_closed);
             Ok(())
         }
     }
@@ -60,30 +65,30 @@ fn word_of(word: &str) -> &str {
 }
 
 /// Prints what is written of words that name no request, and the status.
-fn tell_fault(alloc: Global, told: &mut Told, fault: &UsageFault, is_closed: bool) {
+fn report_fault(alloc: Global, reported: &mut Reported, fault: &UsageFault, is_closed: bool) {
     let mut out = Vec::new(alloc);
     let mut err = Vec::new(alloc);
     let status = if is_closed {
-        tell(fault, &mut [].as_mut_slice(), &mut [].as_mut_slice())
+        report(fault, &mut [].as_mut_slice(), &mut [].as_mut_slice())
     } else {
-        tell(fault, &mut out, &mut err)
+        report(fault, &mut out, &mut err)
     };
-    tell_lines(told, "out:", &out);
-    tell_lines(told, "err:", &err);
-    told.begin();
-    told.text("status ");
-    told.number(u64::from(status));
-    told.end();
+    print_lines(reported, "out:", &out);
+    print_lines(reported, "err:", &err);
+    reported.begin();
+    reported.text("status ");
+    reported.number(u64::from(status));
+    reported.end();
 }
 
 /// Prints each line that was written, after the name of where it was.
-fn tell_lines(told: &mut Told, name: &str, bytes: &[u8]) {
+fn print_lines(reported: &mut Reported, name: &str, bytes: &[u8]) {
     let text = str::from_utf8(bytes).unwrap_or("(no text)");
     for line in text.lines() {
-        told.begin();
-        told.text(name);
-        told.text(if line.is_empty() { "" } else { " " });
-        told.text(line);
-        told.end();
+        reported.begin();
+        reported.text(name);
+        reported.text(if line.is_empty() { "" } else { " " });
+        reported.text(line);
+        reported.end();
     }
 }

@@ -6,61 +6,61 @@ use config_words::fault::{ConfigFault, FaultKind};
 use rules::options::{Cells, Sides};
 use std::alloc::Global;
 use test_scripts::failure::Failure;
-use test_scripts::told::Told;
+use test_scripts::reported::Reported;
 
 /// Prints what a text says as a configuration, or its fault.
-pub fn tell_read(alloc: Global, told: &mut Told, text: &[u8]) -> Result<(), Failure> {
+pub fn print_read(alloc: Global, reported: &mut Reported, text: &[u8]) -> Result<(), Failure> {
     match read_config(alloc, text) {
         Ok(config) => {
-            tell_config(told, &config);
+            print_config(reported, &config);
             Ok(())
         }
-        Err(fault) => tell_fault(told, fault),
+        Err(fault) => report_fault(reported, fault),
     }
 }
 
-fn tell_fault(told: &mut Told, fault: ConfigFault) -> Result<(), Failure> {
+fn report_fault(reported: &mut Reported, fault: ConfigFault) -> Result<(), Failure> {
     if fault.kind == FaultKind::NoMemory {
         return Err(Failure::NoMemory);
     }
-    told.begin();
-    told.text("line ");
-    told.number(fault.line as u64);
-    told.text(" kind ");
-    told.number(u64::from(fault.kind.number()));
-    told.text(" (");
-    told.shown(&fault.kind);
-    told.text(")");
-    told.end();
+    reported.begin();
+    reported.text("line ");
+    reported.number(fault.line as u64);
+    reported.text(" kind ");
+    reported.number(u64::from(fault.kind.number()));
+    reported.text(" (");
+    reported.shown(&fault.kind);
+    reported.text(")");
+    reported.end();
     Ok(())
 }
 
-fn tell_config(told: &mut Told, config: &Config) {
+fn print_config(reported: &mut Reported, config: &Config) {
     for store in &config.imap_stores {
-        told.begin();
-        add(told, &["imap store ", store.name.as_str()]);
-        add(told, &[": host ", store.host.as_str(), " port "]);
-        told.number(u64::from(store.port));
-        add(told, &[" user ", store.user.as_str()]);
-        add(told, &[" pass ", store.pass.as_str()]);
-        told.end();
+        reported.begin();
+        add(reported, &["imap store ", store.name.as_str()]);
+        add(reported, &[": host ", store.host.as_str(), " port "]);
+        reported.number(u64::from(store.port));
+        add(reported, &[" user ", store.user.as_str()]);
+        add(reported, &[" pass ", store.pass.as_str()]);
+        reported.end();
     }
     for store in &config.maildir_stores {
-        told.begin();
-        add(told, &["maildir store ", store.name.as_str()]);
-        add(told, &[": path ", store.path.as_str()]);
-        add(told, &[" inbox ", store.inbox.as_str()]);
-        told.end();
+        reported.begin();
+        add(reported, &["maildir store ", store.name.as_str()]);
+        add(reported, &[": path ", store.path.as_str()]);
+        add(reported, &[" inbox ", store.inbox.as_str()]);
+        reported.end();
     }
     for channel in &config.channels {
-        tell_channel(told, config, channel);
+        print_channel(reported, config, channel);
     }
     for group in &config.groups {
-        tell_group(told, config, group);
+        print_group(reported, config, group);
     }
 }
 
-fn tell_channel(told: &mut Told, config: &Config, channel: &Channel) {
+fn print_channel(reported: &mut Reported, config: &Config, channel: &Channel) {
     let far = match config.imap_stores.get(channel.far) {
         Some(store) => store.name.as_str(),
         None => "?",
@@ -69,37 +69,37 @@ fn tell_channel(told: &mut Told, config: &Config, channel: &Channel) {
         Some(store) => store.name.as_str(),
         None => "?",
     };
-    told.begin();
-    add(told, &["channel ", channel.name.as_str()]);
-    add(told, &[": far ", far, " near ", near]);
-    add_boxes(told, &channel.boxes);
-    add_cells(told, channel.cells);
-    add(told, &[" create ", sides_word(channel.create)]);
-    add(told, &[" expunge ", sides_word(channel.expunge)]);
+    reported.begin();
+    add(reported, &["channel ", channel.name.as_str()]);
+    add(reported, &[": far ", far, " near ", near]);
+    add_boxes(reported, &channel.boxes);
+    add_cells(reported, channel.cells);
+    add(reported, &[" create ", sides_word(channel.create)]);
+    add(reported, &[" expunge ", sides_word(channel.expunge)]);
     for keyword in channel.keywords.as_slice() {
-        told.text(" keyword ");
-        told.bytes(&[keyword.letter, b' ']);
-        told.bytes(keyword.name.as_slice());
+        reported.text(" keyword ");
+        reported.bytes(&[keyword.letter, b' ']);
+        reported.bytes(keyword.name.as_slice());
     }
-    told.end();
+    reported.end();
 }
 
-fn add_boxes(told: &mut Told, boxes: &Boxes) {
+fn add_boxes(reported: &mut Reported, boxes: &Boxes) {
     match boxes {
         Boxes::Pair { far, near } => {
-            add(told, &[" boxes ", far.as_str(), " and ", near.as_str()]);
+            add(reported, &[" boxes ", far.as_str(), " and ", near.as_str()]);
         }
         Boxes::Matching(patterns) => {
-            told.text(" patterns");
+            reported.text(" patterns");
             for word in patterns.as_slice() {
-                add(told, &[" ", word.as_str()]);
+                add(reported, &[" ", word.as_str()]);
             }
         }
     }
 }
 
 /// Adds the words of the cells that are chosen, or `all` or `none`.
-fn add_cells(told: &mut Told, cells: Cells) {
+fn add_cells(reported: &mut Reported, cells: Cells) {
     let words = [
         (cells.new.pull, " PullNew"),
         (cells.gone.pull, " PullGone"),
@@ -108,13 +108,13 @@ fn add_cells(told: &mut Told, cells: Cells) {
         (cells.gone.push, " PushGone"),
         (cells.flags.push, " PushFlags"),
     ];
-    told.text(" sync");
+    reported.text(" sync");
     match words.iter().filter(|(is_on, _)| *is_on).count() {
-        0 => told.text(" none"),
-        6 => told.text(" all"),
+        0 => reported.text(" none"),
+        6 => reported.text(" all"),
         _ => {
             for (is_on, word) in words {
-                told.text(if is_on { word } else { "" });
+                reported.text(if is_on { word } else { "" });
             }
         }
     }
@@ -129,22 +129,22 @@ fn sides_word(sides: Sides) -> &'static str {
     }
 }
 
-fn tell_group(told: &mut Told, config: &Config, group: &Group) {
-    told.begin();
-    add(told, &["group ", group.name.as_str(), ":"]);
+fn print_group(reported: &mut Reported, config: &Config, group: &Group) {
+    reported.begin();
+    add(reported, &["group ", group.name.as_str(), ":"]);
     for place in &group.channels {
         let channel = match config.channels.get(*place) {
             Some(channel) => channel.name.as_str(),
             None => "?",
         };
-        add(told, &[" ", channel]);
+        add(reported, &[" ", channel]);
     }
-    told.end();
+    reported.end();
 }
 
 /// Adds texts as they stand.
-fn add(told: &mut Told, texts: &[&str]) {
+fn add(reported: &mut Reported, texts: &[&str]) {
     for text in texts {
-        told.text(text);
+        reported.text(text);
     }
 }

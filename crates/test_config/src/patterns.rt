@@ -3,22 +3,22 @@
 use box_patterns::patterns::{Pattern, Patterns, matches};
 use std::alloc::Global;
 use test_scripts::failure::Failure;
-use test_scripts::told::Told;
+use test_scripts::reported::Reported;
 
 /// Of `WORD .. : NAME ..` prints for each name whether the words choose it.
-pub fn tell_chosen(alloc: Global, told: &mut Told, text: &str) -> Result<(), Failure> {
+pub fn print_chosen(alloc: Global, reported: &mut Reported, text: &str) -> Result<(), Failure> {
     let (words, names) = text.split_once(" : ").ok_or(Failure::Script)?;
     let mut patterns = Patterns::new(alloc);
     add_words(alloc, &mut patterns, words)?;
     for name in names.split(' ') {
-        told.begin();
-        told.text(name);
-        told.text(if matches(&patterns, name) {
+        reported.begin();
+        reported.text(name);
+        reported.text(if matches(&patterns, name) {
             " yes"
         } else {
             " no"
         });
-        told.end();
+        reported.end();
     }
     Ok(())
 }

@@ -1,13 +1,13 @@
 //! How a script of configurations is played.
 
-use crate::advised::tell_advice;
-use crate::configs::tell_read;
-use crate::patterns::tell_chosen;
+use crate::advised::print_advice;
+use crate::configs::print_read;
+use crate::patterns::print_chosen;
 use std::alloc::Global;
 use test_scripts::failure::Failure;
 use test_scripts::play::{Player, play_all};
+use test_scripts::reported::Reported;
 use test_scripts::script::Script;
-use test_scripts::told::Told;
 use test_scripts::words::Words;
 
 /// Plays a script of configurations.
@@ -23,7 +23,7 @@ pub fn run(rt: &HostRuntime, script: &mut Script<'_>) -> Result<(), Failure> {
 #[derive(Drop)]
 struct Short {
     name: String,
-    text: Told,
+    text: Reported,
 }
 
 /// The lines that stand for others.
@@ -41,15 +41,19 @@ impl Player for Shorts {
     fn play(&mut self, line: &mut Words<'_>, script: &mut Script<'_>) -> Result<(), Failure> {
         match line.word() {
             "let" => self.keep(line),
-            "read" => self.read(line.text(), 0, &mut script.told),
-            "advise" => self.advise(line.text(), &mut script.told),
+            "read" => self.read(line.text(), 0, &mut script.reported),
+            "advise" => self.advise(line.text(), &mut script.reported),
             "long" => {
                 let letters = line.count();
-                self.read(line.text(), letters, &mut script.told)
+                self.read(line.text(), letters, &mut script.reported)
             }
-            "bytes" => tell_read(self.alloc, &mut script.told, &line.bytes(self.alloc)?),
-            "advise_bytes" => tell_advice(self.alloc, &mut script.told, &line.bytes(self.alloc)?),
-            "choose" => tell_chosen(self.alloc, &mut script.told, line.text()),
+            "bytes" => print_read(self.alloc, &mut script.reported, &line.bytes(self.alloc)?),
+            "advise_bytes" => print_advice(
+                self.alloc,
+                &mut script.reported,
+                &line.bytes(self.alloc)?,
+            ),
+            "choose" => print_chosen(self.alloc, &mut script.reported, line.text()),
             _ => Err(Failure::Script),
         }
     }
@@ -68,28 +72,28 @@ impl Shorts {
     }
 
     /// Prints what the configuration of these lines says.
-    fn read(&self, lines: &str, letters: usize, told: &mut Told) -> Result<(), Failure> {
+    fn read(&self, lines: &str, letters: usize, reported: &mut Reported) -> Result<(), Failure> {
         let text = self.text_of(lines, letters);
         if text.is_lost() {
             Err(Failure::NoMemory)
         } else {
-            tell_read(self.alloc, told, text.as_str().as_bytes())
+            print_read(self.alloc, reported, text.as_str().as_bytes())
         }
     }
 
     /// Prints what to do about the configuration of these lines.
-    fn advise(&self, lines: &str, told: &mut Told) -> Result<(), Failure> {
+    fn advise(&self, lines: &str, reported: &mut Reported) -> Result<(), Failure> {
         let text = self.text_of(lines, 0);
         if text.is_lost() {
             Err(Failure::NoMemory)
         } else {
-            tell_advice(self.alloc, told, text.as_str().as_bytes())
+            print_advice(self.alloc, reported, text.as_str().as_bytes())
         }
     }
 
     /// The text of lines that stand between `|`, in which `~~` stands for so many letters.
-    fn text_of(&self, lines: &str, letters: usize) -> Told {
-        let mut text = Told::new(self.alloc);
+    fn text_of(&self, lines: &str, letters: usize) -> Reported {
+        let mut text = Reported::new(self.alloc);
         for line in lines.split('|') {
             let line = line.strip_prefix(" ").unwrap_or(line);
             let line = line.strip_suffix(" ").unwrap_or(line);
@@ -114,14 +118,14 @@ impl Shorts {
 }
 
 /// Adds a line, in which `~~` stands for so many letters.
-fn add_line(text: &mut Told, line: &str, letters: usize) {
+fn add_line(text: &mut Reported, line: &str, letters: usize) {
     match line.split_once("~~") {
-        Some((before, behind)) => {
+        Some((before, following)) => {
             text.text(before);
             for _ in 0..letters {
                 text.text("x");
             }
-            text.text(behind);
+            text.text(following);
         }
         None => text.text(line),
     }

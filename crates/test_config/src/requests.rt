@@ -1,28 +1,32 @@
 //! What is printed of requests.
 
 use config::cells::{CellsFault, cells};
-use config::request::{Chosen, Request};
+use config::request::{Chosen, RunRequest};
 use rules::options::{Cells, Directions};
 use std::alloc::Global;
 use test_scripts::failure::Failure;
-use test_scripts::told::Told;
+use test_scripts::reported::Reported;
 
 /// Prints what a request asks for, on one line.
-pub fn tell_request(alloc: Global, told: &mut Told, request: &Request) -> Result<(), Failure> {
-    told.begin();
-    add_chosen(told, &request.chosen);
+pub fn print_request(
+    alloc: Global,
+    reported: &mut Reported,
+    request: &RunRequest,
+) -> Result<(), Failure> {
+    reported.begin();
+    add_chosen(reported, &request.chosen);
     if let Some(file) = &request.file {
-        told.text(", file");
-        add_name(told, file.as_str());
+        reported.text(", file");
+        add_name(reported, file.as_str());
     }
     if request.lists {
-        told.text(", only listed");
+        reported.text(", only listed");
     }
-    let is_whole = add_sync(alloc, told, request);
+    let is_whole = add_sync(alloc, reported, request);
     if request.expunges {
-        told.text(", expunge both");
+        reported.text(", expunge both");
     }
-    told.end();
+    reported.end();
     if is_whole {
         Ok(())
     } else {
@@ -30,55 +34,55 @@ pub fn tell_request(alloc: Global, told: &mut Told, request: &Request) -> Result
     }
 }
 
-fn add_chosen(told: &mut Told, chosen: &Chosen) {
+fn add_chosen(reported: &mut Reported, chosen: &Chosen) {
     match chosen {
-        Chosen::All => told.text("all channels"),
+        Chosen::All => reported.text("all channels"),
         Chosen::Named(names) => {
-            told.text("channels");
+            reported.text("channels");
             for name in names {
-                add_name(told, name.as_str());
+                add_name(reported, name.as_str());
             }
         }
     }
 }
 
-fn add_name(told: &mut Told, name: &str) {
-    told.text(" '");
-    told.text(name);
-    told.text("'");
+fn add_name(reported: &mut Reported, name: &str) {
+    reported.text(" '");
+    reported.text(name);
+    reported.text("'");
 }
 
 /// Adds the Sync words, if there are some, and the cells that they choose. False: memory ran out.
-fn add_sync(alloc: Global, told: &mut Told, request: &Request) -> bool {
+fn add_sync(alloc: Global, reported: &mut Reported, request: &RunRequest) -> bool {
     if !request.sync_words.is_empty() {
-        told.text(", sync");
+        reported.text(", sync");
     }
     for word in &request.sync_words {
-        told.text(" ");
-        told.bytes(word.text());
+        reported.text(" ");
+        reported.bytes(word.text());
     }
     match cells(alloc, &request.sync_words) {
         Ok(None) => true,
         Ok(Some(cells)) => {
-            add_cells(told, cells);
+            add_cells(reported, cells);
             true
         }
         Err(CellsFault::Refused(_)) => {
-            told.text(" (refused)");
+            reported.text(" (refused)");
             true
         }
         Err(CellsFault::NoMemory) => false,
     }
 }
 
-fn add_cells(told: &mut Told, cells: Cells) {
-    told.text(" (new ");
-    told.text(ways(cells.new));
-    told.text(", gone ");
-    told.text(ways(cells.gone));
-    told.text(", flags ");
-    told.text(ways(cells.flags));
-    told.text(")");
+fn add_cells(reported: &mut Reported, cells: Cells) {
+    reported.text(" (new ");
+    reported.text(ways(cells.new));
+    reported.text(", gone ");
+    reported.text(ways(cells.gone));
+    reported.text(", flags ");
+    reported.text(ways(cells.flags));
+    reported.text(")");
 }
 
 fn ways(on: Directions) -> &'static str {

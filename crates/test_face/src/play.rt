@@ -6,8 +6,8 @@ use mailcore::tuid::Tuid;
 use std::alloc::Global;
 use test_scripts::failure::Failure;
 use test_scripts::play::{Player, play_all};
+use test_scripts::reported::Reported;
 use test_scripts::script::Script;
-use test_scripts::told::Told;
 use test_scripts::words::Words;
 
 /// In pieces of so many bytes the replies come, too.
@@ -58,18 +58,18 @@ impl Player for Faces {
             }
             "send" => {
                 let bytes = line.bytes(self.alloc)?;
-                tell_sent(&self.sending.send(&bytes)?, &mut script.told);
+                print_sent(&self.sending.send(&bytes)?, &mut script.reported);
                 return Ok(());
             }
             "copy" => {
-                tell_sent(&self.copy(line)?, &mut script.told);
+                print_sent(&self.copy(line)?, &mut script.reported);
                 return Ok(());
             }
             "connect" => return self.sending.reconnect(),
-            "times" => return tell_often(self.alloc, line, &mut script.told),
+            "times" => return print_often(self.alloc, line, &mut script.reported),
             _ => return Err(Failure::Script),
         };
-        tell_heard(self.alloc, &bytes, &mut script.told)
+        print_heard(self.alloc, &bytes, &mut script.reported)
     }
 
     fn finish(&mut self) -> Result<(), Failure> {
@@ -78,14 +78,18 @@ impl Player for Faces {
 }
 
 /// Reports what the server gets.
-fn tell_sent(sent: &[u8], told: &mut Told) {
+fn print_sent(sent: &[u8], reported: &mut Reported) {
     for line in sent.split(|b| *b == b'\n') {
-        tell_line(told, "", line);
+        print_line(reported, "", line);
     }
 }
 
 /// Reports how much a client hears if one line comes so often.
-fn tell_often(alloc: Global, line: &mut Words<'_>, told: &mut Told) -> Result<(), Failure> {
+fn print_often(
+    alloc: Global,
+    line: &mut Words<'_>,
+    reported: &mut Reported,
+) -> Result<(), Failure> {
     let count = line.count();
     let text = line.rest();
     let mut bytes = Vec::new(alloc);
@@ -94,89 +98,94 @@ fn tell_often(alloc: Global, line: &mut Words<'_>, told: &mut Told) -> Result<()
         bytes.extend_from_slice(b"\r\n")?;
     }
     let heard = Hearing::of(alloc, &bytes, usize::MAX)?;
-    told.begin();
-    told.number(heard.bytes.len() as u64);
-    told.text(" bytes");
-    told.end();
-    tell_end(&heard, told);
+    reported.begin();
+    reported.number(heard.bytes.len() as u64);
+    reported.text(" bytes");
+    reported.end();
+    print_end(&heard, reported);
     Ok(())
 }
 
 /// Reports what a client hears if these bytes come.
-fn tell_heard(alloc: Global, bytes: &[u8], told: &mut Told) -> Result<(), Failure> {
+fn print_heard(alloc: Global, bytes: &[u8], reported: &mut Reported) -> Result<(), Failure> {
     let heard = Hearing::of(alloc, bytes, usize::MAX)?;
     if heard.bytes.is_empty() {
-        told.answer("nothing");
+        reported.answer("nothing");
     }
     for reply in heard.bytes.split(|b| *b == b'\n') {
-        tell_line(told, "", reply);
+        print_line(reported, "", reply);
     }
-    tell_end(&heard, told);
+    print_end(&heard, reported);
     for name in &heard.skipped {
-        tell_line(told, "skips ", name);
+        print_line(reported, "skips ", name);
     }
     if let Some(text) = &heard.last {
-        tell_line(told, "says ", text);
+        print_line(reported, "says ", text);
     }
     for alert in &heard.alerts {
-        tell_line(told, "alerts ", alert);
+        print_line(reported, "alerts ", alert);
     }
-    tell_pieces(alloc, bytes, &heard, told)?;
-    tell_cuts(alloc, bytes, &heard, told)
+    print_pieces(alloc, bytes, &heard, reported)?;
+    print_cuts(alloc, bytes, &heard, reported)
 }
 
 /// Reports whether the link gave up, and over which reply.
-fn tell_end(heard: &Hearing, told: &mut Told) {
+fn print_end(heard: &Hearing, reported: &mut Reported) {
     if heard.gave_up {
-        told.answer("gives up");
+        reported.answer("gives up");
     }
     if let Some(text) = &heard.unread {
-        tell_line(told, "cannot read ", text);
+        print_line(reported, "cannot read ", text);
     }
 }
 
 /// Reports where other bytes are heard if these come in pieces.
-fn tell_pieces(
+fn print_pieces(
     alloc: Global,
     bytes: &[u8],
     whole: &Hearing,
-    told: &mut Told,
+    reported: &mut Reported,
 ) -> Result<(), Failure> {
     for piece in PIECES {
         let heard = Hearing::of(alloc, bytes, piece)?;
         if heard.bytes != whole.bytes || heard.gave_up != whole.gave_up {
-            told.begin();
-            told.text("otherwise in pieces of ");
-            told.number(piece as u64);
-            told.end();
+            reported.begin();
+            reported.text("otherwise in pieces of ");
+            reported.number(piece as u64);
+            reported.end();
         }
     }
     Ok(())
 }
 
 /// Reports where bytes that are cut give other bytes than a beginning.
-fn tell_cuts(alloc: Global, bytes: &[u8], whole: &Hearing, told: &mut Told) -> Result<(), Failure> {
+fn print_cuts(
+    alloc: Global,
+    bytes: &[u8],
+    whole: &Hearing,
+    reported: &mut Reported,
+) -> Result<(), Failure> {
     if bytes.len() >= CUT_MAX {
         return Ok(());
     }
     for len in 0..bytes.len() {
         let heard = Hearing::of(alloc, bytes.get(..len).unwrap_or_default(), usize::MAX)?;
         if !whole.bytes.starts_with(&heard.bytes) {
-            told.begin();
-            told.text("otherwise if cut at ");
-            told.number(len as u64);
-            told.end();
+            reported.begin();
+            reported.text("otherwise if cut at ");
+            reported.number(len as u64);
+            reported.end();
         }
     }
     Ok(())
 }
 
 /// A line of words and bytes, unless it is empty.
-fn tell_line(told: &mut Told, words: &str, bytes: &[u8]) {
+fn print_line(reported: &mut Reported, words: &str, bytes: &[u8]) {
     if !bytes.is_empty() {
-        told.begin();
-        told.text(words);
-        told.quoted(bytes);
-        told.end();
+        reported.begin();
+        reported.text(words);
+        reported.quoted(bytes);
+        reported.end();
     }
 }

@@ -1,9 +1,9 @@
 //! What stands near in a whole run: a mailbox in a folder, and a shelf, in memory.
 
 use book::mem_shelf::MemShelf;
-use book::shelf::File;
+use book::shelf::ShelfFile;
 use mailcore::keywords::Keywords;
-use mailcore::mailbox::Mailbox;
+use mailcore::mailbox::StoredMailbox;
 use mailcore::mailbox_name::MailboxName;
 use maildir::mem_folder::MemFolder;
 use rules::state::SyncState;
@@ -13,7 +13,7 @@ use std::alloc::Global;
 use sync_state::fault::BookFault;
 use test_scripts::failure::Failure;
 use test_scripts::mail::read_message;
-use test_scripts::told::Told;
+use test_scripts::reported::Reported;
 use test_scripts::words::Words;
 
 /// What stands near.
@@ -22,7 +22,7 @@ pub(crate) enum Near {
     /// Nothing.
     Nothing,
     /// The mailbox that the lines of the script say, up to the first run.
-    Said(Mailbox),
+    Said(StoredMailbox),
     /// What a run has left.
     Left(Devices),
 }
@@ -42,7 +42,7 @@ impl Near {
         let validity = line.number();
         let next = line.number();
         let name = MailboxName::inbox(alloc)?;
-        Ok(Near::Said(Mailbox::new(alloc, name, validity, next)))
+        Ok(Near::Said(StoredMailbox::new(alloc, name, validity, next)))
     }
 
     /// `UID FLAGS "BYTES"`: adds a message. `Script`: there is no mailbox that lines say, or the UID is not above the others and below
@@ -65,20 +65,24 @@ impl Near {
     }
 
     /// Adds the bytes of a file of the shelf, or that it is missing. `Script`: there was no run.
-    pub(crate) fn tell_file(&self, file: File, told: &mut Told) -> Result<(), Failure> {
+    pub(crate) fn print_file(
+        &self,
+        file: ShelfFile,
+        reported: &mut Reported,
+    ) -> Result<(), Failure> {
         let Near::Left(devices) = self else {
             return Err(Failure::Script);
         };
         match devices.shelf.bytes(file) {
-            Some(bytes) => told.quoted(bytes),
-            None => told.text("missing"),
+            Some(bytes) => reported.quoted(bytes),
+            None => reported.text("missing"),
         }
         Ok(())
     }
 }
 
 /// A folder with this mailbox, and a shelf without state and journal.
-fn devices_with(alloc: Global, mailbox: Mailbox) -> Result<Devices, Failure> {
+fn devices_with(alloc: Global, mailbox: StoredMailbox) -> Result<Devices, Failure> {
     let (waiting, schedule) = (Vec::new(alloc), Vec::new(alloc));
     let folder = folder_with(alloc, mailbox, waiting, schedule, &Keywords::new(alloc))?;
     let state = SyncState::none(alloc);

@@ -1,14 +1,14 @@
 //! How the lines of a case are played.
 
-use crate::cuts::tell_cuts;
+use crate::cuts::print_cuts;
 use crate::stage::Stage;
 use std::alloc::Global;
 use std::cell::RefCell;
 use test_client::tape::Tape;
 use test_scripts::failure::Failure;
 use test_scripts::play::{Player, play_all};
+use test_scripts::reported::Reported;
 use test_scripts::script::Script;
-use test_scripts::told::Told;
 use test_scripts::words::Words;
 
 /// Plays the runs of a script.
@@ -19,7 +19,7 @@ pub fn run(rt: &HostRuntime, script: &mut Script<'_>) -> Result<(), Failure> {
         alloc,
         tape: &tape,
         stage: Stage::new(alloc, &tape),
-        lines: Told::new(alloc),
+        lines: Reported::new(alloc),
     };
     play_all(rt, &mut runs, script)
 }
@@ -30,7 +30,7 @@ struct Runs<'t> {
     alloc: Global,
     tape: &'t RefCell<Tape>,
     stage: Stage<'t>,
-    lines: Told,
+    lines: Reported,
 }
 
 impl Player for Runs<'_> {
@@ -39,18 +39,18 @@ impl Player for Runs<'_> {
             tape.begin_anew();
         }
         self.stage = Stage::new(self.alloc, self.tape);
-        self.lines = Told::new(self.alloc);
+        self.lines = Reported::new(self.alloc);
         Ok(())
     }
 
     fn play(&mut self, line: &mut Words<'_>, script: &mut Script<'_>) -> Result<(), Failure> {
         let mut whole = *line;
         match line.word() {
-            "cut" => self.cut(line, &mut script.told),
+            "cut" => self.cut(line, &mut script.reported),
             word => {
                 self.lines.text(whole.text());
                 self.lines.end();
-                self.play_line(word, line, &mut script.told)
+                self.play_line(word, line, &mut script.reported)
             }
         }
     }
@@ -61,24 +61,24 @@ impl Player for Runs<'_> {
 }
 
 impl Runs<'_> {
-    fn cut(&self, line: &mut Words<'_>, told: &mut Told) -> Result<(), Failure> {
+    fn cut(&self, line: &mut Words<'_>, reported: &mut Reported) -> Result<(), Failure> {
         if line.word() != "everywhere" {
             line.refuse();
         }
         if self.lines.is_lost() {
             return Err(Failure::NoMemory);
         }
-        tell_cuts(self.alloc, self.lines.as_str(), told)
+        print_cuts(self.alloc, self.lines.as_str(), reported)
     }
 
     fn play_line(
         &mut self,
         word: &str,
         line: &mut Words<'_>,
-        told: &mut Told,
+        reported: &mut Reported,
     ) -> Result<(), Failure> {
-        if self.stage.play(word, line, told)? {
-            self.stage.end_run(told)?;
+        if self.stage.play(word, line, reported)? {
+            self.stage.end_run(reported)?;
         }
         Ok(())
     }

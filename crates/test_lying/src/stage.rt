@@ -2,7 +2,7 @@
 
 use crate::near::{Devices, Near};
 use crate::whole_run::{account, settle};
-use book::shelf::File;
+use book::shelf::ShelfFile;
 use far_side::far_side::FarSide;
 use mailcore::keywords::Keywords;
 use std::alloc::Global;
@@ -11,7 +11,7 @@ use std::mem;
 use test_client::script_link::ScriptLink;
 use test_client::tape::Tape;
 use test_scripts::failure::Failure;
-use test_scripts::told::Told;
+use test_scripts::reported::Reported;
 use test_scripts::words::Words;
 
 /// The tape that a run's link goes over, and what stands near.
@@ -37,14 +37,14 @@ impl<'t> Stage<'t> {
         &mut self,
         word: &str,
         line: &mut Words<'_>,
-        told: &mut Told,
+        reported: &mut Reported,
     ) -> Result<bool, Failure> {
         match word {
             "near" => self.near = Near::read(self.alloc, line)?,
             "message" => self.near.push(self.alloc, line)?,
-            "settle" => self.settle(told)?,
-            "state" => self.tell_file(File::State, told)?,
-            "journal" => self.tell_file(File::Journal, told)?,
+            "settle" => self.settle(reported)?,
+            "state" => self.print_file(ShelfFile::State, reported)?,
+            "journal" => self.print_file(ShelfFile::Journal, reported)?,
             _ => self.talk(word, line)?,
         }
         Ok(word == "settle")
@@ -63,36 +63,36 @@ impl<'t> Stage<'t> {
         }
     }
 
-    fn settle(&mut self, told: &mut Told) -> Result<(), Failure> {
+    fn settle(&mut self, reported: &mut Reported) -> Result<(), Failure> {
         let near = mem::replace(&mut self.near, Near::Nothing);
         let devices = near.devices(self.alloc)?;
-        told.begin();
-        self.near = Near::Left(self.run_over(devices, told)?);
-        told.end();
+        reported.begin();
+        self.near = Near::Left(self.run_over(devices, reported)?);
+        reported.end();
         Ok(())
     }
 
     /// Makes a run over a new link.
-    fn run_over(&self, devices: Devices, told: &mut Told) -> Result<Devices, Failure> {
+    fn run_over(&self, devices: Devices, reported: &mut Reported) -> Result<Devices, Failure> {
         let account = account(self.alloc)?;
         let link = ScriptLink::new(self.tape);
         let far = FarSide::new(self.alloc, account, link, Keywords::new(self.alloc));
-        Ok(settle(self.alloc, far, devices, told))
+        Ok(settle(self.alloc, far, devices, reported))
     }
 
-    fn tell_file(&self, file: File, told: &mut Told) -> Result<(), Failure> {
-        told.begin();
-        self.near.tell_file(file, told)?;
-        told.end();
+    fn print_file(&self, file: ShelfFile, reported: &mut Reported) -> Result<(), Failure> {
+        reported.begin();
+        self.near.print_file(file, reported)?;
+        reported.end();
         Ok(())
     }
 
     /// Ends a run. Reports what was sent in it though the script does not say so, and what was not, though it does.
-    pub(crate) fn end_run(&self, told: &mut Told) -> Result<(), Failure> {
+    pub(crate) fn end_run(&self, reported: &mut Reported) -> Result<(), Failure> {
         match self.tape.try_borrow_mut() {
             Ok(tape) if tape.is_lost() => Err(Failure::NoMemory),
             Ok(mut tape) => {
-                tape.end_call(told);
+                tape.end_call(reported);
                 Ok(())
             }
             Err(_) => Err(Failure::Script),

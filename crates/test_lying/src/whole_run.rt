@@ -13,14 +13,14 @@ use reports::answer::answer_word;
 use reports::performed::PerformedLine;
 use rules::options;
 use rules::options::{Cells, Directions, Options};
-use run_both::sides::Sides;
+use run_both::sides::BothSides;
 use run_trial::attempts::settle_trial;
 use runner::fault::RunFault;
 use runner::pass::{Pass, Settled};
 use runner::performed::Performed;
 use std::alloc::{AllocError, Global};
 use std::num::NonZeroU32;
-use test_scripts::told::Told;
+use test_scripts::reported::Reported;
 
 /// Everything is propagated, and nothing is expunged. Only the six flags have a name.
 fn everything(alloc: Global) -> Options
@@ -51,19 +51,19 @@ pub(crate) fn settle<L: Link + Drop>(
     alloc: Global,
     far: FarSide<L>,
     devices: Devices,
-    told: &mut Told,
+    reported: &mut Reported,
 ) -> Devices
     requires { far.far.keywords ≡ [] }
 {
     let Devices { folder, shelf } = devices;
-    let sides = Sides { far, folder, shelf };
+    let sides = BothSides { far, folder, shelf };
     // The folder has a meta file, so that this is of no use.
     let fresh = NonZeroU32::MIN;
     let both = sides.together(alloc, fresh, Keywords::new(alloc));
     let options = everything(alloc);
     let (outside, settled) = settle_over(alloc, both, &options);
-    tell_settled(told, settled);
-    let Sides { folder, shelf, .. } = Sides::of(outside);
+    print_settled(reported, settled);
+    let BothSides { folder, shelf, .. } = BothSides::of(outside);
     Devices { folder, shelf }
 }
 
@@ -88,55 +88,55 @@ pub(crate) fn account(alloc: Global) -> Result<Account, AllocError> {
 }
 
 /// Adds the word of the answer and the steps that were performed, or the fault by its name.
-fn tell_settled(told: &mut Told, settled: Result<Settled, RunFault>) {
+fn print_settled(reported: &mut Reported, settled: Result<Settled, RunFault>) {
     match settled {
         Ok(Settled { last, .. }) => {
-            told.text(answer_word(&last));
+            reported.text(answer_word(&last));
             match &last {
                 Pass::Already => {}
                 Pass::Ran(performed, _) | Pass::Finished(performed) => {
-                    tell_performed(told, performed);
+                    print_performed(reported, performed);
                 }
             }
         }
-        Err(fault) => tell_fault(told, fault),
+        Err(fault) => report_fault(reported, fault),
     }
 }
 
-fn tell_performed(told: &mut Told, performed: &[Performed]) {
+fn print_performed(reported: &mut Reported, performed: &[Performed]) {
     for one in performed {
-        told.text("; ");
-        told.shown(&PerformedLine(one));
+        reported.text("; ");
+        reported.shown(&PerformedLine(one));
     }
 }
 
 /// A fault by its name, with its side and its numbers.
-fn tell_fault(told: &mut Told, fault: RunFault) {
+fn report_fault(reported: &mut Reported, fault: RunFault) {
     match fault {
-        RunFault::Stopped => told.text("Stopped"),
-        RunFault::Refused(step) => tell_number(told, "Refused", step as u64),
-        RunFault::ValidityChanged(side) => tell_side(told, "ValidityChanged", side),
-        RunFault::BadState(line) => tell_number(told, "BadState", line as u64),
-        RunFault::BadJournal(line) => tell_number(told, "BadJournal", line as u64),
+        RunFault::Stopped => reported.text("Stopped"),
+        RunFault::Refused(step) => print_number(reported, "Refused", step as u64),
+        RunFault::ValidityChanged(side) => print_side(reported, "ValidityChanged", side),
+        RunFault::BadState(line) => print_number(reported, "BadState", line as u64),
+        RunFault::BadJournal(line) => print_number(reported, "BadJournal", line as u64),
         RunFault::StoreFault(side, number) => {
-            tell_side(told, "StoreFault", side);
-            told.text(" ");
-            told.number(u64::from(number));
+            print_side(reported, "StoreFault", side);
+            reported.text(" ");
+            reported.number(u64::from(number));
         }
-        RunFault::MarksRepeat => told.text("MarksRepeat"),
-        RunFault::NoMemory => told.text("NoMemory"),
-        RunFault::KeywordsChanged => told.text("KeywordsChanged"),
+        RunFault::MarksRepeat => reported.text("MarksRepeat"),
+        RunFault::NoMemory => reported.text("NoMemory"),
+        RunFault::KeywordsChanged => reported.text("KeywordsChanged"),
     }
 }
 
-fn tell_side(told: &mut Told, name: &str, side: Side) {
-    told.text(name);
-    told.text(" ");
-    told.text(side.as_str());
+fn print_side(reported: &mut Reported, name: &str, side: Side) {
+    reported.text(name);
+    reported.text(" ");
+    reported.text(side.as_str());
 }
 
-fn tell_number(told: &mut Told, name: &str, number: u64) {
-    told.text(name);
-    told.text(" ");
-    told.number(number);
+fn print_number(reported: &mut Reported, name: &str, number: u64) {
+    reported.text(name);
+    reported.text(" ");
+    reported.number(number);
 }

@@ -7,8 +7,8 @@ use std::os::unix::fs::{DirBuilderExt, PermissionsExt, symlink};
 use std::os::unix::net::UnixListener;
 use std::{fs, io};
 use test_scripts::failure::Failure;
+use test_scripts::reported::Reported;
 use test_scripts::script::Script;
-use test_scripts::told::Told;
 use test_scripts::words::Words;
 
 /// Plays a line with this first word.
@@ -22,7 +22,7 @@ pub fn play_on_disk(
     match word {
         "put" => put(rt, line),
         "create" => create(rt),
-        "kind" => Ok(tell_kind(rt, line.word(), &mut script.told)?),
+        "kind" => Ok(print_kind(rt, line.word(), &mut script.reported)?),
         _ => match change(rt, word, line) {
             Some(done) => Ok(done?),
             None => seat.play(rt, word, line, script),
@@ -72,18 +72,18 @@ fn make_socket(rt: &HostRuntime, path: &str) -> io::Result<()> {
 }
 
 /// Prints what stands there, and of a file or a folder who may use it.
-fn tell_kind(rt: &HostRuntime, path: &str, told: &mut Told) -> io::Result<()> {
+fn print_kind(rt: &HostRuntime, path: &str, reported: &mut Reported) -> io::Result<()> {
     let found = fs::symlink_metadata(rt, path)?;
-    told.begin();
-    told.text(word_of(found.file_type()));
+    reported.begin();
+    reported.text(word_of(found.file_type()));
     if found.is_file() || found.is_dir() {
         let mode = found.permissions().mode();
-        told.text(" ");
+        reported.text(" ");
         for shift in [6, 3, 0] {
-            told.number(u64::from((mode >> shift) & 7));
+            reported.number(u64::from((mode >> shift) & 7));
         }
     }
-    told.end();
+    reported.end();
     Ok(())
 }
 

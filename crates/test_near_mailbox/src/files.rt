@@ -1,6 +1,6 @@
 //! What stands in a folder, seen from outside its mailbox.
 
-use crate::stopped_at::tell_notes;
+use crate::stopped_at::print_notes;
 use maildir::disk_folder::DiskFolder;
 use maildir::folder::{Folder, Place};
 use maildir::mem_folder::MemFolder;
@@ -8,7 +8,7 @@ use maildir::visited_folder::VisitedFolder;
 use std::alloc::{AllocError, Global};
 use std::fs;
 use test_scripts::failure::Failure;
-use test_scripts::told::Told;
+use test_scripts::reported::Reported;
 
 /// A file that stands in a folder.
 #[derive(Drop)]
@@ -24,7 +24,7 @@ pub trait OpenFolder: Folder + Drop {
     fn stop_count(&self) -> usize;
 
     /// Prints where it stopped and which files it left out, as far as it notes that.
-    fn tell_notes(&self, told: &mut Told);
+    fn print_notes(&self, reported: &mut Reported);
 
     /// Adds all files that stand there, in any order.
     fn add_files(&self, rt: &HostRuntime, files: &mut Vec<Standing>) -> Result<(), Failure>;
@@ -36,7 +36,7 @@ impl OpenFolder for MemFolder {
     }
 
     /// It notes nothing.
-    fn tell_notes(&self, _: &mut Told) {}
+    fn print_notes(&self, _: &mut Reported) {}
 
     fn add_files(&self, rt: &HostRuntime, files: &mut Vec<Standing>) -> Result<(), Failure> {
         let alloc = rt.alloc();
@@ -66,7 +66,7 @@ impl OpenFolder for VisitedFolder<0> {
     }
 
     /// It notes nothing.
-    fn tell_notes(&self, _: &mut Told) {}
+    fn print_notes(&self, _: &mut Reported) {}
 
     /// Those of which the names were read.
     fn add_files(&self, rt: &HostRuntime, files: &mut Vec<Standing>) -> Result<(), Failure> {
@@ -79,8 +79,8 @@ impl OpenFolder for DiskFolder<HostRuntime> {
         self.stops()
     }
 
-    fn tell_notes(&self, told: &mut Told) {
-        tell_notes(told, self);
+    fn print_notes(&self, reported: &mut Reported) {
+        print_notes(reported, self);
     }
 
     /// The process stands in the folder.
@@ -139,51 +139,51 @@ pub fn gather<F: OpenFolder>(
 }
 
 /// Prints files, each as ` PATH "BYTES"`.
-pub fn tell_files(told: &mut Told, files: &[Standing]) {
+pub fn print_files(reported: &mut Reported, files: &[Standing]) {
     for file in files {
-        told.text(" ");
-        tell_file(told, file);
+        reported.text(" ");
+        print_file(reported, file);
     }
 }
 
-fn tell_file(told: &mut Told, file: &Standing) {
-    told.bytes(&file.path);
-    told.text(" ");
-    told.quoted(&file.bytes);
+fn print_file(reported: &mut Reported, file: &Standing) {
+    reported.bytes(&file.path);
+    reported.text(" ");
+    reported.quoted(&file.bytes);
 }
 
 /// Prints what is otherwise than before: ` -PATH` for a file that has gone, ` +PATH "BYTES"` for one that has come or has other
 /// bytes; ` as before` where nothing is.
-pub fn tell_changes(told: &mut Told, before: &[Standing], now: &[Standing]) {
-    let gone = tell_gone(told, before, now);
-    let come = tell_come(told, before, now);
+pub fn print_changes(reported: &mut Reported, before: &[Standing], now: &[Standing]) {
+    let gone = print_gone(reported, before, now);
+    let come = print_come(reported, before, now);
     if !gone && !come {
-        told.text(" as before");
+        reported.text(" as before");
     }
 }
 
-fn tell_gone(told: &mut Told, before: &[Standing], now: &[Standing]) -> bool {
-    let mut is_told = false;
+fn print_gone(reported: &mut Reported, before: &[Standing], now: &[Standing]) -> bool {
+    let mut is_reported = false;
     for file in before {
         if bytes_at(now, &file.path).is_none() {
-            told.text(" -");
-            told.bytes(&file.path);
-            is_told = true;
+            reported.text(" -");
+            reported.bytes(&file.path);
+            is_reported = true;
         }
     }
-    is_told
+    is_reported
 }
 
-fn tell_come(told: &mut Told, before: &[Standing], now: &[Standing]) -> bool {
-    let mut is_told = false;
+fn print_come(reported: &mut Reported, before: &[Standing], now: &[Standing]) -> bool {
+    let mut is_reported = false;
     for file in now {
         if bytes_at(before, &file.path) != Some(file.bytes.as_slice()) {
-            told.text(" +");
-            tell_file(told, file);
-            is_told = true;
+            reported.text(" +");
+            print_file(reported, file);
+            is_reported = true;
         }
     }
-    is_told
+    is_reported
 }
 
 fn bytes_at<'a>(files: &'a [Standing], path: &[u8]) -> Option<&'a [u8]> {

@@ -8,7 +8,7 @@
 //! | Line | Answer |
 //! |---|---|
 //! | `folder memory` | an empty folder in memory |
-//! | `folder memory stops STOP` | the same, where one call of the folder stops: STOP is `before CALL K`, `after CALL K` or `behind B CALL K`, in the K-th call of this name, after B bytes of it |
+//! | `folder memory stops STOP` | the same, where one call of the folder stops: STOP is `before CALL K`, `after CALL K` or `following B CALL K`, in the K-th call of this name, after B bytes of it |
 //! | `folder visited` | an empty folder in memory, to which others add files |
 //! | `folder disk` | an empty folder on a disk, among the temporary files. Paths are read from it from now on |
 //! | `folder at PATH` | a folder that stands on a disk already; nothing of it is changed by that |

@@ -1,6 +1,6 @@
 //! Operations on many messages, of which the answer is short.
 
-use crate::operation::{read_uids, tell_done, tell_fault};
+use crate::operation::{print_done, read_uids, report_fault};
 use mailcore::copy_pieces::{CopyHead, CopyPieces};
 use mailcore::flags::Flags;
 use mailcore::side::LineEnd;
@@ -9,7 +9,7 @@ use mailcore::tuid::{TUID_LENGTH, Tuid};
 use maildir::folder::Folder;
 use near_box::{NearBox, NearFault};
 use std::alloc::{AllocError, Global};
-use test_scripts::told::Told;
+use test_scripts::reported::Reported;
 use test_scripts::words::Words;
 
 /// What is copied.
@@ -31,17 +31,17 @@ pub fn count<F: Folder>(
     alloc: Global,
     near: &mut NearBox<F>,
     line: &mut Words<'_>,
-    told: &mut Told,
+    reported: &mut Reported,
 ) -> Option<NearFault> {
     let Ok(spared) = spared(alloc, line) else {
         return Some(NearFault::NoMemory);
     };
     match near.list_sparing(&spared) {
         Ok(listing) => {
-            told.number(listing.items.as_slice().len() as u64);
+            reported.number(listing.items.as_slice().len() as u64);
             None
         }
-        Err(fault) => tell_fault(told, fault),
+        Err(fault) => report_fault(reported, fault),
     }
 }
 
@@ -79,7 +79,7 @@ fn numbers(alloc: Global, line: &mut Words<'_>) -> Result<Vec<u32>, AllocError> 
 pub fn append_copies<F: Folder>(
     near: &mut NearBox<F>,
     copies: u32,
-    told: &mut Told,
+    reported: &mut Reported,
 ) -> Option<NearFault> {
     let Some(mark) = mark_of(0) else {
         return None;
@@ -88,17 +88,17 @@ pub fn append_copies<F: Folder>(
     for _ in 0..copies {
         let copy = CopyPieces::new(&head, MESSAGE);
         if let Err(fault) = near.append_copy(copy, Flags::none()) {
-            return tell_fault(told, fault);
+            return report_fault(reported, fault);
         }
     }
-    tell_done(told, near.sync())
+    print_done(reported, near.sync())
 }
 
 /// Prints how many of so many marks are found, as a pull that was stopped seeks its copies.
 pub fn find_marks<F: Folder>(
     near: &mut NearBox<F>,
     marks: u32,
-    told: &mut Told,
+    reported: &mut Reported,
 ) -> Option<NearFault> {
     let mut found = 0u64;
     for number in 1..=marks {
@@ -108,10 +108,10 @@ pub fn find_marks<F: Folder>(
         match near.find_mark(mark, 1) {
             Ok(Some(_)) => found = found.saturating_add(1),
             Ok(None) => {}
-            Err(fault) => return tell_fault(told, fault),
+            Err(fault) => return report_fault(reported, fault),
         }
     }
-    told.number(found);
+    reported.number(found);
     None
 }
 

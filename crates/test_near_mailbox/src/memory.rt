@@ -1,18 +1,18 @@
 //! Folders in memory.
 
-use crate::operation::tell_done;
+use crate::operation::print_done;
 use crate::seat::Seat;
 use crate::stop::read_stop;
 use crate::trial::try_stops;
-use device::schedule::Stop;
+use device::schedule::CallStop;
 use mailcore::octets::Octets;
 use maildir::folder::{File, Place};
 use maildir::mem_folder::{FolderCall, MemFolder};
 use near_box::NearFault;
 use std::alloc::{AllocError, Global};
 use test_scripts::failure::Failure;
+use test_scripts::reported::Reported;
 use test_scripts::script::Script;
-use test_scripts::told::Told;
 use test_scripts::words::Words;
 
 /// A folder in memory, and what further ones are made of: each has the same files, and a stop of its own.
@@ -20,7 +20,7 @@ use test_scripts::words::Words;
 pub struct Memory {
     // The lines that say what stands in a new folder.
     lines: Vec<u8>,
-    stop: Option<Stop<FolderCall>>,
+    stop: Option<CallStop<FolderCall>>,
     seat: Seat<MemFolder>,
 }
 
@@ -51,10 +51,10 @@ impl Memory {
     ) -> Result<(), Failure> {
         match word {
             "put" | "hide" if self.seat.is_empty() => Ok(self.keep(word, line)?),
-            "try" => try_stops(rt, self, line, &mut script.told),
+            "try" => try_stops(rt, self, line, &mut script.reported),
             "arrive" => {
                 self.make(rt.alloc())?;
-                self.arrive(rt.alloc(), line, &mut script.told)
+                self.arrive(rt.alloc(), line, &mut script.reported)
             }
             _ => {
                 self.make(rt.alloc())?;
@@ -78,7 +78,7 @@ impl Memory {
         &mut self,
         alloc: Global,
         line: &mut Words<'_>,
-        told: &mut Told,
+        reported: &mut Reported,
     ) -> Result<(), Failure> {
         let name = Octets::from_vec(Vec::from_slice(alloc, line.word().as_bytes())?);
         let bytes = Octets::from_vec(line.bytes(alloc)?);
@@ -86,9 +86,9 @@ impl Memory {
             return Err(Failure::Script);
         };
         let answer = folder.inner_mut().arrive(name, bytes);
-        told.begin();
-        let fault = tell_done(told, answer.map_err(NearFault::from));
-        told.end();
+        reported.begin();
+        let fault = print_done(reported, answer.map_err(NearFault::from));
+        reported.end();
         if fault == Some(NearFault::NoMemory) {
             return Err(Failure::NoMemory);
         }
@@ -107,7 +107,7 @@ impl Memory {
     pub fn new_seat(
         &self,
         alloc: Global,
-        stop: Option<Stop<FolderCall>>,
+        stop: Option<CallStop<FolderCall>>,
     ) -> Result<Seat<MemFolder>, Failure> {
         let mut schedule = Vec::new(alloc);
         if let Some(stop) = stop {

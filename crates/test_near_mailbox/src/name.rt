@@ -3,42 +3,42 @@
 use maildir::letters::flags_in;
 use maildir::name::{Name, read_name, write_name};
 use std::alloc::{AllocError, Global};
-use test_scripts::told::Told;
+use test_scripts::reported::Reported;
 
 /// Prints what the name of a file says, and how it is written.
-pub fn tell_name(alloc: Global, text: &[u8], told: &mut Told) -> Result<(), AllocError> {
+pub fn print_name(alloc: Global, text: &[u8], reported: &mut Reported) -> Result<(), AllocError> {
     let Some(name) = read_name(text) else {
-        told.answer("no name");
+        reported.answer("no name");
         return Ok(());
     };
     let written = write_name(alloc, &name)?;
-    told.text("  base ");
-    told.quoted(name.base);
-    tell_parts(told, &name);
+    reported.text("  base ");
+    reported.quoted(name.base);
+    print_parts(reported, &name);
     if let Some(letters) = name.letters {
-        told.text(", flags ");
-        told.flags(flags_in(letters));
+        reported.text(", flags ");
+        reported.flags(flags_in(letters));
     }
-    told.text(", written ");
-    told.quoted(&written);
-    told.end();
+    reported.text(", written ");
+    reported.quoted(&written);
+    reported.end();
     Ok(())
 }
 
 /// Prints the UID and the letters of a name.
-pub fn tell_parts(told: &mut Told, name: &Name<'_>) {
+pub fn print_parts(reported: &mut Reported, name: &Name<'_>) {
     match name.uid {
         Some(uid) => {
-            told.text(", UID ");
-            told.number(u64::from(uid.get()));
+            reported.text(", UID ");
+            reported.number(u64::from(uid.get()));
         }
-        None => told.text(", no UID"),
+        None => reported.text(", no UID"),
     }
     match name.letters {
         Some(letters) => {
-            told.text(", letters ");
-            told.quoted(letters);
+            reported.text(", letters ");
+            reported.quoted(letters);
         }
-        None => told.text(", no letters"),
+        None => reported.text(", no letters"),
     }
 }

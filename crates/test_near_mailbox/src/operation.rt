@@ -9,7 +9,7 @@ use maildir::folder::Folder;
 use near_box::{NearBox, NearFault};
 use std::alloc::{AllocError, Global};
 use test_scripts::failure::Failure;
-use test_scripts::told::Told;
+use test_scripts::reported::Reported;
 use test_scripts::words::Words;
 use texts::number::read_u32;
 
@@ -19,24 +19,24 @@ pub fn perform<F: Folder>(
     near: &mut NearBox<F>,
     word: &str,
     line: &mut Words<'_>,
-    told: &mut Told,
+    reported: &mut Reported,
 ) -> Option<NearFault> {
     match word {
-        "admit" => tell_done(told, near.admit()),
-        "list" => tell_listing(told, near.list()),
-        "count" => count(alloc, near, line, told),
-        "fetch" => tell_bytes(told, near.fetch(line.uid())),
-        "find" => find(near, line, told),
-        "append" => append(alloc, near, line, told),
+        "admit" => print_done(reported, near.admit()),
+        "list" => print_listing(reported, near.list()),
+        "count" => count(alloc, near, line, reported),
+        "fetch" => print_bytes(reported, near.fetch(line.uid())),
+        "find" => find(near, line, reported),
+        "append" => append(alloc, near, line, reported),
         "add" => {
             let uid = line.uid();
-            tell_done(told, near.add_flags(uid, line.flags()))
+            print_done(reported, near.add_flags(uid, line.flags()))
         }
         "remove" => {
             let uid = line.uid();
-            tell_done(told, near.remove_flags(uid, line.flags()))
+            print_done(reported, near.remove_flags(uid, line.flags()))
         }
-        "expunge" => expunge(alloc, near, line, told),
+        "expunge" => expunge(alloc, near, line, reported),
         _ => refuse(line),
     }
 }
@@ -50,13 +50,13 @@ fn refuse(line: &mut Words<'_>) -> Option<NearFault> {
 fn find<F: Folder>(
     near: &mut NearBox<F>,
     line: &mut Words<'_>,
-    told: &mut Told,
+    reported: &mut Reported,
 ) -> Option<NearFault> {
     if let Some(marks) = many(line, "marks") {
-        return find_marks(near, marks, told);
+        return find_marks(near, marks, reported);
     }
     match Tuid::read(line.word().as_bytes()) {
-        Some(mark) => tell_uid(told, near.find_mark(mark, line.number())),
+        Some(mark) => print_uid(reported, near.find_mark(mark, line.number())),
         None => refuse(line),
     }
 }
@@ -65,15 +65,15 @@ fn append<F: Folder>(
     alloc: Global,
     near: &mut NearBox<F>,
     line: &mut Words<'_>,
-    told: &mut Told,
+    reported: &mut Reported,
 ) -> Option<NearFault> {
     if let Some(copies) = many(line, "copies") {
-        return append_copies(near, copies, told);
+        return append_copies(near, copies, reported);
     }
     let flags = line.flags();
     match line.bytes(alloc) {
-        Ok(bytes) => tell_uid(
-            told,
+        Ok(bytes) => print_uid(
+            reported,
             near.append_copy(CopyPieces::whole(&bytes), flags).map(Some),
         ),
         Err(Failure::NoMemory) => Some(NearFault::NoMemory),
@@ -85,11 +85,11 @@ fn expunge<F: Folder>(
     alloc: Global,
     near: &mut NearBox<F>,
     line: &mut Words<'_>,
-    told: &mut Told,
+    reported: &mut Reported,
 ) -> Option<NearFault> {
     let mut uids = Vec::new(alloc);
     match read_uids(line, &mut uids) {
-        Ok(()) => tell_done(told, near.expunge(&uids)),
+        Ok(()) => print_done(reported, near.expunge(&uids)),
         Err(AllocError) => Some(NearFault::NoMemory),
     }
 }
@@ -110,68 +110,71 @@ pub fn read_uids(line: &mut Words<'_>, uids: &mut Vec<Uid>) -> Result<(), AllocE
 }
 
 /// Prints a fault, and gives it.
-pub fn tell_fault(told: &mut Told, fault: NearFault) -> Option<NearFault> {
-    told.shown(&fault);
+pub fn report_fault(reported: &mut Reported, fault: NearFault) -> Option<NearFault> {
+    reported.shown(&fault);
     Some(fault)
 }
 
 /// Prints `ok`, or the fault.
-pub fn tell_done(told: &mut Told, answer: Result<(), NearFault>) -> Option<NearFault> {
+pub fn print_done(reported: &mut Reported, answer: Result<(), NearFault>) -> Option<NearFault> {
     match answer {
         Ok(()) => {
-            told.text("ok");
+            reported.text("ok");
             None
         }
-        Err(fault) => tell_fault(told, fault),
+        Err(fault) => report_fault(reported, fault),
     }
 }
 
-fn tell_uid(told: &mut Told, answer: Result<Option<Uid>, NearFault>) -> Option<NearFault> {
+fn print_uid(reported: &mut Reported, answer: Result<Option<Uid>, NearFault>) -> Option<NearFault> {
     match answer {
-        Ok(Some(uid)) => told.number(u64::from(uid.get())),
-        Ok(None) => told.text("none"),
-        Err(fault) => return tell_fault(told, fault),
+        Ok(Some(uid)) => reported.number(u64::from(uid.get())),
+        Ok(None) => reported.text("none"),
+        Err(fault) => return report_fault(reported, fault),
     }
     None
 }
 
-fn tell_bytes(told: &mut Told, answer: Result<Option<&[u8]>, NearFault>) -> Option<NearFault> {
+fn print_bytes(
+    reported: &mut Reported,
+    answer: Result<Option<&[u8]>, NearFault>,
+) -> Option<NearFault> {
     match answer {
-        Ok(Some(bytes)) => told.quoted(bytes),
-        Ok(None) => told.text("none"),
-        Err(fault) => return tell_fault(told, fault),
+        Ok(Some(bytes)) => reported.quoted(bytes),
+        Ok(None) => reported.text("none"),
+        Err(fault) => return report_fault(reported, fault),
     }
     None
 }
 
-fn tell_listing(told: &mut Told, answer: Result<Listing, NearFault>) -> Option<NearFault> {
+fn print_listing(reported: &mut Reported, answer: Result<Listing, NearFault>) -> Option<NearFault> {
     match answer {
         Ok(listing) => {
-            tell_numbers(told, listing.validity, listing.next);
+            print_numbers(reported, listing.validity, listing.next);
             for item in listing.items.as_slice() {
-                tell_item(told, item);
+                print_item(reported, item);
             }
             None
         }
-        Err(fault) => tell_fault(told, fault),
+        Err(fault) => report_fault(reported, fault),
     }
 }
 
 /// Prints the validity and the next UID of a mailbox.
-pub fn tell_numbers(told: &mut Told, validity: u32, next: u32) {
-    told.text("validity ");
-    told.number(u64::from(validity));
-    told.text(", next ");
-    told.number(u64::from(next));
+pub fn print_numbers(reported: &mut Reported, validity: u32, next: u32) {
+    reported.text("validity ");
+    reported.number(u64::from(validity));
+    reported.text(", next ");
+    reported.number(u64::from(next));
 }
 
 /// Prints a message as `, UID FLAGS`, and `unfit` where it is not fit to be copied.
-fn tell_item(told: &mut Told, item: &Item) {
-    told.text(", ");
-    told.number(u64::from(item.uid.get()));
-    told.text(" ");
-    told.flags(item.flags);
+fn print_item(reported: &mut Reported, item: &Item) {
+    reported.text(", ");
+    reported.number(u64::from(item.uid.get()));
+    reported.text(" ");
+    reported.flags(item.flags);
     if !item.fit {
-        told.text(" unfit");
+        reported.text(" unfit");
     }
 }

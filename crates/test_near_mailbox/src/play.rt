@@ -4,7 +4,7 @@ use crate::beginnings::{Beginnings, Reading};
 use crate::disk::play_on_disk;
 use crate::ground::Ground;
 use crate::memory::Memory;
-use crate::name::tell_name;
+use crate::name::print_name;
 use crate::seat::{Seat, read_validity};
 use crate::visited::Visited;
 use maildir::disk_folder::DiskFolder;
@@ -50,8 +50,8 @@ impl Player for Desk<'_> {
     fn play(&mut self, line: &mut Words<'_>, script: &mut Script<'_>) -> Result<(), Failure> {
         match line.word() {
             "folder" => self.set_folder(line),
-            "beginnings" => self.tell_beginnings(line, script),
-            "name" => Ok(tell_name(self.rt.alloc(), line.rest(), &mut script.told)?),
+            "beginnings" => self.print_beginnings(line, script),
+            "name" => Ok(print_name(self.rt.alloc(), line.rest(), &mut script.reported)?),
             word => self.play_in_folder(word, line, script),
         }
     }
@@ -87,7 +87,7 @@ impl Desk<'_> {
     }
 
     /// `name NAME` or `meta V "BYTES"`, and a rule in the lines after it.
-    fn tell_beginnings(
+    fn print_beginnings(
         &self,
         line: &mut Words<'_>,
         script: &mut Script<'_>,
@@ -104,7 +104,7 @@ impl Desk<'_> {
             reading,
             text: &text,
         };
-        beginnings.tell(rule, &mut script.told)
+        beginnings.report(rule, &mut script.reported)
     }
 
     fn play_in_folder(

@@ -1,8 +1,8 @@
 //! A folder or the mailbox on it, and what is asked of both.
 
-use crate::files::{OpenFolder, gather, tell_files};
+use crate::files::{OpenFolder, gather, print_files};
 use crate::noted_folder::NotedFolder;
-use crate::operation::{perform, tell_done, tell_numbers};
+use crate::operation::{perform, print_done, print_numbers};
 use crate::stop::word_of;
 use mailcore::keywords::Keywords;
 use maildir::folder::Folder;
@@ -11,8 +11,8 @@ use std::alloc::Global;
 use std::mem;
 use std::num::NonZeroU32;
 use test_scripts::failure::Failure;
+use test_scripts::reported::Reported;
 use test_scripts::script::Script;
-use test_scripts::told::Told;
 use test_scripts::words::Words;
 
 /// A folder, or the mailbox that was opened on it.
@@ -92,10 +92,10 @@ impl<F: OpenFolder> Seat<F> {
         alloc: Global,
         word: &str,
         line: &mut Words<'_>,
-        told: &mut Told,
+        reported: &mut Reported,
     ) -> Option<NearFault> {
         if let Seat::Mailbox(near) = self {
-            return perform(alloc, near, word, line, told);
+            return perform(alloc, near, word, line, reported);
         }
         line.refuse();
         None
@@ -111,11 +111,11 @@ impl<F: OpenFolder> Seat<F> {
     ) -> Result<(), Failure> {
         match word {
             "reopen" => self.reopen(),
-            "show" => return self.show(rt, &mut script.told),
+            "show" => return self.show(rt, &mut script.reported),
             _ => {
-                script.told.begin();
-                let fault = self.ask(rt.alloc(), word, line, &mut script.told);
-                script.told.end();
+                script.reported.begin();
+                let fault = self.ask(rt.alloc(), word, line, &mut script.reported);
+                script.reported.end();
                 if fault == Some(NearFault::NoMemory) {
                     return Err(Failure::NoMemory);
                 }
@@ -129,24 +129,24 @@ impl<F: OpenFolder> Seat<F> {
         alloc: Global,
         word: &str,
         line: &mut Words<'_>,
-        told: &mut Told,
+        reported: &mut Reported,
     ) -> Option<NearFault> {
         match word {
             "open" => {
                 let fresh = read_validity(line);
                 match self.open(alloc, fresh, read_keywords(alloc, line)) {
                     Ok((validity, next)) => {
-                        tell_numbers(told, validity, next);
+                        print_numbers(reported, validity, next);
                         None
                     }
-                    Err(fault) => tell_done(told, Err(fault)),
+                    Err(fault) => print_done(reported, Err(fault)),
                 }
             }
             "sync" => {
                 let folder = self.close()?;
-                tell_done(told, folder.sync().map_err(NearFault::from))
+                print_done(reported, folder.sync().map_err(NearFault::from))
             }
-            _ => self.perform(alloc, word, line, told),
+            _ => self.perform(alloc, word, line, reported),
         }
     }
 
@@ -156,9 +156,9 @@ impl<F: OpenFolder> Seat<F> {
         }
     }
 
-    fn show(&mut self, rt: &HostRuntime, told: &mut Told) -> Result<(), Failure> {
+    fn show(&mut self, rt: &HostRuntime, reported: &mut Reported) -> Result<(), Failure> {
         match self.close() {
-            Some(folder) => tell_folder(rt, folder, told),
+            Some(folder) => print_folder(rt, folder, reported),
             None => Err(Failure::Script),
         }
     }
@@ -188,24 +188,24 @@ fn read_keywords(alloc: Global, line: &mut Words<'_>) -> Keywords {
 }
 
 /// Prints the files in a folder, its calls, and how many have stopped.
-fn tell_folder<F: OpenFolder>(
+fn print_folder<F: OpenFolder>(
     rt: &HostRuntime,
     folder: &NotedFolder<F>,
-    told: &mut Told,
+    reported: &mut Reported,
 ) -> Result<(), Failure> {
     let mut files = Vec::new(rt.alloc());
     gather(rt, folder.inner(), &mut files)?;
-    told.text("  files:");
-    tell_files(told, &files);
-    told.text("\n  calls:");
+    reported.text("  files:");
+    print_files(reported, &files);
+    reported.text("\n  calls:");
     for call in folder.calls() {
-        told.text(" ");
-        told.text(word_of(*call));
+        reported.text(" ");
+        reported.text(word_of(*call));
     }
-    told.text("; stops: ");
-    told.number(folder.inner().stop_count() as u64);
-    folder.inner().tell_notes(told);
-    told.end();
+    reported.text("; stops: ");
+    reported.number(folder.inner().stop_count() as u64);
+    folder.inner().print_notes(reported);
+    reported.end();
     if folder.is_short() {
         return Err(Failure::NoMemory);
     }

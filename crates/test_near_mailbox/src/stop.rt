@@ -1,8 +1,8 @@
 //! Stops of calls of a folder, as words.
 
-use device::schedule::{Moment, Stop};
+use device::schedule::{CallStop, Moment};
 use maildir::mem_folder::FolderCall;
-use test_scripts::told::Told;
+use test_scripts::reported::Reported;
 use test_scripts::words::Words;
 
 /// The calls.
@@ -29,11 +29,11 @@ pub fn word_of(call: FolderCall) -> &'static str {
     }
 }
 
-/// `before CALL K`, `after CALL K` or `behind B CALL K`: a stop in the K-th call of this name, after B bytes of it.
-pub fn read_stop(line: &mut Words<'_>) -> Stop<FolderCall> {
+/// `before CALL K`, `after CALL K` or `following B CALL K`: a stop in the K-th call of this name, after B bytes of it.
+pub fn read_stop(line: &mut Words<'_>) -> CallStop<FolderCall> {
     let moment = line.moment();
     let call = read_call(line);
-    Stop {
+    CallStop {
         call,
         number: line.long_number(),
         moment,
@@ -53,17 +53,17 @@ pub fn read_call(line: &mut Words<'_>) -> FolderCall {
 }
 
 /// Prints a stop as `read_stop` reads it.
-pub fn tell_stop(told: &mut Told, stop: Stop<FolderCall>) {
+pub fn print_stop(reported: &mut Reported, stop: CallStop<FolderCall>) {
     match stop.moment {
-        Moment::Before => told.text("before "),
-        Moment::After => told.text("after "),
+        Moment::Before => reported.text("before "),
+        Moment::After => reported.text("after "),
         Moment::Part(count) => {
-            told.text("behind ");
-            told.number(count as u64);
-            told.text(" ");
+            reported.text("behind ");
+            reported.number(count as u64);
+            reported.text(" ");
         }
     }
-    told.text(word_of(stop.call));
-    told.text(" ");
-    told.number(stop.number);
+    reported.text(word_of(stop.call));
+    reported.text(" ");
+    reported.number(stop.number);
 }

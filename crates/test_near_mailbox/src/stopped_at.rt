@@ -4,34 +4,34 @@ use device::trouble::Trouble;
 use maildir::disk_folder::DiskFolder;
 use maildir::disk_stop::Part;
 use maildir::folder::FileName;
-use test_scripts::told::Told;
+use test_scripts::reported::Reported;
 
 /// Prints where a folder on a disk stopped and what the system said, and which files it left out, if any.
-pub fn tell_notes(told: &mut Told, folder: &DiskFolder<HostRuntime>) {
+pub fn print_notes(reported: &mut Reported, folder: &DiskFolder<HostRuntime>) {
     if let Some(stop) = folder.stop() {
-        told.text(", at ");
-        tell_part(told, &stop.part);
-        told.text(": ");
-        told.text(word_of(stop.trouble));
+        reported.text(", at ");
+        print_part(reported, &stop.part);
+        reported.text(": ");
+        reported.text(word_of(stop.trouble));
     }
     for file in folder.left_out() {
-        told.text("; left out: ");
-        tell_file(told, file);
+        reported.text("; left out: ");
+        print_file(reported, file);
     }
 }
 
-fn tell_part(told: &mut Told, part: &Part) {
+fn print_part(reported: &mut Reported, part: &Part) {
     match part {
-        Part::Whole => told.text("."),
-        Part::Own(path) => told.text(path),
-        Part::Mail(file) => tell_file(told, file),
+        Part::Whole => reported.text("."),
+        Part::Own(path) => reported.text(path),
+        Part::Mail(file) => print_file(reported, file),
     }
 }
 
-fn tell_file(told: &mut Told, file: &FileName) {
-    told.text(file.place.folder());
-    told.text("/");
-    told.bytes(file.name.as_slice());
+fn print_file(reported: &mut Reported, file: &FileName) {
+    reported.text(file.place.folder());
+    reported.text("/");
+    reported.bytes(file.name.as_slice());
 }
 
 fn word_of(trouble: Trouble) -> &'static str {

@@ -1,17 +1,17 @@
 //! An operation that is stopped at each of its calls in turn.
 
-use crate::files::{Standing, gather, tell_changes};
+use crate::files::{Standing, gather, print_changes};
 use crate::memory::Memory;
 use crate::seat::{Seat, read_validity};
-use crate::stop::tell_stop;
-use device::schedule::{Moment, Stop};
+use crate::stop::print_stop;
+use device::schedule::{CallStop, Moment};
 use mailcore::keywords::Keywords;
 use maildir::folder::Folder;
 use maildir::mem_folder::{FolderCall, MemFolder};
 use near_box::NearFault;
 use std::num::NonZeroU32;
 use test_scripts::failure::Failure;
-use test_scripts::told::Told;
+use test_scripts::reported::Reported;
 use test_scripts::words::Words;
 
 /// An operation of each kind.
@@ -46,7 +46,7 @@ pub fn try_stops(
     rt: &HostRuntime,
     memory: &Memory,
     line: &mut Words<'_>,
-    told: &mut Told,
+    reported: &mut Reported,
 ) -> Result<(), Failure> {
     let fresh = read_validity(line);
     let mut trial = Trial {
@@ -57,7 +57,7 @@ pub fn try_stops(
         before: Vec::new(rt.alloc()),
         is_short: false,
     };
-    trial.tell_stops(line, told)?;
+    trial.print_stops(line, reported)?;
     if trial.is_short {
         return Err(Failure::NoMemory);
     }
@@ -66,23 +66,27 @@ pub fn try_stops(
 
 impl Trial<'_> {
     /// Does it in a folder without a stop, which shows its calls, and then with a stop in each of them.
-    fn tell_stops(&mut self, line: &mut Words<'_>, told: &mut Told) -> Result<(), Failure> {
+    fn print_stops(
+        &mut self,
+        line: &mut Words<'_>,
+        reported: &mut Reported,
+    ) -> Result<(), Failure> {
         let mut seat = self.memory.new_seat(self.rt.alloc(), None)?;
-        self.tell_stops_in(&mut seat, line, told)
+        self.print_stops_in(&mut seat, line, reported)
     }
 
     /// The same in this folder.
-    fn tell_stops_in(
+    fn print_stops_in(
         &mut self,
         seat: &mut Seat<MemFolder>,
         line: &mut Words<'_>,
-        told: &mut Told,
+        reported: &mut Reported,
     ) -> Result<(), Failure> {
         let first = self.prepare(seat)?;
-        let mut aside = Told::new(self.rt.alloc());
+        let mut aside = Reported::new(self.rt.alloc());
         self.act(seat, line, &mut aside);
         match seat.close() {
-            Some(folder) => self.tell_calls(folder.calls(), first, told),
+            Some(folder) => self.print_calls(folder.calls(), first, reported),
             None => Ok(()),
         }
     }
@@ -106,40 +110,40 @@ impl Trial<'_> {
     }
 
     /// Stops each of these calls after the first ones.
-    fn tell_calls(
+    fn print_calls(
         &mut self,
         calls: &[FolderCall],
         first: usize,
-        told: &mut Told,
+        reported: &mut Reported,
     ) -> Result<(), Failure> {
         for (place, call) in calls.iter().enumerate().skip(first) {
             let number = number_of(*call, calls, place);
-            self.tell_moments(*call, number, told)?;
+            self.print_moments(*call, number, reported)?;
         }
         Ok(())
     }
 
     /// Stops the call of this name and number before, after each byte of a copy, and after the call.
-    fn tell_moments(
+    fn print_moments(
         &mut self,
         call: FolderCall,
         number: u64,
-        told: &mut Told,
+        reported: &mut Reported,
     ) -> Result<(), Failure> {
-        let mut stop = Stop {
+        let mut stop = CallStop {
             call,
             number,
             moment: Moment::Before,
         };
-        self.tell_stop(stop, told)?;
+        self.print_stop(stop, reported)?;
         if call == FolderCall::WriteTmp {
             for count in 0..=self.copy_length()? {
                 stop.moment = Moment::Part(count);
-                self.tell_stop(stop, told)?;
+                self.print_stop(stop, reported)?;
             }
         }
         stop.moment = Moment::After;
-        self.tell_stop(stop, told)
+        self.print_stop(stop, reported)
     }
 
     /// How many bytes the operation writes as a copy, which is an `append` then.
@@ -151,82 +155,94 @@ impl Trial<'_> {
     }
 
     /// Tries one stop.
-    fn tell_stop(&mut self, stop: Stop<FolderCall>, told: &mut Told) -> Result<(), Failure> {
+    fn print_stop(
+        &mut self,
+        stop: CallStop<FolderCall>,
+        reported: &mut Reported,
+    ) -> Result<(), Failure> {
         let mut seat = self.memory.new_seat(self.rt.alloc(), Some(stop))?;
-        self.tell_stop_in(&mut seat, stop, told)
+        self.print_stop_in(&mut seat, stop, reported)
     }
 
     /// The same in this folder.
-    fn tell_stop_in(
+    fn print_stop_in(
         &mut self,
         seat: &mut Seat<MemFolder>,
-        stop: Stop<FolderCall>,
-        told: &mut Told,
+        stop: CallStop<FolderCall>,
+        reported: &mut Reported,
     ) -> Result<(), Failure> {
-        self.tell_first(seat, stop, told)?;
-        self.tell_again(seat, told)
+        self.print_first(seat, stop, reported)?;
+        self.print_again(seat, reported)
     }
 
     /// What is answered where the call stops, and what that leaves.
-    fn tell_first(
+    fn print_first(
         &mut self,
         seat: &mut Seat<MemFolder>,
-        stop: Stop<FolderCall>,
-        told: &mut Told,
+        stop: CallStop<FolderCall>,
+        reported: &mut Reported,
     ) -> Result<(), Failure> {
         let mut operation = self.operation;
-        told.begin();
-        tell_stop(told, stop);
-        told.text(": ");
-        self.act(seat, &mut operation, told);
-        told.text("; stops: ");
+        reported.begin();
+        print_stop(reported, stop);
+        reported.text(": ");
+        self.act(seat, &mut operation, reported);
+        reported.text("; stops: ");
         if let Some(folder) = seat.close() {
-            told.number(folder.inner().stops() as u64);
+            reported.number(folder.inner().stops() as u64);
             folder.reopen();
         }
-        told.text("\n ");
-        self.tell_state(seat, told)
+        reported.text("\n ");
+        self.print_state(seat, reported)
     }
 
     /// What is answered when it is done again, and what that leaves.
-    fn tell_again(&mut self, seat: &mut Seat<MemFolder>, told: &mut Told) -> Result<(), Failure> {
+    fn print_again(
+        &mut self,
+        seat: &mut Seat<MemFolder>,
+        reported: &mut Reported,
+    ) -> Result<(), Failure> {
         let mut operation = self.operation;
-        told.text("  again: ");
-        self.act(seat, &mut operation, told);
-        told.text(";");
-        self.tell_state(seat, told)
+        reported.text("  again: ");
+        self.act(seat, &mut operation, reported);
+        reported.text(";");
+        self.print_state(seat, reported)
     }
 
     /// Prints what stands in the folder otherwise than at first, and what a new mailbox on it lists.
-    fn tell_state(&mut self, seat: &mut Seat<MemFolder>, told: &mut Told) -> Result<(), Failure> {
+    fn print_state(
+        &mut self,
+        seat: &mut Seat<MemFolder>,
+        reported: &mut Reported,
+    ) -> Result<(), Failure> {
         let mut now = Vec::new(self.rt.alloc());
         if let Some(folder) = seat.close() {
             gather(&self.rt, folder.inner(), &mut now)?;
         }
-        tell_changes(told, &self.before, &now);
-        told.text("; lists ");
-        self.act(seat, &mut Words::new(b"list"), told);
-        told.end();
+        print_changes(reported, &self.before, &now);
+        reported.text("; lists ");
+        self.act(seat, &mut Words::new(b"list"), reported);
+        reported.end();
         Ok(())
     }
 
     /// Opens a mailbox, does what a line asks of it, and prints the answer. After a fault each operation is required to stop.
-    fn act(&mut self, seat: &mut Seat<MemFolder>, line: &mut Words<'_>, told: &mut Told) {
+    fn act(&mut self, seat: &mut Seat<MemFolder>, line: &mut Words<'_>, reported: &mut Reported) {
         let alloc = self.rt.alloc();
         let word = line.word();
         let fault = match seat.open(alloc, self.fresh, Keywords::new(alloc)) {
             Err(fault) => {
-                told.shown(&fault);
+                reported.shown(&fault);
                 Some(fault)
             }
             Ok(_) if word == "open" => {
-                told.text("ok");
+                reported.text("ok");
                 None
             }
             Ok(_) => {
-                let fault = seat.perform(alloc, word, line, told);
+                let fault = seat.perform(alloc, word, line, reported);
                 if fault.is_some() {
-                    self.tell_behind(seat, told);
+                    self.report_after(seat, reported);
                 }
                 fault
             }
@@ -237,9 +253,9 @@ impl Trial<'_> {
     }
 
     /// Prints whether each operation is answered by `Stopped`.
-    fn tell_behind(&mut self, seat: &mut Seat<MemFolder>, told: &mut Told) {
+    fn report_after(&mut self, seat: &mut Seat<MemFolder>, reported: &mut Reported) {
         let alloc = self.rt.alloc();
-        let mut aside = Told::new(alloc);
+        let mut aside = Reported::new(alloc);
         let mut is_stopped = true;
         for line in EACH {
             let mut line = Words::new(line);
@@ -247,7 +263,7 @@ impl Trial<'_> {
             let fault = seat.perform(alloc, word, &mut line, &mut aside);
             is_stopped = is_stopped && fault == Some(NearFault::Stopped);
         }
-        told.text(if is_stopped {
+        reported.text(if is_stopped {
             ", and each call behind it"
         } else {
             ", but the mailbox goes on"

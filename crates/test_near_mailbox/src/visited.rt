@@ -1,22 +1,22 @@
 //! Folders in memory to which others add files.
 
-use crate::files::{gather, tell_files};
+use crate::files::{gather, print_files};
 use crate::seat::Seat;
 use crate::stop::read_call;
 use mailcore::octets::Octets;
 use maildir::mem_folder::MemFolder;
-use maildir::visited_folder::{Arrival, VisitedFolder};
+use maildir::visited_folder::{ArrivingFile, VisitedFolder};
 use std::alloc::Global;
 use std::mem;
 use test_scripts::failure::Failure;
+use test_scripts::reported::Reported;
 use test_scripts::script::Script;
-use test_scripts::told::Told;
 use test_scripts::words::Words;
 
 /// An empty folder, which is made when it is first called, and the files that come to it.
 #[derive(Drop)]
 pub struct Visited {
-    arrivals: Vec<Arrival>,
+    arrivals: Vec<ArrivingFile>,
     seat: Seat<VisitedFolder<0>>,
 }
 
@@ -45,7 +45,7 @@ impl Visited {
             self.seat = Seat::new(rt.alloc(), folder_with(rt.alloc(), arrivals));
         }
         if word == "leave" {
-            return self.leave(rt, &mut script.told);
+            return self.leave(rt, &mut script.reported);
         }
         self.seat.play(rt, word, line, script)
     }
@@ -56,7 +56,7 @@ impl Visited {
         let number = line.long_number();
         let name = Octets::from_vec(Vec::from_slice(alloc, line.word().as_bytes())?);
         let bytes = Octets::from_vec(line.bytes(alloc)?);
-        self.arrivals.push(Arrival {
+        self.arrivals.push(ArrivingFile {
             call,
             number,
             name,
@@ -66,7 +66,7 @@ impl Visited {
     }
 
     /// Prints the files of the folder with all that has come.
-    fn leave(&mut self, rt: &HostRuntime, told: &mut Told) -> Result<(), Failure> {
+    fn leave(&mut self, rt: &HostRuntime, reported: &mut Reported) -> Result<(), Failure> {
         let Some(folder) = self.seat.close() else {
             return Err(Failure::Script);
         };
@@ -76,14 +76,14 @@ impl Visited {
         };
         let mut files = Vec::new(rt.alloc());
         gather(rt, &folder, &mut files)?;
-        told.text("  files:");
-        tell_files(told, &files);
-        told.end();
+        reported.text("  files:");
+        print_files(reported, &files);
+        reported.end();
         Ok(())
     }
 }
 
 /// An empty folder to which these files come.
-fn folder_with(alloc: Global, arrivals: Vec<Arrival>) -> VisitedFolder<0> {
+fn folder_with(alloc: Global, arrivals: Vec<ArrivingFile>) -> VisitedFolder<0> {
     VisitedFolder::new(alloc, MemFolder::new(alloc, Vec::new(alloc)), arrivals)
 }

@@ -8,12 +8,12 @@ use near_places::boxes::{near_boxes, near_folder};
 use near_places::fresh::fresh_validity;
 use near_places::home::Home;
 use near_places::lock::{Lock, LockFault};
-use near_places::refusal::Refusal;
+use near_places::refusal::PlaceRefusal;
 use std::alloc::{AllocError, Global};
 use test_scripts::failure::Failure;
 use test_scripts::play::{Player, play_all};
+use test_scripts::reported::Reported;
 use test_scripts::script::Script;
-use test_scripts::told::Told;
 use test_scripts::words::Words;
 
 /// Plays a script of where near mailboxes are.
@@ -52,7 +52,7 @@ impl Player for Scene<'_> {
         let word = line.word();
         match change(&self.rt, word, line) {
             Some(done) => Ok(done?),
-            None => self.ask(word, line, &mut script.told),
+            None => self.ask(word, line, &mut script.reported),
         }
     }
 
@@ -62,19 +62,24 @@ impl Player for Scene<'_> {
 }
 
 impl Scene<'_> {
-    fn ask(&mut self, word: &str, line: &mut Words<'_>, told: &mut Told) -> Result<(), Failure> {
+    fn ask(
+        &mut self,
+        word: &str,
+        line: &mut Words<'_>,
+        reported: &mut Reported,
+    ) -> Result<(), Failure> {
         match word {
             "home" => self.set_home(line),
             "store" => self.set_store(line),
-            "boxes" => self.tell_boxes(told),
-            "where" => self.tell_folder(line.text(), told),
-            "lock" => self.lock(line.text(), told),
+            "boxes" => self.print_boxes(reported),
+            "where" => self.print_folder(line.text(), reported),
+            "lock" => self.lock(line.text(), reported),
             "unlock" => {
                 let _ = self.locks.pop();
                 Ok(())
             }
             "validity" => {
-                told.say(&fresh_validity(line.long_number()));
+                reported.say(&fresh_validity(line.long_number()));
                 Ok(())
             }
             _ => Err(Failure::Script),
@@ -97,40 +102,40 @@ impl Scene<'_> {
         Ok(())
     }
 
-    fn tell_boxes(&self, told: &mut Told) -> Result<(), Failure> {
+    fn print_boxes(&self, reported: &mut Reported) -> Result<(), Failure> {
         match near_boxes(&self.rt, &self.home, &self.store) {
             Ok(boxes) => {
                 for name in &boxes.names {
-                    told.answer(name.as_str());
+                    reported.answer(name.as_str());
                 }
-                tell_skipped(told, &boxes.skipped);
+                print_skipped(reported, &boxes.skipped);
                 Ok(())
             }
-            Err(refusal) => tell_refusal(told, refusal),
+            Err(refusal) => print_refusal(reported, refusal),
         }
     }
 
-    fn tell_folder(&self, name: &str, told: &mut Told) -> Result<(), Failure> {
+    fn print_folder(&self, name: &str, reported: &mut Reported) -> Result<(), Failure> {
         let alloc = self.rt.alloc();
         let name = MailboxName::from_bytes(alloc, name.as_bytes())?.ok_or(Failure::Script)?;
         match near_folder(&self.rt, &self.home, &self.store, &name) {
             Ok(folder) => {
-                told.answer(&folder);
+                reported.answer(&folder);
                 Ok(())
             }
-            Err(refusal) => tell_refusal(told, refusal),
+            Err(refusal) => print_refusal(reported, refusal),
         }
     }
 
-    fn lock(&mut self, folder: &str, told: &mut Told) -> Result<(), Failure> {
+    fn lock(&mut self, folder: &str, reported: &mut Reported) -> Result<(), Failure> {
         match Lock::take(&self.rt, folder) {
             Ok(lock) => {
-                told.answer("held");
+                reported.answer("held");
                 Ok(self.locks.push(lock)?)
             }
-            Err(LockFault::Refused(refusal)) => tell_refusal(told, refusal),
+            Err(LockFault::Refused(refusal)) => print_refusal(reported, refusal),
             Err(LockFault::Held) => {
-                told.say(&LockFault::Held);
+                reported.say(&LockFault::Held);
                 Ok(())
             }
         }
@@ -138,20 +143,20 @@ impl Scene<'_> {
 }
 
 /// Prints which mailboxes are left out because of their names.
-fn tell_skipped(told: &mut Told, skipped: &[String]) {
+fn print_skipped(reported: &mut Reported, skipped: &[String]) {
     for name in skipped {
-        told.begin();
-        told.text("skipped ");
-        told.text(name.as_str());
-        told.end();
+        reported.begin();
+        reported.text("skipped ");
+        reported.text(name.as_str());
+        reported.end();
     }
 }
 
-fn tell_refusal(told: &mut Told, refusal: Refusal) -> Result<(), Failure> {
-    if let Refusal::NoMemory = refusal {
+fn print_refusal(reported: &mut Reported, refusal: PlaceRefusal) -> Result<(), Failure> {
+    if let PlaceRefusal::NoMemory = refusal {
         return Err(Failure::NoMemory);
     }
-    told.say(&refusal);
+    reported.say(&refusal);
     Ok(())
 }
 

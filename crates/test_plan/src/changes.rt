@@ -13,9 +13,9 @@ pub fn with_line(
     number: u32,
     line: &mut Words<'_>,
 ) -> Result<Vec<u8>, Failure> {
-    let (before, _, behind) = around(world, number).ok_or(Failure::Script)?;
+    let (before, _, following) = around(world, number).ok_or(Failure::Script)?;
     let bytes = read_bytes(alloc, line)?;
-    Ok(joined(alloc, &[before, &bytes, behind])?)
+    Ok(joined(alloc, &[before, &bytes, following])?)
 }
 
 /// `"BYTES"`: the world with these bytes after it.
@@ -32,8 +32,8 @@ pub fn grown(alloc: Global, world: &[u8], line: &mut Words<'_>) -> Result<Vec<u8
     pass(line, "by");
     let letters = vec![in alloc; b'a'; line.count()]?;
     match around(world, number) {
-        Some((before, [start @ .., b'"'], behind)) => {
-            Ok(joined(alloc, &[before, start, &letters, b"\"", behind])?)
+        Some((before, [start @ .., b'"'], following)) => {
+            Ok(joined(alloc, &[before, start, &letters, b"\"", following])?)
         }
         _ => Err(Failure::Script),
     }

@@ -15,7 +15,7 @@ use planner::state::Entry;
 use planner::turns::Turns;
 use std::alloc::Global;
 use test_scripts::failure::Failure;
-use test_scripts::told::Told;
+use test_scripts::reported::Reported;
 use test_scripts::words::Words;
 
 /// What was met in the worlds so far.
@@ -31,7 +31,11 @@ struct Met {
 
 /// `COUNT`: prints in how many of so many drawn worlds the planner answers otherwise than the plain one, and in how many it takes
 /// fewer or more turns than it may.
-pub fn tell_compared(alloc: Global, told: &mut Told, line: &mut Words<'_>) -> Result<(), Failure> {
+pub fn print_compared(
+    alloc: Global,
+    reported: &mut Reported,
+    line: &mut Words<'_>,
+) -> Result<(), Failure> {
     let count = line.count();
     let mut numbers = Numbers::new(1);
     let mut met = Met {
@@ -45,12 +49,12 @@ pub fn tell_compared(alloc: Global, told: &mut Told, line: &mut Words<'_>) -> Re
     for _ in 0..count {
         met = compare(alloc, &numbers.world(alloc)?, met)?;
     }
-    tell_met(told, count, met);
+    print_met(reported, count, met);
     Ok(())
 }
 
-fn tell_met(told: &mut Told, count: usize, met: Met) {
-    told.begin();
+fn print_met(reported: &mut Reported, count: usize, met: Met) {
+    reported.begin();
     for (number, words) in [
         (count, " worlds, "),
         (met.half_entries, " half entries, "),
@@ -60,10 +64,10 @@ fn tell_met(told: &mut Told, count: usize, met: Met) {
         (met.differ, " differ, "),
         (met.out_of_bounds, " out of bounds"),
     ] {
-        told.shown(&number);
-        told.text(words);
+        reported.shown(&number);
+        reported.text(words);
     }
-    told.end();
+    reported.end();
 }
 
 /// Compares both planners on a world.

@@ -1,7 +1,7 @@
 //! What a run of `mbplan` reads and writes, in memory. It may fail where the script says so.
 
 use crate::phrases::pass;
-use run_plan::run::Arguments;
+use run_plan::run::PlanArguments;
 use std::io;
 use std::io::{ErrorKind, Read, Write};
 use test_scripts::words::Words;
@@ -10,7 +10,7 @@ use test_scripts::words::Words;
 #[derive(Clone, Copy)]
 pub struct Devices {
     /// Whether it is given arguments.
-    pub arguments: Arguments,
+    pub arguments: PlanArguments,
     /// Whether standard input gives one byte at a time and then fails.
     pub reader_fails: bool,
     /// How many bytes standard output takes before it fails.
@@ -23,7 +23,7 @@ pub struct Devices {
 
 /// No arguments, and nothing that fails.
 pub const SOUND: Devices = Devices {
-    arguments: Arguments::Absent,
+    arguments: PlanArguments::Absent,
     reader_fails: false,
     out: usize::MAX,
     is_flushed: true,
@@ -45,7 +45,7 @@ pub fn read_devices(word: &str, line: &mut Words<'_>) -> Devices {
         }
         "argument" => {
             pass(line, "given");
-            devices.arguments = Arguments::Given;
+            devices.arguments = PlanArguments::Given;
         }
         _ => match line.word() {
             "takes" => {

@@ -10,7 +10,7 @@
 //! |---|---|
 //! | `world`, then its lines, then a line `.` | what `mbplan` prints for this world on standard output and standard error, and its status |
 //! | `line N "BYTES"` | the same on the last world with this line in place of line N |
-//! | `behind "BYTES"` | the same with these bytes after it |
+//! | `following "BYTES"` | the same with these bytes after it |
 //! | `grow line N by COUNT` | the same, once the message of line N has so many letters more; the world stays so |
 //! | `beginnings` | the same on each beginning of the last world, where those with one answer stand together |
 //! | `reader fails` | the same, where the reader gives one byte at a time and then fails |

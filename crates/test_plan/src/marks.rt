@@ -6,7 +6,7 @@ use mailcore::marks::draw_marks;
 use mailcore::tuid::Tuid;
 use std::alloc::Global;
 use test_scripts::failure::Failure;
-use test_scripts::told::Told;
+use test_scripts::reported::Reported;
 use test_scripts::words::Words;
 
 /// The marks that the rest of the line names.
@@ -25,7 +25,11 @@ pub fn read_marks(alloc: Global, line: &mut Words<'_>) -> Result<Vec<Tuid>, Fail
 }
 
 /// `COUNT counting` or `COUNT constant`: prints the marks that are drawn, and how many words were drawn.
-pub fn tell_drawn(alloc: Global, told: &mut Told, line: &mut Words<'_>) -> Result<(), Failure> {
+pub fn print_drawn(
+    alloc: Global,
+    reported: &mut Reported,
+    line: &mut Words<'_>,
+) -> Result<(), Failure> {
     let count = line.count();
     let step = match line.word() {
         "counting" => 1,
@@ -36,25 +40,25 @@ pub fn tell_drawn(alloc: Global, told: &mut Told, line: &mut Words<'_>) -> Resul
     match draw_marks(alloc, &mut generator, count) {
         Ok(marks) => {
             for mark in &marks {
-                tell_mark(told, Some(*mark));
+                print_mark(reported, Some(*mark));
             }
         }
         Err(CoreFault::NoMemory) => return Err(Failure::NoMemory),
-        Err(fault) => told.say(&fault),
+        Err(fault) => reported.say(&fault),
     }
-    told.begin();
-    told.number(generator.drawn);
-    told.text(" words drawn");
-    told.end();
+    reported.begin();
+    reported.number(generator.drawn);
+    reported.text(" words drawn");
+    reported.end();
     Ok(())
 }
 
 /// Prints a mark, or that there is none.
-pub fn tell_mark(told: &mut Told, mark: Option<Tuid>) {
-    told.begin();
+pub fn print_mark(reported: &mut Reported, mark: Option<Tuid>) {
+    reported.begin();
     match mark {
-        Some(mark) => told.quoted(&mark.text()),
-        None => told.text("none"),
+        Some(mark) => reported.quoted(&mark.text()),
+        None => reported.text("none"),
     }
-    told.end();
+    reported.end();
 }

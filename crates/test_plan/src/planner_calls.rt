@@ -13,27 +13,27 @@ use planner::state::{Plan, PlanSide, Step};
 use planner::unfit::unfit;
 use std::alloc::Global;
 use test_scripts::failure::Failure;
-use test_scripts::told::Told;
+use test_scripts::reported::Reported;
 use test_scripts::words::Words;
 use worlds::world::{Waiting, World};
 
 /// Prints what a call of the planner answers on the world of a text: `news`, `unfit`, or `plan` with the marks that the rest of the
 /// line names. `Script`: the text is no world, or the plan wants another number of marks.
-pub fn tell_planned(
+pub fn print_planned(
     alloc: Global,
-    told: &mut Told,
+    reported: &mut Reported,
     text: &[u8],
     call: &str,
     line: &mut Words<'_>,
 ) -> Result<(), Failure> {
     let marks = read_marks(alloc, line)?;
     let world = world_of(alloc, text, Waiting::Admitted)?;
-    call_planner(alloc, told, &world, call, &marks)
+    call_planner(alloc, reported, &world, call, &marks)
 }
 
 fn call_planner(
     alloc: Global,
-    told: &mut Told,
+    reported: &mut Reported,
     world: &World,
     call: &str,
     marks: &[Tuid],
@@ -42,17 +42,17 @@ fn call_planner(
     let near = world.near.listing(alloc, Side::Near)?;
     match call {
         "news" => {
-            told.say(&news(&far, &near, &world.state, &world.options));
+            reported.say(&news(&far, &near, &world.state, &world.options));
             Ok(())
         }
-        "unfit" => tell_unfit(alloc, told, &far, &near, world),
-        _ => tell_plan(alloc, told, &far, &near, world, marks),
+        "unfit" => print_unfit(alloc, reported, &far, &near, world),
+        _ => print_plan(alloc, reported, &far, &near, world, marks),
     }
 }
 
-fn tell_unfit(
+fn print_unfit(
     alloc: Global,
-    told: &mut Told,
+    reported: &mut Reported,
     far: &Listing,
     near: &Listing,
     world: &World,
@@ -60,7 +60,7 @@ fn tell_unfit(
     match unfit(alloc, far, near, &world.state, &world.options) {
         Ok(unfit) => {
             for (side, uid) in &unfit {
-                told.say(&UnfitLine(*side, *uid));
+                reported.say(&UnfitLine(*side, *uid));
             }
             Ok(())
         }
@@ -68,9 +68,9 @@ fn tell_unfit(
     }
 }
 
-fn tell_plan(
+fn print_plan(
     alloc: Global,
-    told: &mut Told,
+    reported: &mut Reported,
     far: &Listing,
     near: &Listing,
     world: &World,
@@ -81,49 +81,49 @@ fn tell_plan(
         return Err(Failure::Script);
     }
     match plan(alloc, far, near, state, options, marks) {
-        Ok(plan) => tell_steps(told, &plan),
+        Ok(plan) => print_steps(reported, &plan),
         Err(PlanFault::NoMemory) => return Err(Failure::NoMemory),
-        Err(fault) => told.say(&fault),
+        Err(fault) => reported.say(&fault),
     }
     Ok(())
 }
 
-fn tell_steps(told: &mut Told, plan: &Plan) {
-    told.begin();
-    told.text("run ");
-    told.number(plan.run);
-    told.end();
-    tell_side(told, "far", &plan.far);
-    tell_side(told, "near", &plan.near);
+fn print_steps(reported: &mut Reported, plan: &Plan) {
+    reported.begin();
+    reported.text("run ");
+    reported.number(plan.run);
+    reported.end();
+    print_side(reported, "far", &plan.far);
+    print_side(reported, "near", &plan.near);
     for step in plan.steps.as_slice() {
-        tell_step(told, step);
+        print_step(reported, step);
     }
     for note in plan.notes.as_slice() {
-        told.say(&NoteLine(note));
+        reported.say(&NoteLine(note));
     }
 }
 
-fn tell_side(told: &mut Told, name: &str, side: &PlanSide) {
-    told.begin();
-    told.text(name);
-    told.text(": validity ");
-    told.number(u64::from(side.validity));
-    told.text(", highest ");
-    told.number(u64::from(side.highest));
-    told.text(", next ");
-    told.number(u64::from(side.next));
-    told.end();
+fn print_side(reported: &mut Reported, name: &str, side: &PlanSide) {
+    reported.begin();
+    reported.text(name);
+    reported.text(": validity ");
+    reported.number(u64::from(side.validity));
+    reported.text(", highest ");
+    reported.number(u64::from(side.highest));
+    reported.text(", next ");
+    reported.number(u64::from(side.next));
+    reported.end();
 }
 
 /// Prints a step, with the flags and the mark of a copy.
-fn tell_step(told: &mut Told, step: &Step) {
-    told.begin();
-    told.shown(&StepLine(step));
+fn print_step(reported: &mut Reported, step: &Step) {
+    reported.begin();
+    reported.shown(&StepLine(step));
     if let Step::New { flags, mark, .. } = *step {
-        told.text(" ");
-        told.flags(flags);
-        told.text(" ");
-        told.bytes(&mark.text());
+        reported.text(" ");
+        reported.flags(flags);
+        reported.text(" ");
+        reported.bytes(&mark.text());
     }
-    told.end();
+    reported.end();
 }

@@ -1,21 +1,21 @@
 //! How a script is played.
 
-use crate::cells::tell_cells;
+use crate::cells::print_cells;
 use crate::changes::{grown, with_line, with_more};
-use crate::comparison::tell_compared;
+use crate::comparison::print_compared;
 use crate::devices::{SOUND, read_devices};
-use crate::mail::{tell_of_message, tell_of_side};
-use crate::marks::tell_drawn;
-use crate::planner_calls::tell_planned;
-use crate::runs::{tell_beginnings, tell_run};
-use crate::turns::tell_turns;
-use crate::written::tell_written;
+use crate::mail::{print_of_message, print_of_side};
+use crate::marks::print_drawn;
+use crate::planner_calls::print_planned;
+use crate::runs::{print_beginnings, print_run};
+use crate::turns::print_turns;
+use crate::written::print_written;
 use mailcore::uid::Uid;
 use std::alloc::Global;
 use test_scripts::failure::Failure;
 use test_scripts::play::{Player, play_all};
+use test_scripts::reported::Reported;
 use test_scripts::script::Script;
-use test_scripts::told::Told;
 use test_scripts::words::Words;
 
 /// Plays a script of worlds and of words of mail.
@@ -45,13 +45,13 @@ impl Player for LastWorld {
             "world" => {
                 let text = script.block(b".")?;
                 self.text = Vec::from_slice(self.alloc, text)?;
-                tell_run(self.alloc, &mut script.told, SOUND, &self.text)
+                print_run(self.alloc, &mut script.reported, SOUND, &self.text)
             }
             "grow" => {
                 self.text = grown(self.alloc, &self.text, line)?;
-                tell_run(self.alloc, &mut script.told, SOUND, &self.text)
+                print_run(self.alloc, &mut script.reported, SOUND, &self.text)
             }
-            _ => self.ask(word, line, &mut script.told),
+            _ => self.ask(word, line, &mut script.reported),
         }
     }
 
@@ -62,27 +62,32 @@ impl Player for LastWorld {
 
 impl LastWorld {
     /// Prints what is asked of the last world.
-    fn ask(&self, word: &str, line: &mut Words<'_>, told: &mut Told) -> Result<(), Failure> {
+    fn ask(
+        &self,
+        word: &str,
+        line: &mut Words<'_>,
+        reported: &mut Reported,
+    ) -> Result<(), Failure> {
         let (alloc, world) = (self.alloc, self.text.as_slice());
         match word {
             "line" => {
                 let number = line.number();
                 let text = with_line(alloc, world, number, line)?;
-                tell_run(alloc, told, SOUND, &text)
+                print_run(alloc, reported, SOUND, &text)
             }
             "behind" => {
                 let text = with_more(alloc, world, line)?;
-                tell_run(alloc, told, SOUND, &text)
+                print_run(alloc, reported, SOUND, &text)
             }
-            "beginnings" => tell_beginnings(alloc, told, world),
+            "beginnings" => print_beginnings(alloc, reported, world),
             "reader" | "writer" | "error" | "argument" => {
-                tell_run(alloc, told, read_devices(word, line), world)
+                print_run(alloc, reported, read_devices(word, line), world)
             }
-            "written" => tell_written(alloc, told, world, line),
-            "news" | "unfit" | "plan" => tell_planned(alloc, told, world, word, line),
-            "turns" => tell_turns(alloc, told, world, line),
-            "compare" => tell_compared(alloc, told, line),
-            _ => ask_mail(alloc, word, line, told),
+            "written" => print_written(alloc, reported, world, line),
+            "news" | "unfit" | "plan" => print_planned(alloc, reported, world, word, line),
+            "turns" => print_turns(alloc, reported, world, line),
+            "compare" => print_compared(alloc, reported, line),
+            _ => ask_mail(alloc, word, line, reported),
         }
     }
 }
@@ -92,19 +97,19 @@ fn ask_mail(
     alloc: Global,
     word: &str,
     line: &mut Words<'_>,
-    told: &mut Told,
+    reported: &mut Reported,
 ) -> Result<(), Failure> {
     match word {
-        "sync" => tell_cells(alloc, told, line),
-        "marks" => tell_drawn(alloc, told, line),
-        "length" | "copy" | "copy_len" | "fit" => tell_of_side(alloc, told, word, line),
+        "sync" => print_cells(alloc, reported, line),
+        "marks" => print_drawn(alloc, reported, line),
+        "length" | "copy" | "copy_len" | "fit" => print_of_side(alloc, reported, word, line),
         "uid" => {
             match Uid::new(line.number()) {
-                Some(uid) => told.say(&uid.get()),
-                None => told.answer("none"),
+                Some(uid) => reported.say(&uid.get()),
+                None => reported.answer("none"),
             }
             Ok(())
         }
-        _ => tell_of_message(alloc, told, word, line),
+        _ => print_of_message(alloc, reported, word, line),
     }
 }

@@ -4,16 +4,16 @@ use crate::devices::{Devices, SOUND, Sink, Source};
 use run_plan::run::run_plan;
 use std::alloc::Global;
 use test_scripts::failure::Failure;
-use test_scripts::told::Told;
+use test_scripts::reported::Reported;
 
 /// What standard error gets where memory runs out.
 const NO_MEMORY: &[u8] = b"mbplan: no memory\n";
 
 /// Prints what a run on this world writes to standard output and standard error, how many bytes it leaves unread, and its status.
 /// `NoMemory`: also where the run reports it; a writer that cuts this short hides it.
-pub fn tell_run(
+pub fn print_run(
     alloc: Global,
-    told: &mut Told,
+    reported: &mut Reported,
     devices: Devices,
     world: &[u8],
 ) -> Result<(), Failure> {
@@ -34,12 +34,12 @@ pub fn tell_run(
         is_flushed: true,
     };
     let status = run_plan(alloc, devices.arguments, &mut input, &mut out, &mut err);
-    tell_lines(told, "", &out.bytes);
-    tell_lines(told, "error: ", &err.bytes);
+    print_lines(reported, "", &out.bytes);
+    print_lines(reported, "error: ", &err.bytes);
     if !input.rest.is_empty() {
-        tell_number(told, "unread: ", input.rest.len() as u64, " bytes");
+        print_number(reported, "unread: ", input.rest.len() as u64, " bytes");
     }
-    tell_number(told, "status ", u64::from(status), "");
+    print_number(reported, "status ", u64::from(status), "");
     if out.wants_memory || err.wants_memory || err.bytes.as_slice() == NO_MEMORY {
         Err(Failure::NoMemory)
     } else {
@@ -47,46 +47,50 @@ pub fn tell_run(
     }
 }
 
-fn tell_number(told: &mut Told, before: &str, number: u64, behind: &str) {
-    told.begin();
-    told.text(before);
-    told.number(number);
-    told.text(behind);
-    told.end();
+fn print_number(reported: &mut Reported, before: &str, number: u64, following: &str) {
+    reported.begin();
+    reported.text(before);
+    reported.number(number);
+    reported.text(following);
+    reported.end();
 }
 
 /// Prints each line of a text, after the name of the text. A line that has no end says so.
-pub fn tell_lines(told: &mut Told, name: &str, text: &[u8]) {
+pub fn print_lines(reported: &mut Reported, name: &str, text: &[u8]) {
     for line in text.split_inclusive(|byte| *byte == b'\n') {
-        told.begin();
-        told.text(name);
+        reported.begin();
+        reported.text(name);
         match line {
-            [line @ .., b'\n'] => told.bytes(line),
+            [line @ .., b'\n'] => reported.bytes(line),
             _ => {
-                told.bytes(line);
-                told.text(" (no line end)");
+                reported.bytes(line);
+                reported.text(" (no line end)");
             }
         }
-        told.end();
+        reported.end();
     }
 }
 
 /// Prints what a run gives on each beginning of a world but the whole. Beginnings with one answer stand together.
-pub fn tell_beginnings(alloc: Global, told: &mut Told, world: &[u8]) -> Result<(), Failure> {
+pub fn print_beginnings(
+    alloc: Global,
+    reported: &mut Reported,
+    world: &[u8],
+) -> Result<(), Failure> {
     let mut is_whole = true;
     let mut first = 0;
-    let mut common = Told::new(alloc);
+    let mut common = Reported::new(alloc);
     for length in 0..world.len() {
-        let mut answer = Told::new(alloc);
-        let run = tell_run(alloc, &mut answer, SOUND, &world[..length]);
+        let mut answer = Reported::new(alloc);
+        let run = print_run(alloc, &mut answer, SOUND, &world[..length]);
         is_whole = is_whole && run.is_ok() && !answer.is_lost();
         if answer.as_str() != common.as_str() {
-            tell_range(told, first, length, common.as_str());
+            print_range(reported, first, length, common.as_str());
             first = length;
             common = answer;
         }
     }
-    tell_range(told, first, world.len(), common.as_str());
+    print_range(reported, first, world.len(), common.as_str());
     if is_whole {
         Ok(())
     } else {
@@ -95,14 +99,14 @@ pub fn tell_beginnings(alloc: Global, told: &mut Told, world: &[u8]) -> Result<(
 }
 
 /// Prints what the beginnings of these lengths give, up to the second length and without it.
-fn tell_range(told: &mut Told, first: usize, end: usize, answer: &str) {
+fn print_range(reported: &mut Reported, first: usize, end: usize, answer: &str) {
     if first < end {
-        told.begin();
-        told.number(first as u64);
-        told.text(" to ");
-        told.number((end - 1) as u64);
-        told.text(" bytes:");
-        told.end();
-        told.text(answer);
+        reported.begin();
+        reported.number(first as u64);
+        reported.text(" to ");
+        reported.number((end - 1) as u64);
+        reported.text(" bytes:");
+        reported.end();
+        reported.text(answer);
     }
 }

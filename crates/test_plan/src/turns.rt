@@ -11,7 +11,7 @@ use planner::turns::Turns;
 use rules::state::SyncState;
 use std::alloc::Global;
 use test_scripts::failure::Failure;
-use test_scripts::told::Told;
+use test_scripts::reported::Reported;
 use test_scripts::words::Words;
 use worlds::world::Waiting;
 
@@ -45,9 +45,9 @@ impl Bounds {
 
 /// Prints within which bounds the turns are that the planner takes on the world of a text, with the marks that the rest of the line
 /// names. `Script`: the text is no world, or the plan wants another number of marks.
-pub fn tell_turns(
+pub fn print_turns(
     alloc: Global,
-    told: &mut Told,
+    reported: &mut Reported,
     text: &[u8],
     line: &mut Words<'_>,
 ) -> Result<(), Failure> {
@@ -65,22 +65,22 @@ pub fn tell_turns(
     ) {
         return Err(Failure::NoMemory);
     }
-    tell_within(told, &turns, Bounds::of(&far, &near, state));
+    print_within(reported, &turns, Bounds::of(&far, &near, state));
     Ok(())
 }
 
-fn tell_within(told: &mut Told, turns: &Turns, bounds: Bounds) {
-    told.begin();
+fn print_within(reported: &mut Reported, turns: &Turns, bounds: Bounds) {
+    reported.begin();
     if turns.count() == 0 {
-        told.text("none");
+        reported.text("none");
     } else if bounds.hold(turns) {
-        told.text("from ");
-        told.number(bounds.least);
-        told.text(" to ");
-        told.number(bounds.most);
+        reported.text("from ");
+        reported.number(bounds.least);
+        reported.text(" to ");
+        reported.number(bounds.most);
     } else {
-        told.number(turns.count());
-        told.text(", which are too few or too many");
+        reported.number(turns.count());
+        reported.text(", which are too few or too many");
     }
-    told.end();
+    reported.end();
 }

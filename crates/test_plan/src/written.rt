@@ -2,10 +2,10 @@
 
 use crate::changes::{around, with_line};
 use crate::phrases::pass;
-use crate::runs::tell_lines;
+use crate::runs::print_lines;
 use std::alloc::Global;
 use test_scripts::failure::Failure;
-use test_scripts::told::Told;
+use test_scripts::reported::Reported;
 use test_scripts::words::Words;
 use worlds::fault::WorldFault;
 use worlds::read::read_world;
@@ -13,17 +13,17 @@ use worlds::world::{Waiting, World};
 use written_worlds::write::{write_from_far, write_world};
 
 /// Prints how what the rest of the line says is written of a world: all of it, a line, or its part from `far` on.
-pub fn tell_written(
+pub fn print_written(
     alloc: Global,
-    told: &mut Told,
+    reported: &mut Reported,
     world: &[u8],
     line: &mut Words<'_>,
 ) -> Result<(), Failure> {
     if line.is_over() {
-        return tell_part(alloc, told, world, None);
+        return print_part(alloc, reported, world, None);
     }
     if line.word() == "line" {
-        return tell_line(alloc, told, world, line);
+        return print_line(alloc, reported, world, line);
     }
     pass(line, "far");
     let waiting = if line.is_over() {
@@ -32,13 +32,13 @@ pub fn tell_written(
         pass(line, "admitted");
         Waiting::Admitted
     };
-    tell_part(alloc, told, world, Some(waiting))
+    print_part(alloc, reported, world, Some(waiting))
 }
 
 /// `N "BYTES"`: prints how line N is written, once the world has these bytes there.
-fn tell_line(
+fn print_line(
     alloc: Global,
-    told: &mut Told,
+    reported: &mut Reported,
     world: &[u8],
     line: &mut Words<'_>,
 ) -> Result<(), Failure> {
@@ -47,23 +47,23 @@ fn tell_line(
     let written = written(alloc, &text, None)?;
     match around(written.as_str().as_bytes(), number) {
         Some((_, line, _)) => {
-            told.begin();
-            told.bytes(line);
-            told.end();
+            reported.begin();
+            reported.bytes(line);
+            reported.end();
             Ok(())
         }
         None => Err(Failure::Script),
     }
 }
 
-fn tell_part(
+fn print_part(
     alloc: Global,
-    told: &mut Told,
+    reported: &mut Reported,
     world: &[u8],
     from_far: Option<Waiting>,
 ) -> Result<(), Failure> {
     let written = written(alloc, world, from_far)?;
-    tell_lines(told, "", written.as_str().as_bytes());
+    print_lines(reported, "", written.as_str().as_bytes());
     Ok(())
 }
 

@@ -1,7 +1,7 @@
 //! The calls of an outside in memory, and which of them stop or are refused, as scripts say it.
 
 use book::mem_shelf::ShelfCall;
-use device::schedule::{Moment, Stop};
+use device::schedule::{CallStop, Moment};
 use mailcore::side::Side;
 use mem_mailbox::box_condition::{BoxCall, BoxCondition};
 use run_trial::stop::Halt;
@@ -59,8 +59,8 @@ fn call_named(name: &[u8]) -> Option<Call> {
 /// Which calls of a mailbox stop, and which are refused.
 #[derive(Drop)]
 pub struct BoxSchedule {
-    stops: Vec<Stop<BoxCall>>,
-    refusals: Vec<Stop<BoxCall>>,
+    stops: Vec<CallStop<BoxCall>>,
+    refusals: Vec<CallStop<BoxCall>>,
 }
 
 impl BoxSchedule {
@@ -87,7 +87,7 @@ pub struct Schedule {
     /// Of the near mailbox.
     pub near: BoxSchedule,
     /// The calls of the shelf that stop.
-    pub shelf_stops: Vec<Stop<ShelfCall>>,
+    pub shelf_stops: Vec<CallStop<ShelfCall>>,
 }
 
 impl Schedule {
@@ -118,7 +118,7 @@ impl Schedule {
         match call {
             Some(Call::Box(_, BoxCall::Sync)) | Some(Call::Shelf(_)) | None => Err(Failure::Script),
             Some(Call::Box(side, call)) => Ok(
-                self.of(side).refusals.push(Stop {
+                self.of(side).refusals.push(CallStop {
                     call,
                     number,
                     moment: Moment::Before,
@@ -128,22 +128,22 @@ impl Schedule {
     }
 
     /// Adds a stop after the others.
-    fn stop(&mut self, stop: Stop<Call>) -> Result<(), Failure> {
-        let Stop {
+    fn stop(&mut self, stop: CallStop<Call>) -> Result<(), Failure> {
+        let CallStop {
             call,
             number,
             moment,
         } = stop;
         match call {
             Call::Box(side, call) => Ok(
-                self.of(side).stops.push(Stop {
+                self.of(side).stops.push(CallStop {
                     call,
                     number,
                     moment,
                 })?,
             ),
             Call::Shelf(call) => Ok(
-                self.shelf_stops.push(Stop {
+                self.shelf_stops.push(CallStop {
                     call,
                     number,
                     moment,

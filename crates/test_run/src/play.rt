@@ -2,13 +2,13 @@
 
 use crate::calls::Schedule;
 use crate::stage::{Stage, left_in, stage_of};
-use book::shelf::File;
+use book::shelf::ShelfFile;
 use run_trial::report::Ending;
 use std::alloc::Global;
 use test_scripts::failure::Failure;
 use test_scripts::play::{Player, play_all};
+use test_scripts::reported::Reported;
 use test_scripts::script::Script;
-use test_scripts::told::Told;
 use test_scripts::words::Words;
 
 /// Plays the runs of a script.
@@ -53,7 +53,7 @@ impl Player for Runs {
             "journal" => self.set_journal(line),
             "stop" => self.schedule.read_stop(line),
             "refuse" => self.schedule.read_refusal(line),
-            "run" => self.run(line.number(), &mut script.told),
+            "run" => self.run(line.number(), &mut script.reported),
             _ => Err(Failure::Script),
         }
     }
@@ -76,13 +76,13 @@ impl Runs {
     }
 
     /// Makes a run, and prints what came of it.
-    fn run(&mut self, tries: u32, told: &mut Told) -> Result<(), Failure> {
+    fn run(&mut self, tries: u32, reported: &mut Reported) -> Result<(), Failure> {
         let stage = match self.stage.take() {
             Some(stage) => Ok(stage),
             None => self.first_stage(),
         };
         let (stage, ending) = stage?.run(self.alloc, tries);
-        let ended = tell_run(self.alloc, told, &stage, &ending);
+        let ended = print_run(self.alloc, reported, &stage, &ending);
         self.stage = Some(stage);
         ended
     }
@@ -93,7 +93,7 @@ impl Runs {
         match stage_of(self.alloc, &self.world, schedule) {
             Ok(stage) => {
                 let Stage { options, mut parts } = stage;
-                parts.shelf.put(File::Journal, self.journal.take());
+                parts.shelf.put(ShelfFile::Journal, self.journal.take());
                 Ok(Stage { options, parts })
             }
             Err(failure) => Err(failure),
@@ -102,8 +102,13 @@ impl Runs {
 }
 
 /// Prints what a run came to, and what it left.
-fn tell_run(alloc: Global, told: &mut Told, stage: &Stage, ending: &Ending) -> Result<(), Failure> {
-    told.lines(&ending.text(alloc)?);
-    told.lines(&left_in(alloc, &stage.parts)?);
+fn print_run(
+    alloc: Global,
+    reported: &mut Reported,
+    stage: &Stage,
+    ending: &Ending,
+) -> Result<(), Failure> {
+    reported.lines(&ending.text(alloc)?);
+    reported.lines(&left_in(alloc, &stage.parts)?);
     Ok(())
 }

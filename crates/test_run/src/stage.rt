@@ -6,7 +6,7 @@ ghost use Rattle.run_pair.specs.Pairs.{seen_of};
 use crate::calls::{BoxSchedule, Schedule};
 use book::mem_shelf::MemShelf;
 use mailcore::keywords::Keywords;
-use mailcore::mailbox::{Mailbox, Message};
+use mailcore::mailbox::{Message, StoredMailbox};
 use mailcore::octets::Octets;
 use mailcore::uid::Uid;
 use mem_mailbox::kind::{OfFar, OfNear};
@@ -184,7 +184,7 @@ fn waiting_files(alloc: Global, files: &[Message]) -> Result<Vec<WaitingFile>, A
 /// The far mailbox of a world, by this map of keywords.
 fn far_box(
     alloc: Global,
-    mailbox: Mailbox,
+    mailbox: StoredMailbox,
     keywords: &Keywords,
     schedule: BoxSchedule,
 ) -> Result<MemMailbox<OfFar>, Failure>
@@ -200,7 +200,7 @@ fn far_box(
 /// The near mailbox of a world, by this map of keywords.
 fn near_box(
     alloc: Global,
-    mailbox: Mailbox,
+    mailbox: StoredMailbox,
     waiting: Vec<WaitingFile>,
     keywords: &Keywords,
     schedule: BoxSchedule,
@@ -222,7 +222,7 @@ fn near_box(
 }
 
 /// The messages of a mailbox. None: its UIDVALIDITY or its UIDNEXT is 0, which is no world's.
-fn store_of(mailbox: Mailbox) -> Option<MemStore> {
+fn store_of(mailbox: StoredMailbox) -> Option<MemStore> {
     if mailbox.validity == 0 || mailbox.next == 0 {
         return None;
     }

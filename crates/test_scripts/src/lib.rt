@@ -9,6 +9,6 @@ pub mod failure;
 pub mod mail;
 pub mod play;
 pub mod program;
+pub mod reported;
 pub mod script;
-pub mod told;
 pub mod words;

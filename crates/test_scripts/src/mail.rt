@@ -1,19 +1,19 @@
 //! Mailboxes and their messages, as scripts say and show them.
 
 use crate::failure::Failure;
-use crate::told::Told;
+use crate::reported::Reported;
 use crate::words::Words;
-use mailcore::mailbox::{Mailbox, Message};
+use mailcore::mailbox::{Message, StoredMailbox};
 use mailcore::mailbox_name::MailboxName;
 use mailcore::octets::Octets;
 use std::alloc::Global;
 
 /// `VALIDITY NEXT NAME`: an empty mailbox. `Script`: the name is outside the limits.
-pub fn read_mailbox(alloc: Global, line: &mut Words<'_>) -> Result<Mailbox, Failure> {
+pub fn read_mailbox(alloc: Global, line: &mut Words<'_>) -> Result<StoredMailbox, Failure> {
     let validity = line.number();
     let next = line.number();
     let name = MailboxName::from_bytes(alloc, line.text().as_bytes())?.ok_or(Failure::Script)?;
-    Ok(Mailbox::new(alloc, name, validity, next))
+    Ok(StoredMailbox::new(alloc, name, validity, next))
 }
 
 /// `UID FLAGS "BYTES"`: a message.
@@ -29,41 +29,41 @@ pub fn read_message(alloc: Global, line: &mut Words<'_>) -> Result<Message, Fail
 }
 
 /// An answer for each line of what a server said. A line that does not end with CR LF is marked so.
-pub fn tell_replies(told: &mut Told, replies: &[u8]) {
+pub fn print_replies(reported: &mut Reported, replies: &[u8]) {
     for line in replies.split_inclusive(|byte| *byte == b'\n') {
-        told.begin();
+        reported.begin();
         match line.strip_suffix(b"\r\n") {
-            Some(text) => told.bytes(text),
+            Some(text) => reported.bytes(text),
             None => {
-                told.bytes(line);
-                told.text(" (no CR LF)");
+                reported.bytes(line);
+                reported.text(" (no CR LF)");
             }
         }
-        told.end();
+        reported.end();
     }
 }
 
 /// An answer for a mailbox: its name, its UIDVALIDITY and UIDNEXT, and its messages.
-pub fn tell_mailbox(told: &mut Told, mailbox: &Mailbox) {
-    told.begin();
-    told.bytes(mailbox.name.as_str().as_bytes());
-    told.text(": validity ");
-    told.number(u64::from(mailbox.validity));
-    told.text(", next ");
-    told.number(u64::from(mailbox.next));
+pub fn print_mailbox(reported: &mut Reported, mailbox: &StoredMailbox) {
+    reported.begin();
+    reported.bytes(mailbox.name.as_str().as_bytes());
+    reported.text(": validity ");
+    reported.number(u64::from(mailbox.validity));
+    reported.text(", next ");
+    reported.number(u64::from(mailbox.next));
     for message in mailbox.messages.as_slice() {
-        told.text("; ");
-        tell_message(told, message);
+        reported.text("; ");
+        print_message(reported, message);
     }
-    told.end();
+    reported.end();
 }
 
 /// A message: its UID, its flags and its bytes.
-pub fn tell_message(told: &mut Told, message: &Message) {
-    told.number(u64::from(message.uid.get()));
-    told.text(" ");
-    told.flags(message.flags);
-    told.text(" \"");
-    told.bytes(message.bytes.as_slice());
-    told.text("\"");
+pub fn print_message(reported: &mut Reported, message: &Message) {
+    reported.number(u64::from(message.uid.get()));
+    reported.text(" ");
+    reported.flags(message.flags);
+    reported.text(" \"");
+    reported.bytes(message.bytes.as_slice());
+    reported.text("\"");
 }

@@ -28,11 +28,11 @@ fn run<L: Libraries>(rt: &HostRuntime, libraries: &L) -> Result<(), Failure> {
     rt.stdin().read_to_end(&mut bytes)?;
     let mut script = Script::new(rt.alloc(), &bytes);
     play_parts(rt, libraries, &mut script)?;
-    if script.told.is_lost() {
+    if script.reported.is_lost() {
         return Err(Failure::NoMemory);
     }
     let mut out = rt.stdout();
-    out.write_all(script.told.as_str().as_bytes())?;
+    out.write_all(script.reported.as_str().as_bytes())?;
     Ok(out.flush()?)
 }
 

@@ -1,7 +1,7 @@
 //! A script, and the transcript of what was played of it.
 
 use crate::failure::Failure;
-use crate::told::Told;
+use crate::reported::Reported;
 use std::alloc::Global;
 use texts::cut::cut;
 
@@ -14,7 +14,7 @@ pub struct Script<'a> {
     rest: &'a [u8],
     number: usize,
     /// The transcript.
-    pub told: Told,
+    pub reported: Reported,
 }
 
 impl<'a> Script<'a> {
@@ -23,7 +23,7 @@ impl<'a> Script<'a> {
         Script {
             rest: bytes,
             number: 0,
-            told: Told::new(alloc),
+            reported: Reported::new(alloc),
         }
     }
 
@@ -79,8 +79,9 @@ impl<'a> Script<'a> {
         };
         self.rest = rest;
         self.number = self.number.saturating_add(1);
-        self.told.text(str::from_utf8(line).unwrap_or("(no text)"));
-        self.told.end();
+        self.reported
+            .text(str::from_utf8(line).unwrap_or("(no text)"));
+        self.reported.end();
         line
     }
 }

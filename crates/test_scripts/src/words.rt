@@ -116,7 +116,7 @@ impl<'a> Words<'a> {
         }
     }
 
-    /// `before`, `after`, or `behind N` for a call that stops once N bytes are written; before where the word is none of these.
+    /// `before`, `after`, or `following N` for a call that stops once N bytes are written; before where the word is none of these.
     pub fn moment(&mut self) -> Moment {
         match self.word() {
             "before" => Moment::Before,

@@ -4,7 +4,7 @@ use crate::sent::push_times;
 use imap_server::server::Server;
 use std::alloc::Global;
 use test_scripts::failure::Failure;
-use test_scripts::told::Told;
+use test_scripts::reported::Reported;
 use test_scripts::words::Words;
 
 /// `NAME FLAGS N "BYTES"`: a message with so many times these bytes arrives in the mailbox of this name.
@@ -12,7 +12,7 @@ pub fn arrive(
     alloc: Global,
     server: &mut Server,
     line: &mut Words<'_>,
-    told: &mut Told,
+    reported: &mut Reported,
 ) -> Result<(), Failure> {
     let name = line.word();
     let flags = line.flags();
@@ -21,13 +21,13 @@ pub fn arrive(
     push_times(alloc, &mut message, times, line)?;
     match server.arrive(name.as_bytes(), flags, &message) {
         Ok(Some(uid)) => {
-            told.begin();
-            told.text("UID ");
-            told.number(u64::from(uid.get()));
-            told.end();
+            reported.begin();
+            reported.text("UID ");
+            reported.number(u64::from(uid.get()));
+            reported.end();
         }
-        Ok(None) => told.answer("none"),
-        Err(fault) => told.say(&fault),
+        Ok(None) => reported.answer("none"),
+        Err(fault) => reported.say(&fault),
     }
     Ok(())
 }

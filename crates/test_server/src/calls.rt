@@ -4,8 +4,8 @@ use crate::sent::push_line;
 use imap_link::link::{Link, LinkFault};
 use std::alloc::Global;
 use test_scripts::failure::Failure;
-use test_scripts::mail::tell_replies;
-use test_scripts::told::Told;
+use test_scripts::mail::print_replies;
+use test_scripts::reported::Reported;
 use test_scripts::words::Words;
 
 /// At most so many bytes are asked of a link at once.
@@ -17,13 +17,13 @@ pub fn call<L: Link>(
     link: &mut L,
     word: &str,
     line: &mut Words<'_>,
-    told: &mut Told,
+    reported: &mut Reported,
 ) -> Result<(), Failure> {
     match word {
-        "reconnect" => tell(told, link.reconnect()),
-        "receive" => receive(link, told),
-        "count" => count(link, told),
-        _ => send(alloc, link, word, line, told),
+        "reconnect" => report(reported, link.reconnect()),
+        "receive" => receive(link, reported),
+        "count" => count(link, reported),
+        _ => send(alloc, link, word, line, reported),
     }
 }
 
@@ -32,27 +32,27 @@ fn send<L: Link>(
     link: &mut L,
     word: &str,
     line: &mut Words<'_>,
-    told: &mut Told,
+    reported: &mut Reported,
 ) -> Result<(), Failure> {
     let mut sent = Vec::new(alloc);
     push_line(alloc, &mut sent, word, line)?;
-    tell(told, link.send(&sent))
+    report(reported, link.send(&sent))
 }
 
 /// Receives once, and answers what came.
-fn receive<L: Link>(link: &mut L, told: &mut Told) -> Result<(), Failure> {
+fn receive<L: Link>(link: &mut L, reported: &mut Reported) -> Result<(), Failure> {
     let mut piece = [0; PIECE_BYTES];
     match link.recv(&mut piece) {
         Ok(count) => {
-            tell_replies(told, &piece[..count]);
+            print_replies(reported, &piece[..count]);
             Ok(())
         }
-        Err(fault) => tell(told, Err(fault)),
+        Err(fault) => report(reported, Err(fault)),
     }
 }
 
 /// Receives up to a short piece, and answers how many bytes came.
-fn count<L: Link>(link: &mut L, told: &mut Told) -> Result<(), Failure> {
+fn count<L: Link>(link: &mut L, reported: &mut Reported) -> Result<(), Failure> {
     let mut piece = [0; PIECE_BYTES];
     let mut all = 0u64;
     for _ in 0..u64::MAX {
@@ -63,21 +63,21 @@ fn count<L: Link>(link: &mut L, told: &mut Told) -> Result<(), Failure> {
                     break;
                 }
             }
-            Err(fault) => return tell(told, Err(fault)),
+            Err(fault) => return report(reported, Err(fault)),
         }
     }
-    told.begin();
-    told.number(all);
-    told.text(" bytes");
-    told.end();
+    reported.begin();
+    reported.number(all);
+    reported.text(" bytes");
+    reported.end();
     Ok(())
 }
 
 /// Answers `ok`, or that the call stopped. Where no memory is there, nothing is printed.
-fn tell(told: &mut Told, answer: Result<(), LinkFault>) -> Result<(), Failure> {
+fn report(reported: &mut Reported, answer: Result<(), LinkFault>) -> Result<(), Failure> {
     match answer {
-        Ok(()) => told.answer("ok"),
-        Err(LinkFault::Stopped) => told.answer("stopped"),
+        Ok(()) => reported.answer("ok"),
+        Err(LinkFault::Stopped) => reported.answer("stopped"),
         Err(LinkFault::NoMemory) => return Err(Failure::NoMemory),
     }
     Ok(())

@@ -1,24 +1,24 @@
 //! Links to a server, in memory or over loopback.
 
 use crate::calls::call;
-use crate::mailboxes::{add_mailbox, add_message, make_server, tell_mailboxes};
+use crate::mailboxes::{add_mailbox, add_message, make_server, print_mailboxes};
 use crate::stops::read_stop;
-use mailcore::mailbox::Mailbox;
+use mailcore::mailbox::StoredMailbox;
 use mem_link::loop_link::LoopLink;
 use mem_link::mem_link::MemLink;
 use mem_link::schedule::{LinkStop, Schedule};
 use std::mem;
 use test_scripts::failure::Failure;
 use test_scripts::play::Player;
+use test_scripts::reported::Reported;
 use test_scripts::script::Script;
-use test_scripts::told::Told;
 use test_scripts::words::Words;
 
 /// The mailboxes of the next server, the stops of the link to it, and a link.
 #[derive(Drop)]
 pub struct Links {
     rt: HostRuntime,
-    mailboxes: Vec<Mailbox>,
+    mailboxes: Vec<StoredMailbox>,
     stops: Vec<LinkStop>,
     link: Option<AnyLink>,
 }
@@ -60,26 +60,31 @@ impl Links {
     }
 
     /// Answers how many calls of the link have stopped, or what stands on its server.
-    fn look(&self, word: &str, told: &mut Told) -> Result<(), Failure> {
+    fn look(&self, word: &str, reported: &mut Reported) -> Result<(), Failure> {
         let (stops, server) = match &self.link {
             Some(AnyLink::Memory(link)) => (link.stops(), link.server()),
             Some(AnyLink::Loopback(link)) => (link.stops(), link.server()),
             None => return Err(Failure::Script),
         };
         if word == "stops" {
-            told.say(&stops);
+            reported.say(&stops);
         } else {
-            tell_mailboxes(told, server);
+            print_mailboxes(reported, server);
         }
         Ok(())
     }
 
     /// Makes a call of the link, and answers what it gives.
-    fn call(&mut self, word: &str, line: &mut Words<'_>, told: &mut Told) -> Result<(), Failure> {
+    fn call(
+        &mut self,
+        word: &str,
+        line: &mut Words<'_>,
+        reported: &mut Reported,
+    ) -> Result<(), Failure> {
         let alloc = self.rt.alloc();
         match &mut self.link {
-            Some(AnyLink::Memory(link)) => call(alloc, link, word, line, told),
-            Some(AnyLink::Loopback(link)) => call(alloc, link, word, line, told),
+            Some(AnyLink::Memory(link)) => call(alloc, link, word, line, reported),
+            Some(AnyLink::Loopback(link)) => call(alloc, link, word, line, reported),
             None => Err(Failure::Script),
         }
     }
@@ -99,8 +104,8 @@ impl Player for Links {
             "message" => add_message(alloc, &mut self.mailboxes, line),
             "stop" => Ok(self.stops.push(read_stop(line))?),
             "link" => self.set_link(line),
-            "stops" | "mailboxes" => self.look(word, &mut script.told),
-            _ => self.call(word, line, &mut script.told),
+            "stops" | "mailboxes" => self.look(word, &mut script.reported),
+            _ => self.call(word, line, &mut script.reported),
         }
     }
 

@@ -5,18 +5,18 @@ ghost use Rattle.imap_server.specs.Boxes.{AreServed};
 
 use imap_server::served::are_served;
 use imap_server::server::Server;
-use mailcore::mailbox::Mailbox;
+use mailcore::mailbox::StoredMailbox;
 use std::alloc::Global;
 use std::mem;
 use test_scripts::failure::Failure;
-use test_scripts::mail::{read_mailbox, read_message, tell_mailbox};
-use test_scripts::told::Told;
+use test_scripts::mail::{print_mailbox, read_mailbox, read_message};
+use test_scripts::reported::Reported;
 use test_scripts::words::Words;
 
 /// `VALIDITY NEXT NAME`: adds an empty mailbox.
 pub fn add_mailbox(
     alloc: Global,
-    mailboxes: &mut Vec<Mailbox>,
+    mailboxes: &mut Vec<StoredMailbox>,
     line: &mut Words<'_>,
 ) -> Result<(), Failure> {
     Ok(mailboxes.push(read_mailbox(alloc, line)?)?)
@@ -25,7 +25,7 @@ pub fn add_mailbox(
 /// `UID FLAGS "BYTES"`: adds a message to the last mailbox.
 pub fn add_message(
     alloc: Global,
-    mailboxes: &mut Vec<Mailbox>,
+    mailboxes: &mut Vec<StoredMailbox>,
     line: &mut Words<'_>,
 ) -> Result<(), Failure> {
     match mailboxes.last_mut() {
@@ -35,7 +35,7 @@ pub fn add_message(
 }
 
 /// A server that takes these mailboxes, for the user `u` with the password `p`. `Script`: it cannot serve them.
-pub fn make_server(alloc: Global, mailboxes: &mut Vec<Mailbox>) -> Result<Server, Failure>
+pub fn make_server(alloc: Global, mailboxes: &mut Vec<StoredMailbox>) -> Result<Server, Failure>
     ensures { IfOk result (λ server. AreServed server.server.mailboxes) }
 {
     if !are_served(mailboxes) {
@@ -48,8 +48,8 @@ pub fn make_server(alloc: Global, mailboxes: &mut Vec<Mailbox>) -> Result<Server
 }
 
 /// An answer for each mailbox of a server.
-pub fn tell_mailboxes(told: &mut Told, server: &Server) {
+pub fn print_mailboxes(reported: &mut Reported, server: &Server) {
     for mailbox in server.mailboxes() {
-        tell_mailbox(told, mailbox);
+        print_mailbox(reported, mailbox);
     }
 }

@@ -7,8 +7,8 @@ use std::alloc::Global;
 use std::io;
 use std::io::{ErrorKind, Read, Write};
 use std::net::{Shutdown, TcpListener, TcpStream};
-use test_scripts::mail::tell_replies;
-use test_scripts::told::Told;
+use test_scripts::mail::print_replies;
+use test_scripts::reported::Reported;
 use test_scripts::words::Words;
 
 /// Serves what a client sends over a loopback connection, both of whose ends this process has.
@@ -16,14 +16,14 @@ pub fn serve_loopback(
     rt: &HostRuntime,
     server: &mut Server,
     sent: &[u8],
-    told: &mut Told,
+    reported: &mut Reported,
 ) -> io::Result<()> {
     let listener = TcpListener::bind(rt, "127.0.0.1:0")?;
     let client = TcpStream::connect(rt, listener.local_addr()?)?;
     let (stream, _address) = listener.accept()?;
     let mut got = Vec::new(rt.alloc());
     let ended = talk(server, &stream, &client, sent, &mut got)?;
-    tell_served(told, &got, ended);
+    print_served(reported, &got, ended);
     Ok(())
 }
 
@@ -88,7 +88,7 @@ pub fn serve_memory(
     server: &mut Server,
     sent: &[u8],
     line: &mut Words<'_>,
-    told: &mut Told,
+    reported: &mut Reported,
 ) {
     let mut input = Input {
         bytes: sent,
@@ -108,14 +108,14 @@ pub fn serve_memory(
         }
     }
     let ended = serve_stream(server, &mut input, &mut output);
-    tell_served(told, &output.bytes, ended);
+    print_served(reported, &output.bytes, ended);
 }
 
 /// Answers what came back, and how serving ended.
-fn tell_served(told: &mut Told, got: &[u8], ended: Result<(), ServeFault>) {
-    tell_replies(told, got);
+fn print_served(reported: &mut Reported, got: &[u8], ended: Result<(), ServeFault>) {
+    print_replies(reported, got);
     match ended {
-        Ok(()) => told.answer("served"),
-        Err(fault) => told.say(&fault),
+        Ok(()) => reported.answer("served"),
+        Err(fault) => reported.say(&fault),
     }
 }

@@ -3,23 +3,23 @@
 ghost use Rattle.std.specs.Prelude.{◌<◌};
 
 use crate::arriving::arrive;
-use crate::mailboxes::{add_mailbox, add_message, make_server, tell_mailboxes};
+use crate::mailboxes::{add_mailbox, add_message, make_server, print_mailboxes};
 use crate::sent::{push_line, push_lines};
 use crate::serving::{serve_loopback, serve_memory};
 use imap_server::server::Server;
-use mailcore::mailbox::Mailbox;
+use mailcore::mailbox::StoredMailbox;
 use test_scripts::failure::Failure;
-use test_scripts::mail::tell_replies;
+use test_scripts::mail::print_replies;
 use test_scripts::play::Player;
+use test_scripts::reported::Reported;
 use test_scripts::script::Script;
-use test_scripts::told::Told;
 use test_scripts::words::Words;
 
 /// The mailboxes of the next server, a server, and of how many bytes the pieces are that are fed to it.
 #[derive(Drop)]
 pub struct Sessions {
     rt: HostRuntime,
-    mailboxes: Vec<Mailbox>,
+    mailboxes: Vec<StoredMailbox>,
     server: Option<Server>,
     piece: usize,
 }
@@ -46,10 +46,10 @@ impl Sessions {
             return Err(Failure::Script);
         };
         match word {
-            "connect" => tell_replies(&mut script.told, server.connect()),
-            "mailboxes" => tell_mailboxes(&mut script.told, server),
+            "connect" => print_replies(&mut script.reported, server.connect()),
+            "mailboxes" => print_mailboxes(&mut script.reported, server),
             "hang" if line.word() == "up" => server.hang_up(),
-            "arrive" => return arrive(self.rt.alloc(), server, line, &mut script.told),
+            "arrive" => return arrive(self.rt.alloc(), server, line, &mut script.reported),
             _ => return self.send(word, line, script),
         }
         Ok(())
@@ -69,7 +69,7 @@ impl Sessions {
             _ => push_line(alloc, &mut sent, word, line),
         };
         pushed?;
-        self.bring(word, line, &sent, &mut script.told)
+        self.bring(word, line, &sent, &mut script.reported)
     }
 
     /// Brings these bytes to the server by the way that the line says.
@@ -78,15 +78,15 @@ impl Sessions {
         word: &str,
         line: &mut Words<'_>,
         sent: &[u8],
-        told: &mut Told,
+        reported: &mut Reported,
     ) -> Result<(), Failure> {
         let Some(server) = &mut self.server else {
             return Err(Failure::Script);
         };
         match word {
-            "loopback" => return Ok(serve_loopback(&self.rt, server, sent, told)?),
-            "stream" => serve_memory(self.rt.alloc(), server, sent, line, told),
-            _ => feed(server, sent, self.piece.max(1), told),
+            "loopback" => return Ok(serve_loopback(&self.rt, server, sent, reported)?),
+            "stream" => serve_memory(self.rt.alloc(), server, sent, line, reported),
+            _ => feed(server, sent, self.piece.max(1), reported),
         }
         Ok(())
     }
@@ -124,14 +124,14 @@ impl Player for Sessions {
 }
 
 /// Feeds bytes in pieces, and answers the replies. After a fault nothing more is fed.
-fn feed(server: &mut Server, sent: &[u8], piece: usize, told: &mut Told)
+fn feed(server: &mut Server, sent: &[u8], piece: usize, reported: &mut Reported)
     requires { 0 < piece }
 {
     for bytes in sent.chunks(piece) {
         match server.feed(bytes) {
-            Ok(replies) => tell_replies(told, &replies),
+            Ok(replies) => print_replies(reported, &replies),
             Err(fault) => {
-                told.say(&fault);
+                reported.say(&fault);
                 break;
             }
         }

@@ -7,8 +7,8 @@ use crate::world::end_of;
 use std::alloc::Global;
 use test_scripts::failure::Failure;
 use test_scripts::play::{Player, play_all};
+use test_scripts::reported::Reported;
 use test_scripts::script::Script;
-use test_scripts::told::Told;
 use test_scripts::words::Words;
 use worlds::world::World;
 
@@ -55,8 +55,8 @@ impl Player for Stops<'_> {
             "world" => self.set_world(script.block(b".")?),
             "opening" => set(&mut self.opening, end_of(alloc, script.block(b".")?)?),
             "outcome" => set(&mut self.outcome, end_of(alloc, script.block(b".")?)?),
-            "found" => self.read_and_compare(script.block(b".")?, &mut script.told),
-            "each" => self.sweep(line.rest(), &mut script.told),
+            "found" => self.read_and_compare(script.block(b".")?, &mut script.reported),
+            "each" => self.sweep(line.rest(), &mut script.reported),
             _ => Err(Failure::Script),
         }
     }
@@ -77,13 +77,13 @@ impl Stops<'_> {
         Ok(self.world.extend_from_slice(text)?)
     }
 
-    fn read_and_compare(&self, text: &[u8], told: &mut Told) -> Result<(), Failure> {
+    fn read_and_compare(&self, text: &[u8], reported: &mut Reported) -> Result<(), Failure> {
         let found = end_of(self.rt.alloc(), text)?;
-        self.compare(&found, told)
+        self.compare(&found, reported)
     }
 
     /// Prints whether this end is alike to the outcome.
-    fn compare(&self, found: &World, told: &mut Told) -> Result<(), Failure> {
+    fn compare(&self, found: &World, reported: &mut Reported) -> Result<(), Failure> {
         let (Some(opening), Some(outcome)) = (&self.opening, &self.outcome) else {
             return Err(Failure::Script);
         };
@@ -92,22 +92,22 @@ impl Stops<'_> {
             outcome,
             found,
         };
-        told.begin();
+        reported.begin();
         match alike(self.rt.alloc(), ends) {
-            Ok(()) => told.text("alike"),
-            Err(unlike) => tell(told, unlike),
+            Ok(()) => reported.text("alike"),
+            Err(unlike) => report(reported, unlike),
         }
-        told.end();
+        reported.end();
         Ok(())
     }
 
     /// `each stop`, `each beginning`, `each pair`, `each beginning and stop`: prints how many were met.
-    fn sweep(&mut self, kind: &[u8], told: &mut Told) -> Result<(), Failure> {
+    fn sweep(&mut self, kind: &[u8], reported: &mut Reported) -> Result<(), Failure> {
         let world = self.world.as_slice();
         let (stops, cuts) = (&mut self.singles, &mut self.beginnings);
         let mut sweep = Sweep::new(self.rt, world)?;
-        sweep_over(&mut sweep, kind, stops, cuts, told)?;
-        told.say(&sweep.take_met());
+        sweep_over(&mut sweep, kind, stops, cuts, reported)?;
+        reported.say(&sweep.take_met());
         Ok(())
     }
 }
@@ -118,22 +118,22 @@ fn sweep_over(
     kind: &[u8],
     stops: &mut Vec<Halt>,
     cuts: &mut Vec<Halt>,
-    told: &mut Told,
+    reported: &mut Reported,
 ) -> Result<(), Failure> {
     match kind {
-        b"stop" => *stops = sweep.each_stop(told)?,
-        b"beginning" => *cuts = sweep.each_beginning(told)?,
-        b"pair" => sweep.each_pair(told, stops)?,
-        b"beginning and stop" => sweep.each_cut(told, cuts, stops)?,
+        b"stop" => *stops = sweep.each_stop(reported)?,
+        b"beginning" => *cuts = sweep.each_beginning(reported)?,
+        b"pair" => sweep.each_pair(reported, stops)?,
+        b"beginning and stop" => sweep.each_cut(reported, cuts, stops)?,
         _ => return Err(Failure::Script),
     }
     Ok(())
 }
 
-fn tell(told: &mut Told, unlike: Unlike) {
+fn report(reported: &mut Reported, unlike: Unlike) {
     if let Some(side) = unlike.side() {
-        told.text(side.as_str());
-        told.text(": ");
+        reported.text(side.as_str());
+        reported.text(": ");
     }
-    told.text(unlike.text());
+    reported.text(unlike.text());
 }

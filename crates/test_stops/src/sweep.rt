@@ -4,10 +4,10 @@ use crate::alike::{Ends, Unlike, alike};
 use crate::stop::{APPEND, CALLS, Halt, Moment};
 use crate::world::{end_of, world_of};
 use mailcore::side::Side;
-use run_trial::run::{Request, run_trial};
+use run_trial::run::{TrialRequest, run_trial};
 use std::alloc::Global;
 use test_scripts::failure::Failure;
-use test_scripts::told::Told;
+use test_scripts::reported::Reported;
 use texts::cut::cut;
 use worlds::world::World;
 
@@ -61,13 +61,18 @@ impl<'a> Sweep<'a> {
     }
 
     /// Makes the run with these stops. Whether it met them all; if it came to something else than the unbroken one, that is printed.
-    fn check(&mut self, told: &mut Told, stops: &[Halt]) -> Result<bool, Failure> {
+    fn check(&mut self, reported: &mut Reported, stops: &[Halt]) -> Result<bool, Failure> {
         let run = run_of(self.rt, self.text, stops)?;
-        self.judge(told, stops, &run)
+        self.judge(reported, stops, &run)
     }
 
     /// Prints a run that came to something else than the unbroken one. Whether it met all of these stops.
-    fn judge(&mut self, told: &mut Told, stops: &[Halt], run: &Run) -> Result<bool, Failure> {
+    fn judge(
+        &mut self,
+        reported: &mut Reported,
+        stops: &[Halt],
+        run: &Run,
+    ) -> Result<bool, Failure> {
         let count = stops.len() as u64;
         let verdict = match run.stops {
             None => Some("not settled"),
@@ -75,11 +80,16 @@ impl<'a> Sweep<'a> {
             Some(_) => None,
         };
         if let Some(text) = verdict {
-            tell(told, stops, None, text);
+            report(reported, stops, None, text);
             return Ok(false);
         }
         if let Some(unlike) = self.unlike(run)? {
-            tell(told, stops, unlike.side().map(Side::as_str), unlike.text());
+            report(
+                reported,
+                stops,
+                unlike.side().map(Side::as_str),
+                unlike.text(),
+            );
         }
         let is_met = run.stops == Some(count);
         if is_met {
@@ -100,10 +110,10 @@ impl<'a> Sweep<'a> {
     }
 
     /// Each stop before and after a call that the unbroken run makes: those that were met.
-    pub(crate) fn each_stop(&mut self, told: &mut Told) -> Result<Vec<Halt>, Failure> {
+    pub(crate) fn each_stop(&mut self, reported: &mut Reported) -> Result<Vec<Halt>, Failure> {
         let mut met = Vec::new(self.rt.alloc());
         for call in CALLS {
-            self.each_of(told, None, call, 1, &mut met)?;
+            self.each_of(reported, None, call, 1, &mut met)?;
         }
         Ok(met)
     }
@@ -111,7 +121,7 @@ impl<'a> Sweep<'a> {
     /// The same after another stop, at the calls of this name, from the one with this number on.
     fn each_of(
         &mut self,
-        told: &mut Told,
+        reported: &mut Reported,
         first: Option<Halt>,
         call: &'static str,
         from: u32,
@@ -123,7 +133,7 @@ impl<'a> Sweep<'a> {
                 number,
                 moment: Moment::Before,
             };
-            if !self.check_behind(told, first, before)? {
+            if !self.check_after(reported, first, before)? {
                 break;
             }
             met.push(before)?;
@@ -131,28 +141,28 @@ impl<'a> Sweep<'a> {
                 moment: Moment::After,
                 ..before
             };
-            if self.check_behind(told, first, after)? {
+            if self.check_after(reported, first, after)? {
                 met.push(after)?;
             }
         }
         Ok(())
     }
 
-    fn check_behind(
+    fn check_after(
         &mut self,
-        told: &mut Told,
+        reported: &mut Reported,
         first: Option<Halt>,
         stop: Halt,
     ) -> Result<bool, Failure> {
         match first {
-            Some(first) => self.check(told, &[first, stop]),
-            None => self.check(told, &[stop]),
+            Some(first) => self.check(reported, &[first, stop]),
+            None => self.check(reported, &[stop]),
         }
     }
 
     /// Each append that the unbroken run makes, cut after each of its bytes but the last: those that were met. A cut after the last
     /// byte comes to what a stop after the call does.
-    pub(crate) fn each_beginning(&mut self, told: &mut Told) -> Result<Vec<Halt>, Failure> {
+    pub(crate) fn each_beginning(&mut self, reported: &mut Reported) -> Result<Vec<Halt>, Failure> {
         let mut met = Vec::new(self.rt.alloc());
         for number in 1..MOST_CALLS {
             let whole = Halt {
@@ -164,7 +174,7 @@ impl<'a> Sweep<'a> {
             if run.stops == Some(0) {
                 break;
             }
-            self.each_part(told, number, &run, &mut met)?;
+            self.each_part(reported, number, &run, &mut met)?;
         }
         Ok(met)
     }
@@ -172,7 +182,7 @@ impl<'a> Sweep<'a> {
     /// The append of this number, cut after each of its bytes but the last: those that were met. The other run stopped after it.
     fn each_part(
         &mut self,
-        told: &mut Told,
+        reported: &mut Reported,
         number: u32,
         whole: &Run,
         met: &mut Vec<Halt>,
@@ -187,7 +197,7 @@ impl<'a> Sweep<'a> {
             if run.text.as_slice() == whole.text.as_slice() {
                 break;
             }
-            if self.judge(told, &[stop], &run)? {
+            if self.judge(reported, &[stop], &run)? {
                 met.push(stop)?;
             }
         }
@@ -195,10 +205,14 @@ impl<'a> Sweep<'a> {
     }
 
     /// Each of the stops at calls, with each of those after it and with each that the resumed attempt alone comes to.
-    pub(crate) fn each_pair(&mut self, told: &mut Told, stops: &[Halt]) -> Result<(), Failure> {
+    pub(crate) fn each_pair(
+        &mut self,
+        reported: &mut Reported,
+        stops: &[Halt],
+    ) -> Result<(), Failure> {
         for (place, first) in stops.iter().enumerate() {
             let others = stops.get(place.saturating_add(1)..).unwrap_or_default();
-            self.each_second(told, *first, others, stops)?;
+            self.each_second(reported, *first, others, stops)?;
         }
         Ok(())
     }
@@ -206,12 +220,12 @@ impl<'a> Sweep<'a> {
     /// Each of these cut appends, with each of the stops at calls and with each that the resumed attempt alone comes to.
     pub(crate) fn each_cut(
         &mut self,
-        told: &mut Told,
+        reported: &mut Reported,
         cuts: &[Halt],
         stops: &[Halt],
     ) -> Result<(), Failure> {
         for cut in cuts {
-            self.each_second(told, *cut, stops, stops)?;
+            self.each_second(reported, *cut, stops, stops)?;
         }
         Ok(())
     }
@@ -219,18 +233,18 @@ impl<'a> Sweep<'a> {
     /// One stop, with each of the others, and with each after the calls at which the unbroken run stops.
     fn each_second(
         &mut self,
-        told: &mut Told,
+        reported: &mut Reported,
         first: Halt,
         others: &[Halt],
         stops: &[Halt],
     ) -> Result<(), Failure> {
         for second in others {
-            self.check(told, &[first, *second])?;
+            self.check(reported, &[first, *second])?;
         }
         let mut met = Vec::new(self.rt.alloc());
         for call in CALLS {
             let from = calls_of(call, stops).saturating_add(1);
-            self.each_of(told, Some(first), call, from, &mut met)?;
+            self.each_of(reported, Some(first), call, from, &mut met)?;
         }
         Ok(())
     }
@@ -261,7 +275,7 @@ fn run_of(rt: &HostRuntime, world: &[u8], stops: &[Halt]) -> Result<Run, Failure
     let trial = trial_of(rt.alloc(), world, stops)?;
     let (mut text, mut err) = (Vec::new(rt.alloc()), Vec::new(rt.alloc()));
     let mut input = trial.as_bytes();
-    run_trial(own, Request::Memory, &mut input, &mut text, &mut err);
+    run_trial(own, TrialRequest::Memory, &mut input, &mut text, &mut err);
     let stops = stops_in(&text);
     Ok(Run { text, stops })
 }
@@ -303,17 +317,17 @@ fn stops_in(text: &[u8]) -> Option<u64> {
 }
 
 /// Prints which stops left something else.
-fn tell(told: &mut Told, stops: &[Halt], side: Option<&'static str>, text: &str) {
-    told.begin();
+fn report(reported: &mut Reported, stops: &[Halt], side: Option<&'static str>, text: &str) {
+    reported.begin();
     for (place, stop) in stops.iter().enumerate() {
-        told.text(if place == 0 { "" } else { ", " });
-        told.shown(stop);
+        reported.text(if place == 0 { "" } else { ", " });
+        reported.shown(stop);
     }
-    told.text(": ");
+    reported.text(": ");
     if let Some(side) = side {
-        told.text(side);
-        told.text(": ");
+        reported.text(side);
+        reported.text(": ");
     }
-    told.text(text);
-    told.end();
+    reported.text(text);
+    reported.end();
 }

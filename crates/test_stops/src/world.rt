@@ -1,6 +1,6 @@
 //! Worlds before and after a run.
 
-use mailcore::mailbox::Mailbox;
+use mailcore::mailbox::StoredMailbox;
 use mailcore::side::Side;
 use std::alloc::Global;
 use test_scripts::failure::Failure;
@@ -28,7 +28,7 @@ pub(crate) fn end_of(alloc: Global, lines: &[u8]) -> Result<World, Failure> {
 }
 
 /// The mailbox of this side.
-pub(crate) fn mailbox_in(world: &World, side: Side) -> &Mailbox {
+pub(crate) fn mailbox_in(world: &World, side: Side) -> &StoredMailbox {
     match side {
         Side::Far => &world.far,
         Side::Near => &world.near,

@@ -6,11 +6,11 @@
 //! | `trial` | the text of a trial up to a line `.`, which the lines after it play |
 //! | `play` | the trial is played, and the far mailbox is reached in memory |
 //! | `play over loopback` | the same, and the far mailbox is reached over a loopback connection |
-//! | `play behind a face` | the same, and the far mailbox is reached in memory through a face, as `mbsync` hears real servers |
+//! | `play following a face` | the same, and the far mailbox is reached in memory through a face, as `mbsync` hears real servers |
 //! | `play in pieces` | whether it comes to the same as in memory where at most 1, 7 and 4096 bytes of what the server says are received at once |
 //! | `play for each B from N to M` | the trial is played once for each number from N to M, instead of each word `B` of its text: where all numbers of a range have the same answer, it is reported once after the range |
 //! | `play for each B from N to M over loopback` | the same over loopback connections |
-//! | `play for each B from N to M behind a face` | the same through faces |
+//! | `play for each B from N to M following a face` | the same through faces |
 //! | `play for each B from N to M in pieces` | whether each comes to the same as in memory where what the server says is received in pieces |
 #![tactic(auto)]
 

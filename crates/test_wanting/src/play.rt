@@ -2,7 +2,7 @@
 
 use mem_link::mem_link::MemLink;
 use run_trial::devices::Devices;
-use run_trial::failure::Failure as TrialFailure;
+use run_trial::failure::TrialError as TrialFailure;
 use run_trial::memory::{run_again, run_in_memory};
 use run_trial::read::read_trial;
 use run_trial::report::Ending;
@@ -11,8 +11,8 @@ use runner::pass::Settled;
 use std::alloc::Global;
 use test_scripts::failure::Failure;
 use test_scripts::play::{Player, play_all};
+use test_scripts::reported::Reported;
 use test_scripts::script::Script;
-use test_scripts::told::Told;
 use test_scripts::words::Words;
 
 /// Plays the trials of a script.
@@ -39,7 +39,7 @@ impl Player for Trials {
     fn play(&mut self, line: &mut Words<'_>, script: &mut Script<'_>) -> Result<(), Failure> {
         match line.word() {
             "trial" => self.set_text(script.block(b".")?),
-            "settle" => match settle(self.alloc, &self.text, &mut script.told) {
+            "settle" => match settle(self.alloc, &self.text, &mut script.reported) {
                 Ok(()) => Ok(()),
                 Err(failure) => Err(failure_of(failure)),
             },
@@ -68,28 +68,28 @@ fn failure_of(failure: TrialFailure) -> Failure {
 }
 
 /// Makes the run of a trial, and another one where it ends with a fault.
-fn settle(alloc: Global, text: &[u8], told: &mut Told) -> Result<(), TrialFailure> {
+fn settle(alloc: Global, text: &[u8], reported: &mut Reported) -> Result<(), TrialFailure> {
     let trial = read_trial(alloc, text)?;
     let options = trial.world.options.try_clone(alloc)?;
     let tries = trial.course.tries;
     let (outside, settled) = run_in_memory(alloc, trial)?;
     let devices = Devices::of(outside);
     let is_over = settled.is_ok();
-    tell(alloc, &devices, settled, told)?;
+    report(alloc, &devices, settled, reported)?;
     if is_over {
         return Ok(());
     }
-    told.answer("again");
+    reported.answer("again");
     let (outside, settled) = run_again(alloc, devices, options, tries)?;
-    tell(alloc, &Devices::of(outside), settled, told)
+    report(alloc, &Devices::of(outside), settled, reported)
 }
 
 /// Reports what a run came to and what stands in the devices, as `mbtrial` prints it. Stops are counted from the first run on.
-fn tell(
+fn report(
     alloc: Global,
     devices: &Devices<MemLink>,
     settled: Result<Settled, RunFault>,
-    told: &mut Told,
+    reported: &mut Reported,
 ) -> Result<(), TrialFailure> {
     let ending = Ending {
         settled,
@@ -97,6 +97,6 @@ fn tell(
     };
     let mut text = ending.text(alloc)?;
     devices.write(alloc, &mut text)?;
-    told.lines(&text);
+    reported.lines(&text);
     Ok(())
 }

@@ -1,46 +1,50 @@
 //! What a buffer of replies answers, to which an example comes in pieces.
 
-use crate::reader::tell_answer;
+use crate::reader::print_answer;
 use imap_wire::{Read, Reply, ReplyBuf, WireFault, read_reply, write_reply};
 use std::alloc::Global;
 use test_scripts::failure::Failure;
-use test_scripts::told::Told;
+use test_scripts::reported::Reported;
 
 /// How many bytes a piece has.
 const SIZES: &[usize] = &[1, 2, 7];
 
 /// Reports, for each size of the pieces, what the buffer answers at the end, how many bytes it holds then, and how many once those that
 /// were read are dropped; and the answer of the reader to the whole, if it is another one.
-pub fn answer_buffered(alloc: Global, told: &mut Told, bytes: &[u8]) -> Result<(), Failure> {
+pub fn answer_buffered(
+    alloc: Global,
+    reported: &mut Reported,
+    bytes: &[u8],
+) -> Result<(), Failure> {
     let whole = shown(alloc, &read_reply(alloc, bytes))?;
     for size in SIZES {
         let mut buffer = ReplyBuf::new(alloc);
         put_pieces(&mut buffer, bytes, *size)?;
-        told.begin();
-        tell_next(alloc, told, &mut buffer, whole.as_str())?;
-        told.text(", held ");
-        told.number(buffer.held() as u64);
+        reported.begin();
+        print_next(alloc, reported, &mut buffer, whole.as_str())?;
+        reported.text(", held ");
+        reported.number(buffer.held() as u64);
         buffer.forget();
-        told.text(", then ");
-        told.number(buffer.held() as u64);
-        told.end();
+        reported.text(", then ");
+        reported.number(buffer.held() as u64);
+        reported.end();
     }
     Ok(())
 }
 
 /// Reports the next answer, and that of the reader if it is another one.
-fn tell_next(
+fn print_next(
     alloc: Global,
-    told: &mut Told,
+    reported: &mut Reported,
     buffer: &mut ReplyBuf,
     whole: &str,
 ) -> Result<(), Failure> {
     let answer = buffer.next();
-    tell_answer(told, &answer);
+    print_answer(reported, &answer);
     let answer = shown(alloc, &answer)?;
     if answer.as_str() != whole {
-        told.text(", and the reader ");
-        told.text(whole);
+        reported.text(", and the reader ");
+        reported.text(whole);
     }
     Ok(())
 }
@@ -65,9 +69,9 @@ fn put_pieces(buffer: &mut ReplyBuf, bytes: &[u8], size: usize) -> Result<(), Fa
 }
 
 /// An answer as it is reported, and its reply as it is written.
-fn shown(alloc: Global, answer: &Result<Read<Reply<'_>>, WireFault>) -> Result<Told, Failure> {
-    let mut shown = Told::new(alloc);
-    tell_answer(&mut shown, answer);
+fn shown(alloc: Global, answer: &Result<Read<Reply<'_>>, WireFault>) -> Result<Reported, Failure> {
+    let mut shown = Reported::new(alloc);
+    print_answer(&mut shown, answer);
     if let Ok(Read::Whole(reply, _)) = answer {
         let mut written = Vec::new(alloc);
         write_reply(reply, &mut written)?;

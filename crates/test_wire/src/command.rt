@@ -1,52 +1,52 @@
 //! Commands.
 
-use crate::sets::tell_set;
-use crate::telling::{tell_bytes, tell_flags};
+use crate::reporting::{print_bytes, print_flags};
+use crate::sets::print_set;
 use crate::tokens::Tokens;
 use imap_wire::{Command, FetchItems, Request, StoreMode, write_command};
 use mailcore::flags::Flags;
 use mailcore::keywords::Keywords;
-use test_scripts::told::Told;
+use test_scripts::reported::Reported;
 use wire_tokens::flag_list::FlagList;
 
 /// Reports what a command is and how it is written.
-pub fn tell_command(tokens: &mut Tokens, told: &mut Told, command: &Command) {
-    told.begin();
-    tell_bytes(told, "is tag ", command.tag.text());
-    tell_request(tokens, told, &command.request);
-    told.end();
+pub fn print_command(tokens: &mut Tokens, reported: &mut Reported, command: &Command) {
+    reported.begin();
+    print_bytes(reported, "is tag ", command.tag.text());
+    print_request(tokens, reported, &command.request);
+    reported.end();
     let done = write_command(command, &mut tokens.out);
-    tokens.tell_written(told, done);
+    tokens.print_written(reported, done);
 }
 
-fn tell_request(tokens: &Tokens, told: &mut Told, request: &Request) {
+fn print_request(tokens: &Tokens, reported: &mut Reported, request: &Request) {
     match request {
-        Request::Capability => told.text(", CAPABILITY"),
-        Request::Noop => told.text(", NOOP"),
-        Request::Logout => told.text(", LOGOUT"),
+        Request::Capability => reported.text(", CAPABILITY"),
+        Request::Noop => reported.text(", NOOP"),
+        Request::Logout => reported.text(", LOGOUT"),
         Request::Login(user, password) => {
-            tell_bytes(told, ", LOGIN of ", user.as_slice());
-            tell_bytes(told, ", password ", password.as_slice());
+            print_bytes(reported, ", LOGIN of ", user.as_slice());
+            print_bytes(reported, ", password ", password.as_slice());
         }
-        Request::Enable(list) => tell_bytes(told, ", ENABLE of ", list.names().text()),
-        Request::List(pattern) => tell_bytes(told, ", LIST of ", pattern.bytes()),
-        Request::Create(mailbox) => tell_bytes(told, ", CREATE of ", mailbox.as_slice()),
-        Request::Select(mailbox) => tell_bytes(told, ", SELECT of ", mailbox.as_slice()),
+        Request::Enable(list) => print_bytes(reported, ", ENABLE of ", list.names().text()),
+        Request::List(pattern) => print_bytes(reported, ", LIST of ", pattern.bytes()),
+        Request::Create(mailbox) => print_bytes(reported, ", CREATE of ", mailbox.as_slice()),
+        Request::Select(mailbox) => print_bytes(reported, ", SELECT of ", mailbox.as_slice()),
         Request::Append(mailbox, flags, message) => {
-            tell_bytes(told, ", APPEND to ", mailbox.as_slice());
-            tell_flags(told, ", flags ", named(tokens, flags));
-            tell_bytes(told, ", message ", message.octets());
+            print_bytes(reported, ", APPEND to ", mailbox.as_slice());
+            print_flags(reported, ", flags ", named(tokens, flags));
+            print_bytes(reported, ", message ", message.octets());
         }
         Request::Fetch(set, items) => {
-            tell_set(told, ", FETCH of ", set);
-            told.text(items_word(*items));
+            print_set(reported, ", FETCH of ", set);
+            reported.text(items_word(*items));
         }
         Request::Store(set, mode, flags) => {
-            tell_set(told, ", STORE of ", set);
-            told.text(mode_word(*mode));
-            tell_flags(told, " flags ", named(tokens, flags));
+            print_set(reported, ", STORE of ", set);
+            reported.text(mode_word(*mode));
+            print_flags(reported, " flags ", named(tokens, flags));
         }
-        Request::Expunge(set) => tell_set(told, ", EXPUNGE of ", set),
+        Request::Expunge(set) => print_set(reported, ", EXPUNGE of ", set),
     }
 }
 

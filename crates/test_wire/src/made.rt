@@ -1,14 +1,14 @@
 //! Values that are made of whole bytes, and not read at the front of more.
 
-use crate::command::tell_command;
-use crate::telling::tell_line;
+use crate::command::print_command;
+use crate::reporting::print_line;
 use crate::tokens::Tokens;
 use imap_wire::{
-    Atom, Command, Message, NameList, Names, OtherCode, OtherEvent, OtherWord, Pattern, PlainText,
-    Request, Tag, Text,
+    Atom, Command, ListPattern, NameList, Names, OtherCode, OtherEvent, OtherWord, PlainText,
+    Request, SentMessage, Tag, Text,
 };
 use std::alloc::AllocError;
-use test_scripts::told::Told;
+use test_scripts::reported::Reported;
 use test_scripts::words::Words;
 use wire_tokens::names::read_names;
 
@@ -18,39 +18,39 @@ pub fn make(
     kind: &str,
     bytes: &[u8],
     line: &mut Words<'_>,
-    told: &mut Told,
+    reported: &mut Reported,
 ) -> Option<()> {
     let done = match kind {
         "atom" => {
             let atom = Atom::read(bytes)?;
-            tell_line(told, "is ", atom.text());
+            print_line(reported, "is ", atom.text());
             atom.write(&mut tokens.out)
         }
         "tag" => {
             let tag = Tag::read(bytes)?;
-            tell_line(told, "is ", tag.text());
+            print_line(reported, "is ", tag.text());
             tag.write(&mut tokens.out)
         }
         "one-name" => {
             let names = Names::one(&Atom::read(bytes)?);
-            tell_line(told, "is ", names.text());
+            print_line(reported, "is ", names.text());
             names.write(&mut tokens.out)
         }
         "name-list" => {
             let (names, _) = read_names(bytes).ok()?;
-            make_copy(tokens, &names, told)
+            make_copy(tokens, &names, reported)
         }
         "plain-text" => {
             let text = PlainText::read(bytes)?;
-            tell_line(told, "is ", text.bytes());
+            print_line(reported, "is ", text.bytes());
             text.write(&mut tokens.out)
         }
         _ => {
-            tell_line(told, "is ", other(kind, bytes, line)?);
+            print_line(reported, "is ", other(kind, bytes, line)?);
             Ok(())
         }
     };
-    tokens.tell_written(told, done);
+    tokens.print_written(reported, done);
     Some(())
 }
 
@@ -67,43 +67,52 @@ fn other<'a>(kind: &str, bytes: &'a [u8], line: &mut Words<'_>) -> Option<&'a [u
     }
 }
 
-fn make_copy(tokens: &mut Tokens, names: &Names<'_>, told: &mut Told) -> Result<(), AllocError> {
+fn make_copy(
+    tokens: &mut Tokens,
+    names: &Names<'_>,
+    reported: &mut Reported,
+) -> Result<(), AllocError> {
     let list = NameList::copy_of(tokens.alloc, names)?;
-    tell_line(told, "is ", list.names().text());
+    print_line(reported, "is ", list.names().text());
     list.names().write(&mut tokens.out)
 }
 
 /// The same of what keeps the bytes: a text, a pattern, or else a message. Of a pattern a LIST command is reported too.
-pub fn make_of_vec(tokens: &mut Tokens, kind: &str, bytes: Vec<u8>, told: &mut Told) -> Option<()> {
+pub fn make_of_vec(
+    tokens: &mut Tokens,
+    kind: &str,
+    bytes: Vec<u8>,
+    reported: &mut Reported,
+) -> Option<()> {
     match kind {
         "text" => {
             let text = Text::from_vec(bytes)?;
-            tell_line(told, "is ", text.as_slice());
+            print_line(reported, "is ", text.as_slice());
             let done = text.write(&mut tokens.out);
-            tokens.tell_written(told, done);
+            tokens.print_written(reported, done);
         }
         "pattern" => {
-            let pattern = Pattern::new(bytes)?;
-            tell_line(told, "is ", pattern.bytes());
+            let pattern = ListPattern::new(bytes)?;
+            print_line(reported, "is ", pattern.bytes());
             let done = pattern.write(&mut tokens.out);
-            tokens.tell_written(told, done);
-            list(tokens, pattern, told);
+            tokens.print_written(reported, done);
+            list(tokens, pattern, reported);
         }
         _ => {
-            let message = Message::new(bytes)?;
-            tell_line(told, "is ", message.octets());
+            let message = SentMessage::new(bytes)?;
+            print_line(reported, "is ", message.octets());
             let done = message.write(&mut tokens.out);
-            tokens.tell_written(told, done);
-            tell_line(told, "gives back ", &message.into_vec());
+            tokens.print_written(reported, done);
+            print_line(reported, "gives back ", &message.into_vec());
         }
     }
     Some(())
 }
 
-fn list(tokens: &mut Tokens, pattern: Pattern, told: &mut Told) {
+fn list(tokens: &mut Tokens, pattern: ListPattern, reported: &mut Reported) {
     if let Some(tag) = Tag::read(b"A1") {
         let request = Request::List(pattern);
         tokens.empty();
-        tell_command(tokens, told, &Command { tag, request });
+        print_command(tokens, reported, &Command { tag, request });
     }
 }

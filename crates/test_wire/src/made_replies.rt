@@ -1,21 +1,21 @@
 //! Replies that are made, since no server sends so many.
 
 use std::alloc::Global;
-use test_scripts::told::Told;
+use test_scripts::reported::Reported;
 
 /// What a body is made of.
 const BODY_LINE: &str = "a line of a message\r\n";
 
 /// So many FETCH replies, as a listing has them.
-pub fn listings(alloc: Global, count: u32) -> Told {
-    let mut replies = Told::new(alloc);
+pub fn listings(alloc: Global, count: u32) -> Reported {
+    let mut replies = Reported::new(alloc);
     for index in 0..count {
         push_listing(&mut replies, u64::from(index).saturating_add(1));
     }
     replies
 }
 
-fn push_listing(replies: &mut Told, number: u64) {
+fn push_listing(replies: &mut Reported, number: u64) {
     replies.text("* ");
     replies.number(number);
     replies.text(" FETCH (UID ");
@@ -31,8 +31,8 @@ fn push_listing(replies: &mut Told, number: u64) {
 }
 
 /// A FETCH reply with a body of so many octets.
-pub fn body(alloc: Global, octets: u32) -> Told {
-    let mut replies = Told::new(alloc);
+pub fn body(alloc: Global, octets: u32) -> Reported {
+    let mut replies = Reported::new(alloc);
     replies.text("* 1 FETCH (UID 7 BODY[] {");
     replies.number(u64::from(octets));
     replies.text("}\r\n");

@@ -1,12 +1,12 @@
 //! What lists of names and sets of UIDs name.
 
 use crate::pieces::read_pieces;
-use crate::sets::tell_set;
+use crate::sets::print_set;
 use imap_wire::UidSet;
 use mailcore::uid::Uid;
 use std::alloc::Global;
 use test_scripts::failure::Failure;
-use test_scripts::told::Told;
+use test_scripts::reported::Reported;
 use test_scripts::words::Words;
 use wire_reader::stop::ReadError;
 use wire_tokens::flag_list::{FlagNames, read_flags};
@@ -33,7 +33,11 @@ fn has(list: &str, name: &[u8], bytes: &[u8]) -> Option<bool> {
 
 /// `UID greatest UID`, and `set` with bytes or `alone`: reports whether the set at the front names the first, where the second is the
 /// greatest of the mailbox; `alone` is the set of the first.
-pub fn read_named(alloc: Global, line: &mut Words<'_>, told: &mut Told) -> Result<(), Failure> {
+pub fn read_named(
+    alloc: Global,
+    line: &mut Words<'_>,
+    reported: &mut Reported,
+) -> Result<(), Failure> {
     let uid = line.uid();
     if line.word() != "greatest" {
         line.refuse();
@@ -44,13 +48,13 @@ pub fn read_named(alloc: Global, line: &mut Words<'_>, told: &mut Told) -> Resul
         "alone" => UidSet::one(alloc, uid)?,
         _ => return Err(Failure::Script),
     };
-    tell_set(told, "  ", &set);
-    told.text(if set.names(uid, greatest) {
+    print_set(reported, "  ", &set);
+    reported.text(if set.names(uid, greatest) {
         " names it"
     } else {
         " names it not"
     });
-    told.end();
+    reported.end();
     Ok(())
 }
 

@@ -1,135 +1,139 @@
 //! Replies.
 
-use crate::strings::{tell_astring, tell_nstring};
-use crate::telling::{tell_bytes, tell_flags, tell_number};
-use crate::token::{tell_attributes, tell_permanent};
+use crate::reporting::{print_bytes, print_flags, print_number};
+use crate::strings::{print_astring, print_nstring};
+use crate::token::{print_attributes, print_permanent};
 use crate::tokens::Tokens;
 use imap_wire::{
     Code, FetchItem, LineText, Names, NoticeKind, Reply, ResponseText, Status, write_reply,
 };
 use mailcore::keywords::Keywords;
-use test_scripts::told::Told;
+use test_scripts::reported::Reported;
 
 /// Reports what a reply is and how it is written.
-pub fn tell_reply(tokens: &mut Tokens, told: &mut Told, reply: &Reply<'_>) {
-    told.begin();
-    told.text("is ");
-    tell_parts(tokens, told, reply);
-    told.end();
+pub fn print_reply(tokens: &mut Tokens, reported: &mut Reported, reply: &Reply<'_>) {
+    reported.begin();
+    reported.text("is ");
+    print_parts(tokens, reported, reply);
+    reported.end();
     let done = write_reply(reply, &mut tokens.out);
-    tokens.tell_written(told, done);
+    tokens.print_written(reported, done);
 }
 
-fn tell_parts(tokens: &mut Tokens, told: &mut Told, reply: &Reply<'_>) {
+fn print_parts(tokens: &mut Tokens, reported: &mut Reported, reply: &Reply<'_>) {
     match reply {
-        Reply::Continue(text) => tell_bytes(told, "continue, text ", text.bytes()),
+        Reply::Continue(text) => print_bytes(reported, "continue, text ", text.bytes()),
         Reply::Tagged(tag, status, text) => {
-            tell_bytes(told, "tag ", tag.text());
-            told.text(status_words(*status));
-            tell_response(tokens, told, text);
+            print_bytes(reported, "tag ", tag.text());
+            reported.text(status_words(*status));
+            print_response(tokens, reported, text);
         }
         Reply::Notice(kind, text) => {
-            told.text(notice_words(*kind));
-            tell_response(tokens, told, text);
+            reported.text(notice_words(*kind));
+            print_response(tokens, reported, text);
         }
-        Reply::Capability(names) => tell_names(told, "CAPABILITY of ", names),
-        Reply::Enabled(names) => tell_names(told, "ENABLED of ", names),
+        Reply::Capability(names) => print_names(reported, "CAPABILITY of ", names),
+        Reply::Enabled(names) => print_names(reported, "ENABLED of ", names),
         Reply::List(attributes, delimiter, name) => {
-            tell_astring(tokens, told, "LIST of ", name);
-            tell_attributes(tokens, told, ", attributes ", attributes);
+            print_astring(tokens, reported, "LIST of ", name);
+            print_attributes(tokens, reported, ", attributes ", attributes);
             match delimiter {
-                Some(delimiter) => tell_bytes(told, ", delimiter ", &[delimiter.byte()]),
-                None => told.text(", no delimiter"),
+                Some(delimiter) => print_bytes(reported, ", delimiter ", &[delimiter.byte()]),
+                None => reported.text(", no delimiter"),
             }
         }
-        Reply::Flags(names) => tell_flags(
-            told,
+        Reply::Flags(names) => print_flags(
+            reported,
             "FLAGS ",
             names.named(&Keywords::new(tokens.alloc)),
         ),
         Reply::Exists(count) => {
-            told.text("EXISTS ");
-            told.number(u64::from(*count));
+            reported.text("EXISTS ");
+            reported.number(u64::from(*count));
         }
-        Reply::Expunge(number) => tell_number(told, "EXPUNGE ", number),
+        Reply::Expunge(number) => print_number(reported, "EXPUNGE ", number),
         Reply::Fetch(number, list) => {
-            tell_number(told, "FETCH ", number);
-            tell_items(tokens, told, list.items());
+            print_number(reported, "FETCH ", number);
+            print_items(tokens, reported, list.items());
         }
         Reply::Other(word, text) => {
-            tell_bytes(told, "other word ", word.text());
-            tell_rest(told, text);
+            print_bytes(reported, "other word ", word.text());
+            print_rest(reported, text);
         }
         Reply::OtherNumbered(number, event, text) => {
-            told.text("number ");
-            told.number(u64::from(*number));
-            tell_bytes(told, ", other word ", event.text());
-            tell_rest(told, text);
+            reported.text("number ");
+            reported.number(u64::from(*number));
+            print_bytes(reported, ", other word ", event.text());
+            print_rest(reported, text);
         }
     }
 }
 
-fn tell_names(told: &mut Told, words: &str, names: &Option<Names<'_>>) {
+fn print_names(reported: &mut Reported, words: &str, names: &Option<Names<'_>>) {
     match names {
-        Some(names) => tell_bytes(told, words, names.text()),
+        Some(names) => print_bytes(reported, words, names.text()),
         None => {
-            told.text(words);
-            told.text("nothing");
+            reported.text(words);
+            reported.text("nothing");
         }
     }
 }
 
-fn tell_items(tokens: &mut Tokens, told: &mut Told, items: &[FetchItem<'_>]) {
+fn print_items(tokens: &mut Tokens, reported: &mut Reported, items: &[FetchItem<'_>]) {
     for item in items {
         match item {
-            FetchItem::Uid(uid) => tell_number(told, ", UID ", uid),
+            FetchItem::Uid(uid) => print_number(reported, ", UID ", uid),
             FetchItem::Flags(names) => {
-                tell_flags(told, ", flags ", names.named(&Keywords::new(tokens.alloc)));
+                print_flags(
+                    reported,
+                    ", flags ",
+                    names.named(&Keywords::new(tokens.alloc)),
+                );
             }
             FetchItem::Size(size) => {
-                told.text(", size ");
-                told.number(u64::from(*size));
+                reported.text(", size ");
+                reported.number(u64::from(*size));
             }
-            FetchItem::Body(body) => tell_nstring(tokens, told, ", body ", body),
-            FetchItem::Head(head) => tell_nstring(tokens, told, ", beginning of body ", head),
+            FetchItem::Body(body) => print_nstring(tokens, reported, ", body ", body),
+            FetchItem::Head(head) => print_nstring(tokens, reported, ", beginning of body ", head),
         }
     }
 }
 
 /// Adds the text after a word, if one stands there.
-fn tell_rest(told: &mut Told, text: &Option<LineText<'_>>) {
+fn print_rest(reported: &mut Reported, text: &Option<LineText<'_>>) {
     if let Some(text) = text {
-        tell_bytes(told, ", text ", text.bytes());
+        print_bytes(reported, ", text ", text.bytes());
     }
 }
 
 /// Adds a text, and the code before it if one stands there.
-fn tell_response(tokens: &Tokens, told: &mut Told, text: &ResponseText<'_>) {
+fn print_response(tokens: &Tokens, reported: &mut Reported, text: &ResponseText<'_>) {
     match text {
-        ResponseText::Plain(text) => tell_bytes(told, "text ", text.bytes()),
+        ResponseText::Plain(text) => print_bytes(reported, "text ", text.bytes()),
         ResponseText::Coded(code, text) => {
-            told.text("code ");
-            tell_code(tokens, told, code);
-            tell_bytes(told, ", text ", text.bytes());
+            reported.text("code ");
+            print_code(tokens, reported, code);
+            print_bytes(reported, ", text ", text.bytes());
         }
     }
 }
 
-fn tell_code(tokens: &Tokens, told: &mut Told, code: &Code<'_>) {
+fn print_code(tokens: &Tokens, reported: &mut Reported, code: &Code<'_>) {
     match code {
-        Code::UidNext(uid) => tell_number(told, "UIDNEXT ", uid),
-        Code::UidValidity(validity) => tell_number(told, "UIDVALIDITY ", validity),
-        Code::PermanentFlags(names) => tell_permanent(tokens, told, "PERMANENTFLAGS ", names),
+        Code::UidNext(uid) => print_number(reported, "UIDNEXT ", uid),
+        Code::UidValidity(validity) => print_number(reported, "UIDVALIDITY ", validity),
+        Code::PermanentFlags(names) => print_permanent(tokens, reported, "PERMANENTFLAGS ", names),
         Code::AppendUid(validity, uid) => {
-            tell_number(told, "APPENDUID ", validity);
-            tell_number(told, " ", uid);
+            print_number(reported, "APPENDUID ", validity);
+            print_number(reported, " ", uid);
         }
-        Code::ReadOnly => told.text("READ-ONLY"),
-        Code::ReadWrite => told.text("READ-WRITE"),
+        Code::ReadOnly => reported.text("READ-ONLY"),
+        Code::ReadWrite => reported.text("READ-WRITE"),
         Code::Other(code, text) => {
-            tell_bytes(told, "other ", code.text());
+            print_bytes(reported, "other ", code.text());
             if let Some(text) = text {
-                tell_bytes(told, " with ", text.bytes());
+                print_bytes(reported, " with ", text.bytes());
             }
         }
     }

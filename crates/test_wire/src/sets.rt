@@ -1,27 +1,27 @@
 //! Sets of UIDs.
 
 use imap_wire::{SetEnd, SetItem, UidSet};
-use test_scripts::told::Told;
+use test_scripts::reported::Reported;
 
 /// Adds words and a set.
-pub fn tell_set(told: &mut Told, words: &str, set: &UidSet) {
-    told.text(words);
+pub fn print_set(reported: &mut Reported, words: &str, set: &UidSet) {
+    reported.text(words);
     for (index, item) in set.items().iter().enumerate() {
-        told.text(if index > 0 { ", " } else { "" });
+        reported.text(if index > 0 { ", " } else { "" });
         match item {
-            SetItem::One(end) => tell_end(told, end),
+            SetItem::One(end) => print_end(reported, end),
             SetItem::Range(first, second) => {
-                tell_end(told, first);
-                told.text(" to ");
-                tell_end(told, second);
+                print_end(reported, first);
+                reported.text(" to ");
+                print_end(reported, second);
             }
         }
     }
 }
 
-fn tell_end(told: &mut Told, end: &SetEnd) {
+fn print_end(reported: &mut Reported, end: &SetEnd) {
     match end {
-        SetEnd::Number(number) => told.number(u64::from(number.get())),
-        SetEnd::Greatest => told.text("the greatest"),
+        SetEnd::Number(number) => reported.number(u64::from(number.get())),
+        SetEnd::Greatest => reported.text("the greatest"),
     }
 }

@@ -1,41 +1,46 @@
 //! Strings.
 
-use crate::telling::tell_bytes;
+use crate::reporting::print_bytes;
 use crate::tokens::Tokens;
 use imap_wire::{AString, Quoted, WireString};
-use test_scripts::told::Told;
+use test_scripts::reported::Reported;
 
 /// Adds words, and a string or NIL.
-pub fn tell_nstring(
+pub fn print_nstring(
     tokens: &mut Tokens,
-    told: &mut Told,
+    reported: &mut Reported,
     words: &str,
     string: &Option<WireString<'_>>,
 ) {
-    told.text(words);
+    reported.text(words);
     match string {
-        None => told.text("NIL"),
-        Some(WireString::Quoted(quoted)) => tell_quoted(tokens, told, quoted),
-        Some(WireString::Literal(octets)) => tell_bytes(told, "literal ", octets.bytes()),
+        None => reported.text("NIL"),
+        Some(WireString::Quoted(quoted)) => print_quoted(tokens, reported, quoted),
+        Some(WireString::Literal(octets)) => print_bytes(reported, "literal ", octets.bytes()),
     }
 }
 
 /// Adds words, and an atom or a string.
-pub fn tell_astring(tokens: &mut Tokens, told: &mut Told, words: &str, string: &AString<'_>) {
-    told.text(words);
+pub fn print_astring(
+    tokens: &mut Tokens,
+    reported: &mut Reported,
+    words: &str,
+    string: &AString<'_>,
+) {
+    reported.text(words);
     match string {
-        AString::Atom(atom) => tell_bytes(told, "atom ", atom.text()),
-        AString::Quoted(quoted) => tell_quoted(tokens, told, quoted),
-        AString::Literal(octets) => tell_bytes(told, "literal ", octets.bytes()),
+        AString::Atom(atom) => print_bytes(reported, "atom ", atom.text()),
+        AString::Quoted(quoted) => print_quoted(tokens, reported, quoted),
+        AString::Literal(octets) => print_bytes(reported, "literal ", octets.bytes()),
     }
 }
 
 /// Adds a quoted string, and the bytes for which it stands where these are others.
-fn tell_quoted(tokens: &mut Tokens, told: &mut Told, quoted: &Quoted<'_>) {
-    tell_bytes(told, "quoted ", quoted.raw());
+fn print_quoted(tokens: &mut Tokens, reported: &mut Reported, quoted: &Quoted<'_>) {
+    print_bytes(reported, "quoted ", quoted.raw());
     if quoted.has_escapes() {
         match quoted.value(tokens.alloc) {
-            Ok(value) => tell_bytes(told, " for ", &value),
+            Ok(value) => print_bytes(reported, " for ", &value),
             Err(fault) => tokens.note(Err(fault)),
         }
     }

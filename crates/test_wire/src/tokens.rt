@@ -1,18 +1,18 @@
 //! What plays a script of `tokens`.
 
-use crate::command::tell_command;
+use crate::command::print_command;
 use crate::made::{make, make_of_vec};
 use crate::named::{read_has, read_named};
 use crate::pieces::read_pieces;
-use crate::reply::tell_reply;
-use crate::telling::{tell_count, tell_line};
-use crate::token::tell_token;
+use crate::reply::print_reply;
+use crate::reporting::{print_count, print_line};
+use crate::token::print_token;
 use imap_wire::{Read, UidSet, WireFault, read_command, read_reply};
 use std::alloc::{AllocError, Global};
 use test_scripts::failure::Failure;
 use test_scripts::play::Player;
+use test_scripts::reported::Reported;
 use test_scripts::script::Script;
-use test_scripts::told::Told;
 use test_scripts::words::Words;
 use wire_reader::stop::{Kind, ReadError, Stop};
 use wire_strings::line_text::{all_text, write_line_text};
@@ -55,105 +55,114 @@ impl Tokens {
     }
 
     /// Reports what was written; what has no writer writes nothing.
-    pub fn tell_written(&mut self, told: &mut Told, done: Result<(), AllocError>) {
+    pub fn print_written(&mut self, reported: &mut Reported, done: Result<(), AllocError>) {
         self.note(done);
         match self.out.strip_prefix(BEFORE) {
             Some([]) => {}
-            Some(written) => tell_line(told, "is written ", written),
-            None => told.answer("is written over what stood there"),
+            Some(written) => print_line(reported, "is written ", written),
+            None => reported.answer("is written over what stood there"),
         }
     }
 
     /// The lines that have words of their own before their bytes.
-    fn ask(&mut self, word: &str, line: &mut Words<'_>, told: &mut Told) -> Result<(), Failure> {
+    fn ask(
+        &mut self,
+        word: &str,
+        line: &mut Words<'_>,
+        reported: &mut Reported,
+    ) -> Result<(), Failure> {
         match word {
             "has" => {
                 let has = read_has(self.alloc, line)?;
-                told.answer(if has { "has it" } else { "has it not" });
+                reported.answer(if has { "has it" } else { "has it not" });
             }
-            "uid" => read_named(self.alloc, line, told)?,
+            "uid" => read_named(self.alloc, line, reported)?,
             "empty-set" => {
                 let set = UidSet::new(Vec::new(self.alloc));
-                told.answer(if set.is_some() { "a set" } else { "none" });
+                reported.answer(if set.is_some() { "a set" } else { "none" });
             }
             "make" => {
                 let kind = line.word();
                 let bytes = read_pieces(self.alloc, line)?;
-                self.make(kind, bytes, line, told);
+                self.make(kind, bytes, line, reported);
             }
             "write" => {
                 if line.word() != "line-text" {
                     line.refuse();
                 }
                 let text = read_pieces(self.alloc, line)?;
-                self.write_line_text(&text, told);
+                self.write_line_text(&text, reported);
             }
             _ => {
                 let bytes = read_pieces(self.alloc, line)?;
-                self.read(word, &bytes, line, told);
+                self.read(word, &bytes, line, reported);
             }
         }
         Ok(())
     }
 
-    fn make(&mut self, kind: &str, bytes: Vec<u8>, line: &mut Words<'_>, told: &mut Told) {
+    fn make(&mut self, kind: &str, bytes: Vec<u8>, line: &mut Words<'_>, reported: &mut Reported) {
         let made = match kind {
-            "text" | "pattern" | "message" => make_of_vec(self, kind, bytes, told),
-            _ => make(self, kind, &bytes, line, told),
+            "text" | "pattern" | "message" => make_of_vec(self, kind, bytes, reported),
+            _ => make(self, kind, &bytes, line, reported),
         };
         if made.is_none() {
-            told.answer("none");
+            reported.answer("none");
         }
     }
 
-    fn read(&mut self, word: &str, bytes: &[u8], line: &mut Words<'_>, told: &mut Told) {
+    fn read(&mut self, word: &str, bytes: &[u8], line: &mut Words<'_>, reported: &mut Reported) {
         match word {
             "command" => {
                 let read = read_command(self.alloc, bytes);
-                if let Some(command) = self.whole(told, read) {
-                    tell_command(self, told, &command);
+                if let Some(command) = self.whole(reported, read) {
+                    print_command(self, reported, &command);
                 }
             }
             "reply" => {
                 let read = read_reply(self.alloc, bytes);
-                if let Some(reply) = self.whole(told, read) {
-                    tell_reply(self, told, &reply);
+                if let Some(reply) = self.whole(reported, read) {
+                    print_reply(self, reported, &reply);
                 }
             }
-            _ => match tell_token(self, word, bytes, line, told) {
+            _ => match print_token(self, word, bytes, line, reported) {
                 Ok(()) => {}
-                Err(ReadError::At(stop)) => tell_stop(told, stop, bytes.len()),
+                Err(ReadError::At(stop)) => print_stop(reported, stop, bytes.len()),
                 Err(ReadError::Memory) => self.is_lost = true,
             },
         }
     }
 
     /// Reports how a text that ends a line is written from its bytes alone.
-    fn write_line_text(&mut self, bytes: &[u8], told: &mut Told) {
+    fn write_line_text(&mut self, bytes: &[u8], reported: &mut Reported) {
         if all_text(bytes) {
             let done = write_line_text(bytes, &mut self.out);
-            self.tell_written(told, done);
+            self.print_written(reported, done);
         } else {
-            told.answer("none");
+            reported.answer("none");
         }
     }
 
     /// Reports what the reader of lines answers, and gives what it read.
-    fn whole<T>(&mut self, told: &mut Told, answer: Result<Read<T>, WireFault>) -> Option<T> {
+    fn whole<T>(
+        &mut self,
+        reported: &mut Reported,
+        answer: Result<Read<T>, WireFault>,
+    ) -> Option<T> {
         match answer {
             Ok(Read::Whole(value, used)) => {
-                tell_count(told, "whole, ", used, " bytes");
+                print_count(reported, "whole, ", used, " bytes");
                 return Some(value);
             }
             Ok(Read::WantsLiteral(octets)) => {
-                tell_count(told, "waits for ", octets as usize, " octets");
+                print_count(reported, "waits for ", octets as usize, " octets");
             }
-            Ok(Read::Partial) => told.answer("partial"),
-            Err(WireFault::Syntax(at)) => tell_count(told, "refused at byte ", at, ""),
+            Ok(Read::Partial) => reported.answer("partial"),
+            Err(WireFault::Syntax(at)) => print_count(reported, "refused at byte ", at, ""),
             Err(WireFault::LiteralTooLong(at)) => {
-                tell_count(told, "literal too long at byte ", at, "");
+                print_count(reported, "literal too long at byte ", at, "");
             }
-            Err(WireFault::LineTooLong) => told.answer("line too long"),
+            Err(WireFault::LineTooLong) => reported.answer("line too long"),
             Err(WireFault::NoMemory) => self.is_lost = true,
         }
         None
@@ -168,7 +177,7 @@ impl Player for Tokens {
     fn play(&mut self, line: &mut Words<'_>, script: &mut Script<'_>) -> Result<(), Failure> {
         self.empty();
         let word = line.word();
-        self.ask(word, line, &mut script.told)?;
+        self.ask(word, line, &mut script.reported)?;
         if self.is_lost {
             return Err(Failure::NoMemory);
         }
@@ -181,16 +190,16 @@ impl Player for Tokens {
 }
 
 /// Reports where a reader of tokens stopped in so many bytes, in the words for lines.
-fn tell_stop(told: &mut Told, stop: Stop, length: usize) {
+fn print_stop(reported: &mut Reported, stop: Stop, length: usize) {
     match stop {
-        Stop::Ends(None) => told.answer("partial"),
-        Stop::Ends(Some(octets)) => tell_count(told, "waits for ", octets as usize, " octets"),
+        Stop::Ends(None) => reported.answer("partial"),
+        Stop::Ends(Some(octets)) => print_count(reported, "waits for ", octets as usize, " octets"),
         Stop::Fails(kind, left) => {
             let words = match kind {
                 Kind::Syntax => "refused at byte ",
                 Kind::TooLong => "literal too long at byte ",
             };
-            tell_count(told, words, length.saturating_sub(left), "");
+            print_count(reported, words, length.saturating_sub(left), "");
         }
     }
 }

@@ -4,23 +4,23 @@ use crate::buffered::answer_buffered;
 use crate::feed::Buffer;
 use crate::made_replies::{body, listings};
 use crate::reader::Reader;
-use crate::telling::tell_count;
+use crate::reporting::print_count;
 use imap_wire::{Read, WireFault, read_reply};
 use std::alloc::Global;
 use test_scripts::failure::Failure;
 use test_scripts::play::Player;
+use test_scripts::reported::Reported;
 use test_scripts::script::Script;
-use test_scripts::told::Told;
 use test_scripts::words::Words;
 use texts::cut::cut;
 use texts::escape::unescape;
-use wire_reader::side::Side;
+use wire_reader::side::Speaker;
 
 /// The replies that were made last, and whether a growth was refused.
 #[derive(Drop)]
 pub struct Wire {
     alloc: Global,
-    replies: Told,
+    replies: Reported,
     is_lost: bool,
 }
 
@@ -29,7 +29,7 @@ impl Wire {
     pub fn new(alloc: Global) -> Wire {
         Wire {
             alloc,
-            replies: Told::new(alloc),
+            replies: Reported::new(alloc),
             is_lost: false,
         }
     }
@@ -39,32 +39,32 @@ impl Wire {
         &mut self,
         letter: &str,
         line: &mut Words<'_>,
-        told: &mut Told,
+        reported: &mut Reported,
     ) -> Result<(), Failure> {
         let (side, in_parts) = match letter {
-            "C" => (Side::Commands, true),
-            "R" => (Side::Replies, true),
-            "c" => (Side::Commands, false),
-            "r" => (Side::Replies, false),
+            "C" => (Speaker::Commands, true),
+            "R" => (Speaker::Replies, true),
+            "c" => (Speaker::Commands, false),
+            "r" => (Speaker::Replies, false),
             _ => return Err(Failure::Script),
         };
         let mut bytes = unescape(self.alloc, line.rest())?;
         let mut reader = Reader::new(self.alloc, side);
-        reader.answer_whole(told, &bytes);
+        reader.answer_whole(reported, &bytes);
         if in_parts {
-            reader.answer_parts(told, &mut bytes);
+            reader.answer_parts(reported, &mut bytes);
         }
         self.is_lost = reader.is_lost;
         Ok(())
     }
 
-    fn make(&mut self, replies: Told, told: &mut Told) {
+    fn make(&mut self, replies: Reported, reported: &mut Reported) {
         self.is_lost = replies.is_lost();
-        tell_count(told, "", replies.as_str().len(), " bytes");
+        print_count(reported, "", replies.as_str().len(), " bytes");
         self.replies = replies;
     }
 
-    fn read_all(&mut self, told: &mut Told) {
+    fn read_all(&mut self, reported: &mut Reported) {
         let mut rest = self.replies.as_str().as_bytes();
         let (mut replies, mut used) = (0usize, 0usize);
         for _ in 0..rest.len() {
@@ -81,10 +81,10 @@ impl Wire {
                 _ => break,
             }
         }
-        tell_replies(told, replies, used);
+        print_replies(reported, replies, used);
     }
 
-    fn feed(&mut self, line: &mut Words<'_>, told: &mut Told) {
+    fn feed(&mut self, line: &mut Words<'_>, reported: &mut Reported) {
         if line.word() != "in" || line.word() != "pieces" || line.word() != "of" {
             line.refuse();
         }
@@ -92,7 +92,7 @@ impl Wire {
         let mut buffer = Buffer::new(self.alloc);
         buffer.feed_all(self.replies.as_str().as_bytes(), size);
         self.is_lost = buffer.is_lost;
-        tell_replies(told, buffer.replies, buffer.begin);
+        print_replies(reported, buffer.replies, buffer.begin);
     }
 }
 
@@ -102,21 +102,21 @@ impl Player for Wire {
     }
 
     fn play(&mut self, line: &mut Words<'_>, script: &mut Script<'_>) -> Result<(), Failure> {
-        let told = &mut script.told;
+        let reported = &mut script.reported;
         match line.word() {
-            "listings" => self.make(listings(self.alloc, line.number()), told),
-            "body" => self.make(body(self.alloc, line.number()), told),
-            "read" if line.text() == "all" => self.read_all(told),
-            "feed" => self.feed(line, told),
+            "listings" => self.make(listings(self.alloc, line.number()), reported),
+            "body" => self.make(body(self.alloc, line.number()), reported),
+            "read" if line.text() == "all" => self.read_all(reported),
+            "feed" => self.feed(line, reported),
             "line" if line.text() == "feeds" => {
                 let feeds = count_line_feeds(self.replies.as_str().as_bytes());
-                tell_count(told, "", feeds, " line feeds");
+                print_count(reported, "", feeds, " line feeds");
             }
             "b" => {
                 let bytes = unescape(self.alloc, line.rest())?;
-                answer_buffered(self.alloc, told, &bytes)?;
+                answer_buffered(self.alloc, reported, &bytes)?;
             }
-            letter => self.example(letter, line, told)?,
+            letter => self.example(letter, line, reported)?,
         }
         if self.is_lost {
             return Err(Failure::NoMemory);
@@ -129,20 +129,20 @@ impl Player for Wire {
     }
 }
 
-fn tell_replies(told: &mut Told, replies: usize, used: usize) {
-    told.begin();
-    told.number(replies as u64);
-    told.text(" replies, ");
-    told.number(used as u64);
-    told.text(" bytes");
-    told.end();
+fn print_replies(reported: &mut Reported, replies: usize, used: usize) {
+    reported.begin();
+    reported.number(replies as u64);
+    reported.text(" replies, ");
+    reported.number(used as u64);
+    reported.text(" bytes");
+    reported.end();
 }
 
 fn count_line_feeds(bytes: &[u8]) -> usize {
     let mut rest = bytes;
     for lines in 0..bytes.len() {
         match cut(rest, b'\n') {
-            Some((_, behind)) => rest = behind,
+            Some((_, following)) => rest = following,
             None => return lines,
         }
     }

@@ -27,11 +27,11 @@ cut_last-none byte (b ∷ bs) none =
 pub cut_last-place : (byte : ℕ) (text : List ℕ) (place : ℕ) → place < length text → get_or text place 0 ≡ byte
     → ((k : ℕ) → place < k → k < length text → get_or text k 0 ≢ byte)
     → cut_last byte text ≡ Some (take place text, drop (suc place) text)
-cut_last-place byte [] place within is behind = absurd (omega arith)
-cut_last-place byte (b ∷ bs) zero within is behind =
-    rw (cut_last-none byte bs (λ k below. behind (suc k) (omega arith) (omega arith)), eq-eqb b byte is) refl
-cut_last-place byte (b ∷ bs) (suc place) within is behind =
-    rw (cut_last-place byte bs place (omega arith) is (λ k above below. behind (suc k) (omega arith) (omega arith))) refl
+cut_last-place byte [] place within is following = absurd (omega arith)
+cut_last-place byte (b ∷ bs) zero within is following =
+    rw (cut_last-none byte bs (λ k below. following (suc k) (omega arith) (omega arith)), eq-eqb b byte is) refl
+cut_last-place byte (b ∷ bs) (suc place) within is following =
+    rw (cut_last-place byte bs place (omega arith) is (λ k above below. following (suc k) (omega arith) (omega arith))) refl
 
 -- ---- a text that is put together of parts
 
@@ -41,28 +41,28 @@ Lacks byte text = All (λ b. b ≢ byte) text
 pub cut_first-lacks : (byte : ℕ) (text : List ℕ) → Lacks byte text → cut_first byte text ≡ None
 cut_first-lacks byte text lacks = cut_first-none byte text (λ k below. lacks k 0 below)
 
-pub cut_first-append : (byte : ℕ) (front behind : List ℕ) → Lacks byte front → cut_first byte (front ++ byte ∷ behind) ≡ Some (front, behind)
-cut_first-append byte [] behind lacks = rw (eq-eqb byte byte refl) refl
-cut_first-append byte (b ∷ front) behind lacks =
-    rw (ne_eqb b byte (All-head (λ b. b ≢ byte) b front lacks), cut_first-append byte front behind (All-tail (λ b. b ≢ byte) b front lacks)) refl
+pub cut_first-append : (byte : ℕ) (front following : List ℕ) → Lacks byte front → cut_first byte (front ++ byte ∷ following) ≡ Some (front, following)
+cut_first-append byte [] following lacks = rw (eq-eqb byte byte refl) refl
+cut_first-append byte (b ∷ front) following lacks =
+    rw (ne_eqb b byte (All-head (λ b. b ≢ byte) b front lacks), cut_first-append byte front following (All-tail (λ b. b ≢ byte) b front lacks)) refl
 
 pub cut_last-lacks : (byte : ℕ) (text : List ℕ) → Lacks byte text → cut_last byte text ≡ None
 cut_last-lacks byte text lacks = cut_last-none byte text (λ k below. lacks k 0 below)
 
-pub cut_last-append : (byte : ℕ) (front behind : List ℕ) → Lacks byte behind → cut_last byte (front ++ byte ∷ behind) ≡ Some (front, behind)
-cut_last-append byte [] behind lacks = rw (cut_last-lacks byte behind lacks, eq-eqb byte byte refl) refl
-cut_last-append byte (b ∷ front) behind lacks = rw (cut_last-append byte front behind lacks) refl
+pub cut_last-append : (byte : ℕ) (front following : List ℕ) → Lacks byte following → cut_last byte (front ++ byte ∷ following) ≡ Some (front, following)
+cut_last-append byte [] following lacks = rw (cut_last-lacks byte following lacks, eq-eqb byte byte refl) refl
+cut_last-append byte (b ∷ front) following lacks = rw (cut_last-append byte front following lacks) refl
 
 -- ---- what a cut says of the text
 
 -- the text is what stands on both sides of the byte
 abbrev pub Joins : ℕ → List ℕ → Option Sides → Type 0
 Joins byte text None = Lacks byte text
-Joins byte text (Some (front, behind)) = (text ≡ front ++ byte ∷ behind) × Lacks byte front
+Joins byte text (Some (front, following)) = (text ≡ front ++ byte ∷ following) × Lacks byte front
 
 joins_more : (byte b : ℕ) (bs : List ℕ) (cut : Option Sides) → b ≢ byte → Joins byte bs cut → Joins byte (b ∷ bs) (option_map (onto_front b) cut)
 joins_more byte b bs None other joins = All-cons (λ b. b ≢ byte) b bs other joins
-joins_more byte b bs (Some (front, behind)) other joins = (ap (λ (t : List ℕ). b ∷ t) joins.0, All-cons (λ b. b ≢ byte) b front other joins.1)
+joins_more byte b bs (Some (front, following)) other joins = (ap (λ (t : List ℕ). b ∷ t) joins.0, All-cons (λ b. b ≢ byte) b front other joins.1)
 
 pub cut_first-joins : (byte : ℕ) (text : List ℕ) → Joins byte text (cut_first byte text)
 cut_first-joins byte [] = All-nil (λ b. b ≢ byte)
@@ -75,7 +75,7 @@ cut_first-joins byte (b ∷ bs) =
 -- the same for the last one, where the text has the byte
 abbrev pub JoinsLast : ℕ → List ℕ → Option Sides → Type 0
 JoinsLast byte text None = Lacks byte text
-JoinsLast byte text (Some (front, behind)) = text ≡ front ++ byte ∷ behind
+JoinsLast byte text (Some (front, following)) = text ≡ front ++ byte ∷ following
 
 joins_last : (byte b : ℕ) (bs : List ℕ) (cut : Option Sides) → JoinsLast byte bs cut
     → JoinsLast byte (b ∷ bs) (or_here (option_map (onto_front b) cut) (cond (eqb b byte) (Some ([], bs)) None))
@@ -84,7 +84,7 @@ joins_last byte b bs None joins =
       | inl same ↦ rw (eq-eqb b byte same) (ap (λ (x : ℕ). x ∷ bs) same)
       | inr other ↦ rw (ne_eqb b byte other) (All-cons (λ b. b ≢ byte) b bs other joins)
     ]
-joins_last byte b bs (Some (front, behind)) joins = ap (λ (t : List ℕ). b ∷ t) joins
+joins_last byte b bs (Some (front, following)) joins = ap (λ (t : List ℕ). b ∷ t) joins
 
 pub cut_last-joins : (byte : ℕ) (text : List ℕ) → JoinsLast byte text (cut_last byte text)
 cut_last-joins byte [] = All-nil (λ b. b ≢ byte)

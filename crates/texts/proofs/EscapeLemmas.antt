@@ -119,8 +119,8 @@ plain_run (b ∷ rest) text other =
     let one = plain_by (is_plain b) b refl (other 0 0 (omega arith)) parts.0 in
     ap (λ (x : List ℕ). x ++ escaped rest) one ∙ ap (λ (x : List ℕ). b ∷ x) (plain_run rest parts.1 (λ k d h. other (suc k) d (omega arith)))
 
-text_behind : (front rest text : List ℕ) → list_all is_text text ≡ true → front ++ rest ≡ text → list_all is_text rest ≡ true
-text_behind front rest text all e =
+text_after : (front rest text : List ℕ) → list_all is_text text ≡ true → front ++ rest ≡ text → list_all is_text rest ≡ true
+text_after front rest text all e =
     (and_true (list_all is_text front) (list_all is_text rest) (sym (list_all-append is_text front rest) ∙ ap (λ (t : List ℕ). list_all is_text t) e ∙ all)).1
 
 run_added : (bytes run : List ℕ) → list_all is_text run ≡ true → All (λ b. b ≢ 92) run → escaped (bytes ++ run) ≡ escaped bytes ++ run
@@ -130,11 +130,11 @@ run_added bytes run text other = flat_map-append escape_of bytes run ∙ ap (λ 
 pub front_read : (bytes run tail rest text : List ℕ) → list_all is_text text ≡ true → escaped bytes ++ rest ≡ text
     → rest ≡ run ++ tail → All (λ b. b ≢ 92) run → escaped (bytes ++ run) ++ tail ≡ text
 front_read bytes run tail rest text all e cut other =
-    let back = text_behind (escaped bytes) rest text all e in
+    let back = text_after (escaped bytes) rest text all e in
     let front = and_true (list_all is_text run) (list_all is_text tail) (sym (list_all-append is_text run tail) ∙ ap (λ (t : List ℕ). list_all is_text t) (sym cut) ∙ back) in
     ap (λ (x : List ℕ). x ++ tail) (run_added bytes run front.0 other) ∙ append_assoc (escaped bytes) run tail
     ∙ ap (λ (x : List ℕ). escaped bytes ++ x) (sym cut) ∙ e
 
 -- what follows the last escape is read
 pub end_read : (bytes rest text : List ℕ) → list_all is_text text ≡ true → escaped bytes ++ rest ≡ text → All (λ b. b ≢ 92) rest → escaped (bytes ++ rest) ≡ text
-end_read bytes rest text all e other = run_added bytes rest (text_behind (escaped bytes) rest text all e) other ∙ e
+end_read bytes rest text all e other = run_added bytes rest (text_after (escaped bytes) rest text all e) other ∙ e

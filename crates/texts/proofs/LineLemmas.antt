@@ -10,43 +10,43 @@ use Rattle.texts.proofs.StartLemmas.{starts, no_start}
 use Rattle.texts.specs.Lines.{IsLine, line_ends, lines_of, put_before}
 
 -- one line end less
-one_less : (line behind : List ℕ) → line_ends behind + 1 ≤ line_ends (line ++ 10 ∷ behind)
-one_less [] behind = grind (arith, common_steps)
-one_less (b ∷ line) behind = let h = one_less line behind in grind (arith, common_steps)
+one_less : (line following : List ℕ) → line_ends following + 1 ≤ line_ends (line ++ 10 ∷ following)
+one_less [] following = grind (arith, common_steps)
+one_less (b ∷ line) following = let h = one_less line following in grind (arith, common_steps)
 
-fewer_behind : (front behind : List ℕ) → line_ends behind ≤ line_ends (front ++ behind)
-fewer_behind [] behind = omega arith
-fewer_behind (b ∷ front) behind = let h = fewer_behind front behind in grind (arith, common_steps)
+fewer_after : (front following : List ℕ) → line_ends following ≤ line_ends (front ++ following)
+fewer_after [] following = omega arith
+fewer_after (b ∷ front) following = let h = fewer_after front following in grind (arith, common_steps)
 
-pub line_taken : (start line behind text : List ℕ) → IsLine start line behind text → line_ends behind + 1 ≤ line_ends text
-line_taken start line behind text is =
-    let same : line_ends text ≡ line_ends (start ++ (line ++ 10 ∷ behind)) = ap (λ (t : List ℕ). line_ends t) is.parts in
-    let h = fewer_behind start (line ++ 10 ∷ behind) in
-    let g = one_less line behind in
+pub line_taken : (start line following text : List ℕ) → IsLine start line following text → line_ends following + 1 ≤ line_ends text
+line_taken start line following text is =
+    let same : line_ends text ≡ line_ends (start ++ (line ++ 10 ∷ following)) = ap (λ (t : List ℕ). line_ends t) is.parts in
+    let h = fewer_after start (line ++ 10 ∷ following) in
+    let g = one_less line following in
     omega arith
 
-no_line : (start text rest line behind : List ℕ) → rest ≡ drop (length start) text → All (λ b. b ≢ 10) rest → text ≢ start ++ (line ++ 10 ∷ behind)
-no_line start text rest line behind is none parts =
-    let here : rest ≡ line ++ 10 ∷ behind = is ∙ ap (λ (x : List ℕ). drop (length start) x) parts ∙ drop_at start (line ++ 10 ∷ behind) (length start) refl in
-    let there : get_or rest (length line) 0 ≡ 10 = ap (λ (x : List ℕ). get_or x (length line) 0) here ∙ get_or_at line 10 behind 0 (length line) refl in
-    let size : length rest ≡ length (line ++ 10 ∷ behind) = ap (λ (x : List ℕ). length x) here in
-    none (length line) 0 (omega (arith, length-append line (10 ∷ behind))) there
+no_line : (start text rest line following : List ℕ) → rest ≡ drop (length start) text → All (λ b. b ≢ 10) rest → text ≢ start ++ (line ++ 10 ∷ following)
+no_line start text rest line following is none parts =
+    let here : rest ≡ line ++ 10 ∷ following = is ∙ ap (λ (x : List ℕ). drop (length start) x) parts ∙ drop_at start (line ++ 10 ∷ following) (length start) refl in
+    let there : get_or rest (length line) 0 ≡ 10 = ap (λ (x : List ℕ). get_or x (length line) 0) here ∙ get_or_at line 10 following 0 (length line) refl in
+    let size : length rest ≡ length (line ++ 10 ∷ following) = ap (λ (x : List ℕ). length x) here in
+    none (length line) 0 (omega (arith, length-append line (10 ∷ following))) there
 
-pub line_is : (start text rest line behind : List ℕ) → pointwise eqb (take (length start) text) start ≡ true → rest ≡ drop (length start) text
-    → rest ≡ line ++ 10 ∷ behind → All (λ b. b ≢ 10) line → IsLine start line behind text
-line_is start text rest line behind same is parts none = record {
+pub line_is : (start text rest line following : List ℕ) → pointwise eqb (take (length start) text) start ≡ true → rest ≡ drop (length start) text
+    → rest ≡ line ++ 10 ∷ following → All (λ b. b ≢ 10) line → IsLine start line following text
+line_is start text rest line following same is parts none = record {
   parts = starts start text rest same is ∙ ap (λ (x : List ℕ). start ++ x) parts;
   one_line = none;
 }
 
 pub other_start : {A : Type 0} (r : Option A) (start text : List ℕ) → pointwise eqb (take (length start) text) start ≡ false
-    → IfNone r ((line behind : List ℕ) → ¬ IsLine start line behind text)
-other_start None start text other = λ line behind is. no_start start text (line ++ 10 ∷ behind) other is.parts
+    → IfNone r ((line following : List ℕ) → ¬ IsLine start line following text)
+other_start None start text other = λ line following is. no_start start text (line ++ 10 ∷ following) other is.parts
 other_start (Some x) start text other = tt
 
 pub no_line_end : {A : Type 0} (r : Option A) (start text rest : List ℕ) → rest ≡ drop (length start) text → All (λ b. b ≢ 10) rest
-    → IfNone r ((line behind : List ℕ) → ¬ IsLine start line behind text)
-no_line_end None start text rest is none = λ line behind l. no_line start text rest line behind is none l.parts
+    → IfNone r ((line following : List ℕ) → ¬ IsLine start line following text)
+no_line_end None start text rest is none = λ line following l. no_line start text rest line following is none l.parts
 no_line_end (Some x) start text rest is none = tt
 
 -- ---- lines that the end of the text may end

@@ -8,7 +8,7 @@ Sides = List ℕ × List ℕ
 
 -- the byte stands before the first part
 abbrev pub onto_front : ℕ → Sides → Sides
-onto_front b (front, behind) = (b ∷ front, behind)
+onto_front b (front, following) = (b ∷ front, following)
 
 -- the text cut at the first such byte, if it has one
 abbrev pub cut_first : ℕ → List ℕ → Option Sides

@@ -6,9 +6,9 @@ use Rattle.texts.specs.declared.lines.Lines.{Lines}
 abbrev pub line_ends : List ℕ → ℕ
 line_ends text = count_by (λ b. b == 10) text
 
--- a text begins with a line, which begins with `start` and goes on with `line`; `behind` is what follows its LF
-pub record IsLine (start line behind text : List ℕ) : Type 0 where
-  pub parts : text ≡ start ++ (line ++ 10 ∷ behind)
+-- a text begins with a line, which begins with `start` and goes on with `line`; `following` is what follows its LF
+pub record IsLine (start line following text : List ℕ) : Type 0 where
+  pub parts : text ≡ start ++ (line ++ 10 ∷ following)
   pub one_line : All (λ b. b ≢ 10) line
 
 -- how many whole lines there are, those that are taken and those that are not

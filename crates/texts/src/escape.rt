@@ -47,7 +47,7 @@ fn cut_escape(text: &[u8]) -> Option<(&[u8], &[u8])>
 {
     match text {
         // Escapes often follow one another, as at the end of a message's header: there is nothing to search then.
-        [b'\\', behind @ ..] => Some((&text[..0], behind)),
+        [b'\\', following @ ..] => Some((&text[..0], following)),
         _ => cut(text, b'\\'),
     }
 }
@@ -65,20 +65,20 @@ fn has_only_text_bytes(text: &[u8]) -> bool
 /// Adds the byte of the escape whose `\` stands in front of this text, and gives what follows the escape.
 /// `NotEscaped`: no escape stands there.
 fn push_escape<'a>(bytes: &mut Vec<u8>, text: &'a [u8]) -> Result<&'a [u8], EscapeFault>
-    ensures text { IfOk result (λ behind. escaped bytes.new.items ++ behind.now ≡ escaped bytes.old.items ++ 92 ∷ text.now) }
-    ensures shorter { IfOk result (λ behind. length behind.now < length text.now) }
+    ensures text { IfOk result (λ following. escaped bytes.new.items ++ following.now ≡ escaped bytes.old.items ++ 92 ∷ text.now) }
+    ensures shorter { IfOk result (λ following. length following.now < length text.now) }
     ensures not_escaped { IsErrOf result EscapeFault.NotEscaped → (b : ℕ) → b < 256 → (rest : List ℕ) → escape_of b ++ rest ≢ 92 ∷ text.now }
 {
     // Most escapes end a line of mail: both are taken at once.
-    if let Some(behind) = text.strip_prefix(b"0d\\0a") {
+    if let Some(following) = text.strip_prefix(b"0d\\0a") {
         bytes.extend_from_slice(b"\r\n")?;
-        return Ok(behind);
+        return Ok(following);
     }
-    let Some((byte, behind)) = split_escape(text) else {
+    let Some((byte, following)) = split_escape(text) else {
         return Err(EscapeFault::NotEscaped);
     };
     bytes.push(byte).map_err(AllocError::from)?;
-    Ok(behind)
+    Ok(following)
 }
 
 /// The byte of the escape whose `\` stands in front of this text, and what follows the escape, or none if no

@@ -56,14 +56,14 @@ impl<'a> Lines<'a> {
     /// Takes the next line if it is whole and begins with `start`, and gives what follows `start`. Else takes nothing.
     pub fn take_if(&mut self, start: &[u8]) -> Option<Line<'a>>
         ensures line { IfSome result (λ line. IsLine start.now line.text.now self.new.rest.now self.old.rest.now) }
-        ensures missing { IfNone result ((text behind : List ℕ) → ¬ IsLine start.now text behind self.old.rest.now) }
+        ensures missing { IfNone result ((text following : List ℕ) → ¬ IsLine start.now text following self.old.rest.now) }
         ensures taken { IfSome result (λ line. (line.number ≡ self.old.taken + 1) × (self.new.taken ≡ self.old.taken + 1)) }
         ensures shorter { OnSome result (length self.new.rest.now < length self.old.rest.now) }
         ensures count { line_count self.new ≤ line_count self.old }
         ensures none { IfNone result (self.new ≡ self.old) }
     {
-        let behind = self.rest.strip_prefix(start)?;
-        let (text, rest) = cut(behind, b'\n')?;
+        let following = self.rest.strip_prefix(start)?;
+        let (text, rest) = cut(following, b'\n')?;
         self.rest = rest;
         self.taken += 1;
         Some(Line {

@@ -1,6 +1,6 @@
 //! The program's arguments.
 
-use crate::failure::Failure;
+use crate::failure::ServeFailure;
 use std::io::ErrorKind;
 use std::{env, io};
 use texts::number::read_u32;
@@ -10,7 +10,7 @@ pub const USAGE: &str = "trial-imapd ADDR FILE COUNT";
 
 /// What is asked for.
 #[derive(Drop)]
-pub enum Request {
+pub enum ServeRequest {
     /// The usage is printed.
     Help,
     /// Connections are served.
@@ -29,30 +29,30 @@ pub struct Task {
 }
 
 /// Reads the program's arguments. `Usage`: they are others.
-pub fn read_arguments(rt: &HostRuntime) -> Result<Request, Failure> {
+pub fn read_arguments(rt: &HostRuntime) -> Result<ServeRequest, ServeFailure> {
     let mut words = env::args(rt).map_err(of_arguments)?;
     // The first is the program's name.
     let _program = words.next();
-    let first = words.next().ok_or(Failure::Usage)?;
+    let first = words.next().ok_or(ServeFailure::Usage)?;
     let Some(file) = words.next() else {
         return read_help(&first);
     };
-    let count = words.next().ok_or(Failure::Usage)?;
+    let count = words.next().ok_or(ServeFailure::Usage)?;
     if words.next().is_some() {
-        return Err(Failure::Usage);
+        return Err(ServeFailure::Usage);
     }
-    Ok(Request::Serve(Task {
+    Ok(ServeRequest::Serve(Task {
         address: first,
         file,
-        count: read_count(&count).ok_or(Failure::Usage)?,
+        count: read_count(&count).ok_or(ServeFailure::Usage)?,
     }))
 }
 
-fn read_help(word: &str) -> Result<Request, Failure> {
+fn read_help(word: &str) -> Result<ServeRequest, ServeFailure> {
     if word == "-h" {
-        Ok(Request::Help)
+        Ok(ServeRequest::Help)
     } else {
-        Err(Failure::Usage)
+        Err(ServeFailure::Usage)
     }
 }
 
@@ -63,9 +63,9 @@ fn read_count(word: &str) -> Option<u32> {
     }
 }
 
-fn of_arguments(fault: io::Error) -> Failure {
+fn of_arguments(fault: io::Error) -> ServeFailure {
     match fault.kind() {
-        ErrorKind::OutOfMemory => Failure::NoMemory,
-        _ => Failure::Usage,
+        ErrorKind::OutOfMemory => ServeFailure::NoMemory,
+        _ => ServeFailure::Usage,
     }
 }

@@ -9,7 +9,7 @@ use worlds::fault::WorldFault;
 
 /// Why the program ends before its last connection.
 #[derive(Debug, Drop, Error)]
-pub enum Failure {
+pub enum ServeFailure {
     /// It takes no such arguments.
     #[error("usage")]
     Usage,
@@ -27,49 +27,50 @@ pub enum Failure {
     NoMemory,
 }
 
-impl Failure {
+impl ServeFailure {
     /// The program's exit status.
     pub fn status(&self) -> ExitCode {
         match self {
-            Failure::Usage | Failure::World(_) => ExitCode::from(2),
-            Failure::Open(_) | Failure::Output | Failure::NoMemory => ExitCode::FAILURE,
+            ServeFailure::Usage | ServeFailure::World(_) => ExitCode::from(2),
+            ServeFailure::Open(_) | ServeFailure::Output | ServeFailure::NoMemory =>
+                ExitCode::FAILURE,
         }
     }
 
     /// What it means that the file or the address of this name gave a fault.
-    pub fn of_opening(fault: &io::Error, name: &str, alloc: Global) -> Failure {
+    pub fn of_opening(fault: &io::Error, name: &str, alloc: Global) -> ServeFailure {
         match fault.kind() {
-            ErrorKind::OutOfMemory => Failure::NoMemory,
-            _ => Failure::cannot_open(name, alloc),
+            ErrorKind::OutOfMemory => ServeFailure::NoMemory,
+            _ => ServeFailure::cannot_open(name, alloc),
         }
     }
 
     /// The file or the address of this name cannot be opened.
-    pub fn cannot_open(name: &str, alloc: Global) -> Failure {
+    pub fn cannot_open(name: &str, alloc: Global) -> ServeFailure {
         match String::from_str(alloc, name) {
-            Ok(name) => Failure::Open(name),
-            Err(AllocError) => Failure::NoMemory,
+            Ok(name) => ServeFailure::Open(name),
+            Err(AllocError) => ServeFailure::NoMemory,
         }
     }
 }
 
-impl From<AllocError> for Failure {
-    fn from(_fault: AllocError) -> Failure {
-        Failure::NoMemory
+impl From<AllocError> for ServeFailure {
+    fn from(_fault: AllocError) -> ServeFailure {
+        ServeFailure::NoMemory
     }
 }
 
-impl<T: Drop> From<AllocFailed<T>> for Failure {
-    fn from(_fault: AllocFailed<T>) -> Failure {
-        Failure::NoMemory
+impl<T: Drop> From<AllocFailed<T>> for ServeFailure {
+    fn from(_fault: AllocFailed<T>) -> ServeFailure {
+        ServeFailure::NoMemory
     }
 }
 
-impl From<WorldFault> for Failure {
-    fn from(fault: WorldFault) -> Failure {
+impl From<WorldFault> for ServeFailure {
+    fn from(fault: WorldFault) -> ServeFailure {
         match fault {
-            WorldFault::Line(line) => Failure::World(line),
-            WorldFault::NoMemory => Failure::NoMemory,
+            WorldFault::Line(line) => ServeFailure::World(line),
+            WorldFault::NoMemory => ServeFailure::NoMemory,
         }
     }
 }

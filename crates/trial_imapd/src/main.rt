@@ -7,19 +7,19 @@ mod failure;
 mod notes;
 mod serving;
 
-use crate::arguments::{Request, USAGE, read_arguments};
-use crate::failure::Failure;
+use crate::arguments::{ServeRequest, USAGE, read_arguments};
+use crate::failure::ServeFailure;
 use crate::serving::serve;
 use std::io::Write;
 use std::process::ExitCode;
 
-fn run(rt: &HostRuntime) -> Result<(), Failure> {
+fn run(rt: &HostRuntime) -> Result<(), ServeFailure> {
     match read_arguments(rt)? {
-        Request::Help => {
+        ServeRequest::Help => {
             let mut out = rt.stdout();
-            writeln!(out, "{USAGE}").map_err(|_| Failure::Output)
+            writeln!(out, "{USAGE}").map_err(|_| ServeFailure::Output)
         }
-        Request::Serve(task) => serve(rt, task),
+        ServeRequest::Serve(task) => serve(rt, task),
     }
 }
 

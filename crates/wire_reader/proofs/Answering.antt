@@ -3,7 +3,7 @@ use Rattle.std.proofs.Common.{◌≡◌, ℕ, zero, suc, ◌+◌, ◌-◌, ◌<�
 use Rattle.std.specs.Borrow.{Bor}
 use Rattle.std.proofs.lemmas.Bool.{ltb-true, ltb-false}
 use Rattle.std.proofs.lemmas.List.{append-nil, take-take, take_more, length-take, length-take-le}
-use Rattle.wire_reader.specs.declared.side.Side.{Side}
+use Rattle.wire_reader.specs.declared.side.Speaker.{Speaker}
 use Rattle.wire_reader.specs.declared.stop.Kind.{Kind}
 use Rattle.wire_reader.specs.declared.stop.Kind.TheVariants as kinds
 use Rattle.wire_reader.specs.declared.stop.Stop.{Stop}
@@ -25,7 +25,7 @@ use Rattle.wire_reader.proofs.Lexed.{Lexed, kind-over}
 use Rattle.wire_reader.proofs.Top.{whole_is, begins_is, fault_is, left_le}
 
 -- what an answer says where no byte is too many
-abbrev pub Unlimited : {T A : Type 0} → Side → (T → A) → (A → List ℕ → Type 0) → List ℕ → Result (Read T) WireFault → Type 0
+abbrev pub Unlimited : {T A : Type 0} → Speaker → (T → A) → (A → List ℕ → Type 0) → List ℕ → Result (Read T) WireFault → Type 0
 Unlimited side view L xs (Ok (Whole value used)) = WholeAt L xs (view value) used
 Unlimited side view L xs (Ok (WantsLiteral n)) = Begins L xs × (asks side xs ≡ Some n)
 Unlimited side view L xs (Ok Partial) = Begins L xs × (asks side xs ≡ None)
@@ -42,7 +42,7 @@ over-false : (t : Bool) → cond t kinds.TooLong kinds.Syntax ≡ kinds.Syntax �
 over-false true h = absurd cc
 over-false false h = refl
 
-module _ {T A : Type 0} {L : A → List ℕ → Type 0} {r : List ℕ → Result (A × List ℕ) Stop} (side : Side) (view : T → A) (p : Reader Closed L r) (lex : Lexed side Plain r) (xs : List ℕ) where
+module _ {T A : Type 0} {L : A → List ℕ → Type 0} {r : List ℕ → Result (A × List ℕ) Stop} (side : Speaker) (view : T → A) (p : Reader Closed L r) (lex : Lexed side Plain r) (xs : List ℕ) where
   kind_is : (k : Kind) (n : ℕ) → r xs ≡ Err (Fails k n) → cond (passes_limit side (length xs - n) xs) kinds.TooLong kinds.Syntax ≡ k
   kind_is k n h = let le = left_le p xs k n h in sym (kind-over side Plain n xs le.0 le.1) ∙ lex.kind xs k n h
 
@@ -60,7 +60,7 @@ module _ {T A : Type 0} {L : A → List ℕ → Type 0} {r : List ℕ → Result
 -- ---- the limit
 
 -- the place of a fault, in a front that holds it
-over-take : (side : Side) (xs : List ℕ) (ph : Phase) (end at : ℕ) → at < end → over_from side ph at (take end xs) ≡ over_from side ph at xs
+over-take : (side : Speaker) (xs : List ℕ) (ph : Phase) (end at : ℕ) → at < end → over_from side ph at (take end xs) ≡ over_from side ph at xs
 over-take side xs ph zero at lt = absurd (omega (arith, lt))
 over-take side [] ph (suc end) at lt = refl
 over-take side (b ∷ bs) ph (suc end) zero lt = refl
@@ -83,7 +83,7 @@ module _ (xs : List ℕ) (end : ℕ) (h : limit_from Plain 65536 0 xs ≡ Some e
   ends_there : take (suc place.index) xs ≡ take end xs
   ends_there = let e : suc place.index ≡ end = (let e = place.end_is in omega arith) in ap (λ (k : ℕ). take k xs) e
 
-  module _ {A : Type 0} (L : A → List ℕ → Type 0) (side : Side) where
+  module _ {A : Type 0} (L : A → List ℕ → Type 0) (side : Speaker) where
     whole_within : (a : A) (used : ℕ) → WholeAt L (take end xs) a used → used < end → WholeAt L xs a used × (outside (take used xs) ≤ 65536)
     whole_within a used w lt =
         let same : take used (take end xs) ≡ take used xs = take-take used end xs (omega arith) in
@@ -158,7 +158,7 @@ module _ (xs : List ℕ) (end : ℕ) (h : limit_from Plain 65536 0 xs ≡ Some e
 
 -- ---- the answer on the bytes up to the first that is too many, as a function of the program goes
 
-module _ {T A : Type 0} {L : A → List ℕ → Type 0} {r : List ℕ → Result (A × List ℕ) Stop} (side : Side) (view : T → A) (p : Reader Closed L r) (lex : Lexed side Plain r) (xs : List ℕ) where
+module _ {T A : Type 0} {L : A → List ℕ → Type 0} {r : List ℕ → Result (A × List ℕ) Stop} (side : Speaker) (view : T → A) (p : Reader Closed L r) (lex : Lexed side Plain r) (xs : List ℕ) where
   pub answers_within : (o : Result (T × Bor (List ℕ)) ReadError) (end : ℕ) → limit_from Plain 65536 0 xs ≡ Some end → GivesOr (λ x. (view x.0, x.1.now)) o (r (take end xs)) → Answers side view L xs (within end (answered end o))
   answers_within o end h g =
       let long : length (take end xs) ≡ end = length-take-le end xs (end_le xs end h) in

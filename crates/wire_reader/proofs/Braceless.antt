@@ -2,7 +2,7 @@
 use Rattle.std.proofs.Common.{◌≡◌, ℕ, Bool, true, false, not, cond, eqb, List, [], ◌∷◌, map, None, refl, sym, ap, ◌∙◌, inl, inr}
 use Rattle.std.specs.List.{list_all}
 use Rattle.std.proofs.lemmas.Bool.{cases_Bool, true≢false, false≢true, eqb-true, and_parts, and_from, not-true}
-use Rattle.wire_reader.specs.declared.side.Side.{Side}
+use Rattle.wire_reader.specs.declared.side.Speaker.{Speaker}
 use Rattle.wire_reader.specs.declared.lexical.Phase.{Phase}
 use Rattle.wire_reader.specs.declared.lexical.Phase.TheVariants.{Plain, Brace}
 use Rattle.wire_reader.specs.Lexical.{next, phase, asks_from}
@@ -22,7 +22,7 @@ pub braceless-phase : (t : List ℕ) → braceless t ≡ true → phase Plain t 
 braceless-phase [] h = refl
 braceless-phase (b ∷ t) h = let p = and_parts _ _ h in ap (λ (x : Phase). phase x t) (stays_plain b p.0) ∙ braceless-phase t p.1
 
-pub braceless-asks : (side : Side) (t : List ℕ) → braceless t ≡ true → asks_from side Plain t ≡ None
+pub braceless-asks : (side : Speaker) (t : List ℕ) → braceless t ≡ true → asks_from side Plain t ≡ None
 braceless-asks side [] h = refl
 braceless-asks side (b ∷ t) h = let p = and_parts _ _ h in asks-step side Plain b t refl ∙ ap (λ (x : Phase). asks_from side x t) (stays_plain b p.0) ∙ braceless-asks side t p.1
 

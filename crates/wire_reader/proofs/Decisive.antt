@@ -2,7 +2,7 @@
 use Rattle.std.proofs.Common.{◌≡◌, ℕ, zero, suc, ◌+◌, ◌-◌, ◌≤◌, Bool, cond, eqb, List, [], ◌∷◌, length, take, Option, Some, None, Result, Ok, Err, sym, ap, subst, ◌∙◌, inl, inr, arith}
 use Rattle.std.specs.Borrow.{Bor}
 use Rattle.std.proofs.lemmas.Bool.{cases_Bool}
-use Rattle.wire_reader.specs.declared.side.Side.{Side}
+use Rattle.wire_reader.specs.declared.side.Speaker.{Speaker}
 use Rattle.wire_reader.specs.declared.stop.Stop.{Stop}
 use Rattle.wire_reader.specs.declared.stop.ReadError.{ReadError}
 use Rattle.wire_reader.specs.declared.lexical.Phase.{Phase}
@@ -54,7 +54,7 @@ limit_passed (Err NoMemory) xs end h = h
 
 -- ---- no byte that decides the answer is too many
 
-module _ {T A : Type 0} (side : Side) (view : T → A) (L : A → List ℕ → Type 0) (xs : List ℕ) where
+module _ {T A : Type 0} (side : Speaker) (view : T → A) (L : A → List ℕ → Type 0) (xs : List ℕ) where
   decided : (answer : Result (Read T) WireFault) → Unlimited side view L xs answer → limit_from Plain 65536 0 (decisive answer xs) ≡ None → Answers side view L xs answer
   decided (Ok (Whole value used)) a h = (a, limits.within (take used xs) Plain 65536 0 h)
   decided (Ok (WantsLiteral n)) a h = (a.0, limits.within xs Plain 65536 0 h, a.1)
@@ -71,7 +71,7 @@ module _ {T : Type 0} (answer : Result (Read T) WireFault) (xs : List ℕ) where
   pub end_within : (end : ℕ) → KeptOr answer xs (Err end) → end ≤ length xs
   end_within end h = end_le xs end (limit_passed answer xs end h)
 
-  module _ {A : Type 0} {side : Side} {k : Bool} {L : A → List ℕ → Type 0} {r : List ℕ → Result (A × List ℕ) Stop} (p : Part side k Closed L r) (view : T → A) where
+  module _ {A : Type 0} {side : Speaker} {k : Bool} {L : A → List ℕ → Type 0} {r : List ℕ → Result (A × List ℕ) Stop} (p : Part side k Closed L r) (view : T → A) where
     -- the limit is kept
     pub line_kept : (o : Result (T × Bor (List ℕ)) ReadError) (same : Result (Read T) WireFault) → GivesOr (λ x. (view x.0, x.1.now)) o (r xs) → answer ≡ answered (length xs) o → KeptOr answer xs (Ok same) → Answers side view L xs same
     line_kept o same g e h =

@@ -3,7 +3,7 @@
 use Rattle.std.proofs.Common.{◌≡◌, ℕ, suc, ◌≤◌, List, ◌++◌, length, take, drop, Result, Ok, Err, sym, ap, subst, ◌∙◌, append_assoc, inl, inr, arith}
 use Rattle.std.proofs.lemmas.Bool.{cases_lt}
 use Rattle.std.proofs.lemmas.List.{take-append-drop, take-take, take_all, length-take, length-drop, length-append}
-use Rattle.wire_reader.specs.declared.side.Side.{Side}
+use Rattle.wire_reader.specs.declared.side.Speaker.{Speaker}
 use Rattle.wire_reader.specs.declared.lexical.Phase.TheVariants.{Plain}
 use Rattle.wire_reader.specs.Lexical.{outside}
 use Rattle.wire_reader.specs.declared.answer.Read.{Read}
@@ -52,7 +52,7 @@ module _ {A : Type 0} {L : A → List ℕ → Type 0} (law : NoneBeginsAnother L
           (sym r.1, omega (arith, ap length r.0, le, length-drop used (take n xs), length-take n xs))
     ]
 
-  module _ {T : Type 0} (side : Side) (view : T → A) where
+  module _ {T : Type 0} (side : Speaker) (view : T → A) where
     takes_one : (value : A) (used : ℕ) → WholeAt L xs value used → outside (take used xs) ≤ 65536 → (o : Result (Read T) WireFault) → Answers side view L xs o → Takes view value used o
     takes_one value used w fits (Ok (Whole v n)) a = other value used w (view v) n a.0
     takes_one value used w fits (Ok (WantsLiteral n)) a = all_begin value used w a.0

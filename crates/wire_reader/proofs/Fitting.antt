@@ -4,7 +4,7 @@ use Rattle.std.proofs.lemmas.Bool.{cases_Bool, cases_lt, and_parts}
 use Rattle.std.specs.List.{sum_by}
 use Rattle.std.proofs.lemmas.List.{length-append}
 use Rattle.std.proofs.lemmas.List.Sums.{sum_by-cons}
-use Rattle.wire_reader.specs.declared.side.Side.{Side}
+use Rattle.wire_reader.specs.declared.side.Speaker.{Speaker}
 use Rattle.wire_reader.specs.declared.lexical.Phase.{Phase}
 use Rattle.wire_reader.specs.declared.lexical.Phase.TheVariants.{Plain, Brace, Close, Return, In}
 use Rattle.wire_reader.specs.Spelling.{◌⨾◌, Is, ItemsText}
@@ -107,7 +107,7 @@ octets_none zero plus [] h = omega arith
 octets_none zero plus (b ∷ t) h = absurd (omega (arith, h))
 octets_none (suc n) plus t h = ap (λ (p : Phase). outside_from p t) (feeds n plus) ∙ in-none n t (omega (arith, h))
 
-length_few : (side : Side) (p : ℕ × Bool) (t : List ℕ) → LengthText side p t → length t ≤ 9
+length_few : (side : Speaker) (p : ℕ × Bool) (t : List ℕ) → LengthText side p t → length t ≤ 9
 length_few side (n, true) t h =
     let most = h.most in
     let d = digits_few 4 n h.digits h.number (omega (arith, most)) (omega arith) in
@@ -123,7 +123,7 @@ two_few p q front back text e led =
     let same : outside_from (phase p front) back ≡ outside_from q back = ap (λ (x : Phase). outside_from x back) led in
     omega (arith, ap (outside_from p) e, outside-append p front back, same, outside-le p front)
 
-pub literal_few : (side : Side) (octets t : List ℕ) → Literal side octets t → outside t ≤ 12
+pub literal_few : (side : Speaker) (octets t : List ℕ) → Literal side octets t → outside t ≤ 12
 literal_few side octets t h =
     let m = h.second in
     let c = m.second in

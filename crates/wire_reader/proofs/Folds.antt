@@ -22,7 +22,7 @@ module _ {A B : Type 0} (sep : ℕ) (r : List ℕ → Result (A × List ℕ) Sto
 
   fold_is : (n : ℕ) (acc : List A) (xs : List ℕ) → fold_by sep r f n (fold f b acc) xs ≡ fold_all (items_by sep r n acc xs)
   fold_is zero acc xs = refl
-  fold_is (suc n) acc xs = behind (λ acc' cs. fold_is n acc' cs) (r xs)
+  fold_is (suc n) acc xs = following (λ acc' cs. fold_is n acc' cs) (r xs)
     where
       go : (acc' : List A) (v : B) (ys : List ℕ) → v ≡ fold f b acc' → ((cs : List ℕ) → fold_by sep r f n (fold f b acc') cs ≡ fold_all (items_by sep r n acc' cs)) → fold_on sep v (fold_by sep r f n v) ys ≡ fold_all (go_on sep acc' (items_by sep r n acc') ys)
       go acc' v [] e rec = refl
@@ -32,9 +32,9 @@ module _ {A B : Type 0} (sep : ℕ) (r : List ℕ → Result (A × List ℕ) Sto
             | inr s ↦ ap (at' n v c cs) s ∙ ap (λ (y : B). Ok (y, c ∷ cs)) e ∙ sym (ap (at n acc' c cs) s)
           ]
 
-      behind : ((acc' : List A) (cs : List ℕ) → fold_by sep r f n (fold f b acc') cs ≡ fold_all (items_by sep r n acc' cs)) → (o : Result (A × List ℕ) Stop) → (o >>= λ x. fold_on sep (f (fold f b acc) x.0) (fold_by sep r f n (f (fold f b acc) x.0)) x.1) ≡ fold_all (o >>= λ x. go_on sep (acc ++ x.0 ∷ []) (items_by sep r n (acc ++ x.0 ∷ [])) x.1)
-      behind rec (Err s) = refl
-      behind rec (Ok x) = go (acc ++ x.0 ∷ []) (f (fold f b acc) x.0) x.1 (sym (fold-append f b acc (x.0 ∷ []))) (rec (acc ++ x.0 ∷ []))
+      following : ((acc' : List A) (cs : List ℕ) → fold_by sep r f n (fold f b acc') cs ≡ fold_all (items_by sep r n acc' cs)) → (o : Result (A × List ℕ) Stop) → (o >>= λ x. fold_on sep (f (fold f b acc) x.0) (fold_by sep r f n (f (fold f b acc) x.0)) x.1) ≡ fold_all (o >>= λ x. go_on sep (acc ++ x.0 ∷ []) (items_by sep r n (acc ++ x.0 ∷ [])) x.1)
+      following rec (Err s) = refl
+      following rec (Ok x) = go (acc ++ x.0 ∷ []) (f (fold f b acc) x.0) x.1 (sym (fold-append f b acc (x.0 ∷ []))) (rec (acc ++ x.0 ∷ []))
 
   -- a fold as items are read is the fold of the items
   pub folded_is : (xs : List ℕ) → folded sep r f b xs ≡ mapped (fold f b) (items_at sep r) xs

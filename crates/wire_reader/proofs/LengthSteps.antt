@@ -1,8 +1,8 @@
 -- The steps over a literal's length, with what each says about the byte.
 use Rattle.std.proofs.Common.{◌≡◌, ℕ, ◌+◌, ◌*◌, ◌-◌, ◌≤◌, Bool, true, false, cond, eqb, leb, ltb, ◌&&◌, Option, Some, refl, ap, ◌∙◌, inl, inr, arith}
 use Rattle.std.proofs.lemmas.Bool.{cases_Bool, eqb-true, eqb-false, leb-true, leb-false, lt-ltb, le-ltb, and_parts}
-use Rattle.wire_reader.specs.declared.side.Side.{Side}
-use Rattle.wire_reader.specs.declared.side.Side.TheVariants.{Commands, Replies}
+use Rattle.wire_reader.specs.declared.side.Speaker.{Speaker}
+use Rattle.wire_reader.specs.declared.side.Speaker.TheVariants.{Commands, Replies}
 use Rattle.wire_reader.specs.declared.lexical.Phase.TheVariants.{Digits}
 use Rattle.wire_reader.specs.declared.stop.Kind.{Kind}
 use Rattle.wire_reader.specs.declared.stop.Kind.TheVariants.{Syntax, TooLong}
@@ -15,7 +15,7 @@ abbrev pub LengthStep : Type 0
 LengthStep = Step (Option (ℕ × Bool)) (ℕ × Bool)
 
 -- what a byte does after the number v
-pub data Stepped (side : Side) (v b : ℕ) : Type 0 where
+pub data Stepped (side : Speaker) (v b : ℕ) : Type 0 where
   Closes : b ≡ 125 → length_step side (Some (v, false)) b ≡ Take (v, false) → Stepped side v b
   Pluses : b ≡ 43 → MayPlus side true → v ≤ 4096 → length_step side (Some (v, false)) b ≡ On (Some (v, true)) → Stepped side v b
   Counts : is_digit b ≡ true → (v ≡ 0 → ⊥) → 10 * v + (b - 48) ≤ 16777238 → length_step side (Some (v, false)) b ≡ On (Some (10 * v + (b - 48), false)) → Stepped side v b
@@ -27,7 +27,7 @@ digit_is b h = let p = and_parts _ _ h in (leb-true 48 b p.0, leb-true b 57 p.1)
 abbrev kind_if : Bool → Kind
 kind_if t = cond t TooLong Syntax
 
-over_digit : (side : Side) (v b : ℕ) → eqb b 43 ≡ false → over_by side v b ≡ (is_digit b && ltb literal_limit (10 * v + (b - 48)))
+over_digit : (side : Speaker) (v b : ℕ) → eqb b 43 ≡ false → over_by side v b ≡ (is_digit b && ltb literal_limit (10 * v + (b - 48)))
 over_digit Commands v b e = ap (λ (t : Bool). cond t (ltb plus_limit v) (is_digit b && ltb literal_limit (10 * v + (b - 48)))) e
 over_digit Replies v b e = refl
 
@@ -40,17 +40,17 @@ at_zero v b t = cond t (Odd Syntax) (more_digits (10 * v + (b - 48)))
 abbrev at_digit : ℕ → ℕ → Bool → LengthStep
 at_digit v b t = cond t (cond (eqb v 0) (Odd Syntax) (more_digits (10 * v + (b - 48)))) (Odd Syntax)
 
-abbrev at_plus : Side → ℕ → ℕ → Bool → LengthStep
+abbrev at_plus : Speaker → ℕ → ℕ → Bool → LengthStep
 at_plus side v b t = cond t (plus_step side v) (cond (is_digit b) (cond (eqb v 0) (Odd Syntax) (more_digits (10 * v + (b - 48)))) (Odd Syntax))
 
-abbrev at_close : Side → ℕ → ℕ → Bool → LengthStep
+abbrev at_close : Speaker → ℕ → ℕ → Bool → LengthStep
 at_close side v b t = cond t (Take (v, false)) (cond (eqb b 43) (plus_step side v) (cond (is_digit b) (cond (eqb v 0) (Odd Syntax) (more_digits (10 * v + (b - 48)))) (Odd Syntax)))
 
 abbrev at_small : ℕ → Bool → LengthStep
 at_small v t = cond t (On (Some (v, true))) (Odd TooLong)
 
 -- a byte that neither closes nor is a plus
-counted : (side : Side) (v b : ℕ) → eqb b 125 ≡ false → eqb b 43 ≡ false → Stepped side v b
+counted : (side : Speaker) (v b : ℕ) → eqb b 125 ≡ false → eqb b 43 ≡ false → Stepped side v b
 counted side v b c p =
     let there : length_step side (Some (v, false)) b ≡ at_digit v b (is_digit b) = ap (at_close side v b) c ∙ ap (at_plus side v b) p in
     elim (cases_Bool (is_digit b)) [
@@ -70,7 +70,7 @@ counted side v b c p =
           ]
     ]
 
-plus_by : (side : Side) (v b : ℕ) → eqb b 125 ≡ false → eqb b 43 ≡ true → Stepped side v b
+plus_by : (side : Speaker) (v b : ℕ) → eqb b 125 ≡ false → eqb b 43 ≡ true → Stepped side v b
 plus_by Commands v b c p =
     let there : length_step Commands (Some (v, false)) b ≡ at_small v (leb v plus_limit) = ap (at_close Commands v b) c ∙ ap (at_plus Commands v b) p in
     elim (cases_Bool (leb v plus_limit)) [
@@ -82,7 +82,7 @@ plus_by Replies v b c p =
     let no_digit : is_digit b ≡ false = ap is_digit (eqb-true b 43 p) in
     Refuses Syntax (ap kind_if (ap (λ (t : Bool). t && ltb literal_limit (10 * v + (b - 48))) no_digit)) there
 
-pub stepped : (side : Side) (v b : ℕ) → Stepped side v b
+pub stepped : (side : Speaker) (v b : ℕ) → Stepped side v b
 stepped side v b =
     elim (cases_Bool (eqb b 125)) [
       | inl c ↦ Closes (eqb-true b 125 c) (ap (at_close side v b) c)

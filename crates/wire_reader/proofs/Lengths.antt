@@ -2,8 +2,8 @@
 use Rattle.std.proofs.Common.{◌≡◌, ℕ, ◌+◌, ◌*◌, ◌-◌, ◌≤◌, Bool, true, false, cond, eqb, List, [], ◌∷◌, ◌++◌, length, Option, None, Some, refl, sym, ap, subst, ◌∙◌, inl, inr, zero-add, arith}
 use Rattle.std.specs.List.{list_all}
 use Rattle.std.proofs.lemmas.Bool.{cases_Bool, eqb-true, ne_eqb, le-leb, and_parts, and_from}
-use Rattle.wire_reader.specs.declared.side.Side.{Side}
-use Rattle.wire_reader.specs.declared.side.Side.TheVariants.{Commands, Replies}
+use Rattle.wire_reader.specs.declared.side.Speaker.{Speaker}
+use Rattle.wire_reader.specs.declared.side.Speaker.TheVariants.{Commands, Replies}
 use Rattle.wire_reader.specs.declared.stop.Kind.{Kind}
 use Rattle.wire_reader.specs.declared.stop.Kind.TheVariants.{Syntax, TooLong}
 use Rattle.wire_reader.specs.Spelling.{is_digit}
@@ -15,7 +15,7 @@ use Rattle.wire_reader.proofs.Parts.{same_reader}
 use Rattle.wire_reader.proofs.Scans.{scan_reader}
 use Rattle.wire_reader.proofs.LengthSteps.{LengthStep, Closes, Pluses, Counts, Refuses, stepped, digit_is}
 
-module _ (side : Side) where
+module _ (side : Speaker) where
   abbrev Text : Option (ℕ × Bool) → ℕ × Bool → List ℕ → Type 0
   Text s p t = ScanText (length_step side) s p t
 
@@ -72,7 +72,7 @@ module _ (side : Side) where
     | Refuses k o g ↦ absurd (odd_not_take k p (sym g ∙ h.0))
   ]
     where
-      no_plus : (s : Side) → MayPlus s false
+      no_plus : (s : Speaker) → MayPlus s false
       no_plus Commands = tt
       no_plus Replies = tt
   to_more (b ∷ bs) v p (inl h) le = elim (stepped side v b) [
@@ -124,7 +124,7 @@ module _ (side : Side) where
   plus_goes : (n : ℕ) → n ≤ plus_limit → MayPlus side true → length_step side (Some (n, false)) 43 ≡ On (Some (n, true))
   plus_goes n le may = by_side side may
     where
-      by_side : (s : Side) → MayPlus s true → length_step s (Some (n, false)) 43 ≡ On (Some (n, true))
+      by_side : (s : Speaker) → MayPlus s true → length_step s (Some (n, false)) 43 ≡ On (Some (n, true))
       by_side Commands m = ap (λ (t : Bool). let o : LengthStep = cond t (On (Some (n, true))) (Odd TooLong) in o) (le-leb n plus_limit le)
       by_side Replies m = absurd m
 

@@ -2,7 +2,7 @@
 use Rattle.std.proofs.Common.{◌≡◌, ℕ, ◌≤◌, true, false, eqb, List, [], ◌∷◌, ◌++◌, length, Option, None, Result, Ok, Err, refl, sym, ap, ◌∙◌, append_assoc, inl, inr, arith}
 use Rattle.std.proofs.lemmas.Bool.{false≢true}
 use Rattle.std.proofs.lemmas.List.{append-nil, length-append}
-use Rattle.wire_reader.specs.declared.side.Side.{Side}
+use Rattle.wire_reader.specs.declared.side.Speaker.{Speaker}
 use Rattle.wire_reader.specs.declared.lexical.Phase.{Phase}
 use Rattle.wire_reader.specs.declared.stop.Kind.{Kind}
 use Rattle.wire_reader.specs.declared.stop.Stop.{Stop}
@@ -17,7 +17,7 @@ use Rattle.wire_reader.proofs.Lexed.{Lexed, Leads, kind_at, phase-append, asks-a
 pub two-phases : (p q : Phase) (front back : List ℕ) → phase p front ≡ q → phase p (front ++ back) ≡ phase q back
 two-phases p q front back h = phase-append p front back ∙ ap (λ (x : Phase). phase x back) h
 
-pub two-quiet : (side : Side) (p q : Phase) (front back : List ℕ) → phase p front ≡ q → asks_from side q back ≡ None → (back ≡ [] → ⊥) → asks_from side p (front ++ back) ≡ None
+pub two-quiet : (side : Speaker) (p q : Phase) (front back : List ℕ) → phase p front ≡ q → asks_from side q back ≡ None → (back ≡ [] → ⊥) → asks_from side p (front ++ back) ≡ None
 two-quiet side p q front [] h none some = absurd (some refl)
 two-quiet side p q front (c ∷ cs) h none some = asks-append side p front c cs ∙ ap (λ (x : Phase). asks_from side x (c ∷ cs)) h ∙ none
 
@@ -41,16 +41,16 @@ stops_on (Open g) (c ∷ cs) ys h = h
 
 -- ---- one after the other
 
-module _ {A B : Type 0} {side : Side} {e d : Ender} {p : Phase} {q : A → Phase} {L : A → List ℕ → Type 0} {M : A → B → List ℕ → Type 0} {r : List ℕ → Result (A × List ℕ) Stop} {f : A → List ℕ → Result (B × List ℕ) Stop} (first : Reader e L r) (x : Lexed side p r) (l : Leads side e p L q) (second : (a : A) → Reader d (M a) (f a)) (y : (a : A) → Lexed side (q a) (f a)) where
-  behind : (a : A) (text mid : List ℕ) (w : Option ℕ) → L a text → stops e mid ≡ true → f a mid ≡ Err (Ends w) → asks_from side p (text ++ mid) ≡ w
-  behind a text [] w t s h = ap (asks_from side p) (append-nil text) ∙ l.quiet a text t s ∙ (y a).asks [] w h
-  behind a text (c ∷ cs) w t s h = asks-append side p text c cs ∙ ap (λ (ph : Phase). asks_from side ph (c ∷ cs)) (l.after a text t) ∙ (y a).asks (c ∷ cs) w h
+module _ {A B : Type 0} {side : Speaker} {e d : Ender} {p : Phase} {q : A → Phase} {L : A → List ℕ → Type 0} {M : A → B → List ℕ → Type 0} {r : List ℕ → Result (A × List ℕ) Stop} {f : A → List ℕ → Result (B × List ℕ) Stop} (first : Reader e L r) (x : Lexed side p r) (l : Leads side e p L q) (second : (a : A) → Reader d (M a) (f a)) (y : (a : A) → Lexed side (q a) (f a)) where
+  following : (a : A) (text mid : List ℕ) (w : Option ℕ) → L a text → stops e mid ≡ true → f a mid ≡ Err (Ends w) → asks_from side p (text ++ mid) ≡ w
+  following a text [] w t s h = ap (asks_from side p) (append-nil text) ∙ l.quiet a text t s ∙ (y a).asks [] w h
+  following a text (c ∷ cs) w t s h = asks-append side p text c cs ∙ ap (λ (ph : Phase). asks_from side ph (c ∷ cs)) (l.after a text t) ∙ (y a).asks (c ∷ cs) w h
 
   seq_asks : (xs : List ℕ) (w : Option ℕ) → seq r f xs ≡ Err (Ends w) → asks_from side p xs ≡ w
   seq_asks xs w h =
       elim (bind_err (r xs) (λ x. f x.0 x.1) (Ends w) h) [
         | inl one ↦ x.asks xs w one
-        | inr m ↦ let t = first.sound xs m.0.0 m.0.1 m.1 in ap (asks_from side p) t.parts ∙ behind m.0.0 t.text m.0.1 w t.spelled t.stop m.2
+        | inr m ↦ let t = first.sound xs m.0.0 m.0.1 m.1 in ap (asks_from side p) t.parts ∙ following m.0.0 t.text m.0.1 w t.spelled t.stop m.2
       ]
 
   seq_kind : (xs : List ℕ) (k : Kind) (n : ℕ) → seq r f xs ≡ Err (Fails k n) → kind_at side p n xs ≡ k
@@ -91,7 +91,7 @@ mapped_stop f r xs s h =
       | inr x ↦ absurd (let wrong = x.2 in cc)
     ]
 
-pub mapped_lexed : {A B : Type 0} {side : Side} {p : Phase} {r : List ℕ → Result (A × List ℕ) Stop} (f : A → B) → Lexed side p r → Lexed side p (mapped f r)
+pub mapped_lexed : {A B : Type 0} {side : Speaker} {p : Phase} {r : List ℕ → Result (A × List ℕ) Stop} (f : A → B) → Lexed side p r → Lexed side p (mapped f r)
 mapped_lexed {A} {r} f x = record {
   asks = λ xs w h. x.asks xs w (mapped_stop f r xs (Ends w) h);
   kind = λ xs k n h. x.kind xs k n (mapped_stop f r xs (Fails k n) h);

@@ -1,7 +1,7 @@
 -- For a reader of whole lines that is a part of a grammar: its answer, within the limit, says what it has to say.
 use Rattle.std.proofs.Common.{◌≡◌, ℕ, Bool, List, take, Some, Result, sym, subst, ◌∙◌, ap}
 use Rattle.std.specs.Borrow.{Bor}
-use Rattle.wire_reader.specs.declared.side.Side.{Side}
+use Rattle.wire_reader.specs.declared.side.Speaker.{Speaker}
 use Rattle.wire_reader.specs.declared.stop.Stop.{Stop}
 use Rattle.wire_reader.specs.declared.stop.ReadError.{ReadError}
 use Rattle.wire_reader.specs.declared.lexical.Phase.TheVariants.{Plain}
@@ -16,7 +16,7 @@ use Rattle.wire_reader.proofs.Top.{none_begins}
 use Rattle.wire_reader.proofs.Answering.{answers_within}
 use Rattle.wire_reader.proofs.Exactly.{takes, waits_for_more}
 
-module _ {A : Type 0} {side : Side} {k : Bool} {L : A → List ℕ → Type 0} {r : List ℕ → Result (A × List ℕ) Stop} (p : Part side k Closed L r) where
+module _ {A : Type 0} {side : Speaker} {k : Bool} {L : A → List ℕ → Type 0} {r : List ℕ → Result (A × List ℕ) Stop} (p : Part side k Closed L r) where
   -- no spelling begins another
   pub line_law : NoneBeginsAnother L
   line_law = none_begins p.reader

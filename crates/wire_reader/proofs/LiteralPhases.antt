@@ -2,8 +2,8 @@
 use Rattle.std.proofs.Common.{◌≡◌, ℕ, zero, suc, ◌+◌, ◌*◌, ◌-◌, ◌<◌, ◌≤◌, Bool, true, false, cond, eqb, not, List, [], ◌∷◌, ◌++◌, length, Option, None, Some, Result, Ok, Err, refl, sym, ap, subst, ◌∙◌, inl, inr, arith}
 use Rattle.std.proofs.lemmas.Bool.{cases_Bool, false≢true, eqb-true, ne_eqb, le-leb, lt-leb}
 use Rattle.std.proofs.lemmas.List.{length-append}
-use Rattle.wire_reader.specs.declared.side.Side.{Side}
-use Rattle.wire_reader.specs.declared.side.Side.TheVariants.{Commands, Replies}
+use Rattle.wire_reader.specs.declared.side.Speaker.{Speaker}
+use Rattle.wire_reader.specs.declared.side.Speaker.TheVariants.{Commands, Replies}
 use Rattle.wire_reader.specs.declared.lexical.Phase.{Phase}
 use Rattle.wire_reader.specs.declared.lexical.Phase.TheVariants.{Plain, Brace, Digits, Plus, Close, Return, In}
 use Rattle.wire_reader.specs.declared.stop.Kind.{Kind}
@@ -34,7 +34,7 @@ Stands None p = p ≡ Brace
 Stands (Some (n, true)) p = p ≡ Plus n
 Stands (Some (n, false)) p = (p ≡ Digits n) × (n ≤ 16777238)
 
-module _ (side : Side) where
+module _ (side : Speaker) where
   abbrev at_first : ℕ → Bool → LengthStep
   at_first b t = cond t (On (Some (b - 48, false))) (Odd Syntax)
 
@@ -145,7 +145,7 @@ pub in-step : (n b : ℕ) → next (In (suc (suc n))) b ≡ In (suc n)
 in-step n b = ap (λ (t : Bool). cond t Plain (In (suc (suc n) - 1))) (lt-leb (suc (suc n)) 1 (omega arith)) ∙ ap (λ (k : ℕ). In k) (let e : suc (suc n) - 1 ≡ suc n = omega arith in e)
 
 -- among the octets nobody waits
-in-asks : (side : Side) (n : ℕ) (xs : List ℕ) → length xs ≤ suc n → asks_from side (In (suc n)) xs ≡ None
+in-asks : (side : Speaker) (n : ℕ) (xs : List ℕ) → length xs ≤ suc n → asks_from side (In (suc n)) xs ≡ None
 in-asks side n [] le = refl
 in-asks side zero (b ∷ []) le = refl
 in-asks side zero (b ∷ c ∷ bs) le = absurd (omega (arith, le))
@@ -196,7 +196,7 @@ octets_left (suc n) (b ∷ bs) k m h =
       | inr e ↦ let r = octets_left n bs k m (with_err b (octets_at n bs) (Fails k m) (sym (ap (octet_case n b bs) e) ∙ h)) in omega (arith, r)
     ]
 
-octets_kind : (side : Side) (n : ℕ) (xs : List ℕ) (k : Kind) (m : ℕ) → octets_at (suc n) xs ≡ Err (Fails k m) → kind_at side (In (suc n)) m xs ≡ k
+octets_kind : (side : Speaker) (n : ℕ) (xs : List ℕ) (k : Kind) (m : ℕ) → octets_at (suc n) xs ≡ Err (Fails k m) → kind_at side (In (suc n)) m xs ≡ k
 octets_kind side n [] k m h = absurd cc
 octets_kind side n (b ∷ bs) k m h =
     elim (cases_Bool (eqb b 0)) [
@@ -220,23 +220,23 @@ octets_kind side n (b ∷ bs) k m h =
 pub feeds : (n : ℕ) (plus : Bool) → next (Return (suc n) plus) 10 ≡ In (suc n)
 feeds n plus = ap (λ (t : Bool). cond (not t) (In (suc n)) Plain) (ne_eqb (suc n) 0 (λ e. omega (arith, e)))
 
-asked_here : (side : Side) (n : ℕ) (plus : Bool) → asked side (Return n plus) 10 ≡ waits_for side (n, plus)
+asked_here : (side : Speaker) (n : ℕ) (plus : Bool) → asked side (Return n plus) 10 ≡ waits_for side (n, plus)
 asked_here Commands n true = refl
 asked_here Commands n false = refl
 asked_here Replies n true = refl
 asked_here Replies n false = refl
 
-module _ (side : Side) (n : ℕ) (plus : Bool) where
+module _ (side : Speaker) (n : ℕ) (plus : Bool) where
   abbrev w : Option ℕ
   w = waits_for side (n, plus)
 
-  abbrev behind_cr : List ℕ → Result (List ℕ × List ℕ) Stop
-  behind_cr = skip (byte_at 10) (wait_at w n)
+  abbrev after_cr : List ℕ → Result (List ℕ × List ℕ) Stop
+  after_cr = skip (byte_at 10) (wait_at w n)
 
   abbrev feed_case : ℕ → List ℕ → Bool → Result (List ℕ × List ℕ) Stop
   feed_case b bs t = (let o : Result (Unit {0} × List ℕ) Stop = cond t (Ok (tt, bs)) (stuck (b ∷ bs)) in o) >>= λ x. wait_at w n x.1
 
-  feed_asks : (xs : List ℕ) (v : Option ℕ) → behind_cr xs ≡ Err (Ends v) → asks_from side (Return n plus) xs ≡ v
+  feed_asks : (xs : List ℕ) (v : Option ℕ) → after_cr xs ≡ Err (Ends v) → asks_from side (Return n plus) xs ≡ v
   feed_asks [] v h = cc
   feed_asks (b ∷ bs) v h =
       elim (cases_Bool (eqb b 10)) [
@@ -261,7 +261,7 @@ module _ (side : Side) (n : ℕ) (plus : Bool) where
       waiting [] g = asked_here side n plus ∙ (let x : w ≡ v = cc in x)
       waiting (c ∷ cs) g = among n c cs w g
 
-  feed_kind : (xs : List ℕ) (k : Kind) (m : ℕ) → behind_cr xs ≡ Err (Fails k m) → kind_at side (Return n plus) m xs ≡ k
+  feed_kind : (xs : List ℕ) (k : Kind) (m : ℕ) → after_cr xs ≡ Err (Fails k m) → kind_at side (Return n plus) m xs ≡ k
   feed_kind [] k m h = absurd cc
   feed_kind (b ∷ bs) k m h =
       elim (cases_Bool (eqb b 10)) [
@@ -286,7 +286,7 @@ module _ (side : Side) (n : ℕ) (plus : Bool) where
       waiting [] g = absurd cc
       waiting (c ∷ cs) g = among n c cs w g
 
-  feed_octets : (xs : List ℕ) (v : Option ℕ) (c : ℕ) → behind_cr xs ≡ Err (Ends v) → is_in (phase (Return n plus) xs) ≡ true → eqb c 0 ≡ false → (u : Option ℕ) × (behind_cr (xs ++ c ∷ []) ≡ Err (Ends u))
+  feed_octets : (xs : List ℕ) (v : Option ℕ) (c : ℕ) → after_cr xs ≡ Err (Ends v) → is_in (phase (Return n plus) xs) ≡ true → eqb c 0 ≡ false → (u : Option ℕ) × (after_cr (xs ++ c ∷ []) ≡ Err (Ends u))
   feed_octets [] v c h i z = absurd (false≢true i)
   feed_octets (b ∷ bs) v c h i z =
       elim (cases_Bool (eqb b 10)) [
@@ -320,10 +320,10 @@ module _ (side : Side) (n : ℕ) (plus : Bool) where
       waiting [] g j = first n w (none_in n j)
       waiting (d ∷ ds) g j = among n d ds w g j
 
-  feed_lexed : Lexed side (Return n plus) behind_cr
+  feed_lexed : Lexed side (Return n plus) after_cr
   feed_lexed = record { asks = feed_asks; kind = feed_kind; octets = feed_octets }
 
-  feed_reader : Reader waits (λ o. Is (10 ∷ []) ⨾ Octets n o) behind_cr
+  feed_reader : Reader waits (λ o. Is (10 ∷ []) ⨾ Octets n o) after_cr
   feed_reader = skip_reader (byte_reader 10) (wait_reader w n) (after_closed (wait_at w n))
 
   cr_leads : Leads {A = Unit {0}} side Closed (Close n plus) (λ _ t. Is (13 ∷ []) t) (λ _. Return n plus)
@@ -333,7 +333,7 @@ module _ (side : Side) (n : ℕ) (plus : Bool) where
   of_lexed = seq_lexed {M = λ _ o. Is (10 ∷ []) ⨾ Octets n o} (byte_reader 13) (byte_lexed side (Close n plus) 13 (λ _. refl) refl) cr_leads (λ _. feed_reader) (λ _. feed_lexed)
 
   pub of_reader : Reader waits (λ o. Is (13 ∷ []) ⨾ Is (10 ∷ []) ⨾ Octets n o) (octets_of side (n, plus))
-  of_reader = skip_reader (byte_reader 13) feed_reader (after_closed behind_cr)
+  of_reader = skip_reader (byte_reader 13) feed_reader (after_closed after_cr)
 
 -- ---- the literal
 
@@ -342,15 +342,15 @@ octets-after zero plus [] h = refl
 octets-after zero plus (b ∷ t) h = absurd (omega (arith, h))
 octets-after (suc n) plus t h = ap (λ (p : Phase). phase p t) (feeds n plus) ∙ in-phase n t h
 
-module _ (side : Side) where
-  abbrev pub Behind : ℕ × Bool → List ℕ → List ℕ → Type 0
-  Behind p o = Is (13 ∷ []) ⨾ Is (10 ∷ []) ⨾ Octets p.0 o
+module _ (side : Speaker) where
+  abbrev pub Following : ℕ × Bool → List ℕ → List ℕ → Type 0
+  Following p o = Is (13 ∷ []) ⨾ Is (10 ∷ []) ⨾ Octets p.0 o
 
-  measured_reader : Reader waits (ThenBy (LengthText side) Behind) (seq (length_at side) (octets_of side))
+  measured_reader : Reader waits (ThenBy (LengthText side) Following) (seq (length_at side) (octets_of side))
   measured_reader = seq_reader (length_reader side) (λ p. of_reader side p.0 p.1) (λ p. after_closed (octets_of side p))
 
   measured_lexed : Lexed side Brace (seq (length_at side) (octets_of side))
-  measured_lexed = seq_lexed {M = Behind} (length_reader side) (length_lexed side) (length_leads side) (λ p. of_reader side p.0 p.1) (λ p. of_lexed side p.0 p.1)
+  measured_lexed = seq_lexed {M = Following} (length_reader side) (length_lexed side) (length_leads side) (λ p. of_reader side p.0 p.1) (λ p. of_lexed side p.0 p.1)
 
   pub brace_leads : Leads {A = Unit {0}} side Closed Plain (λ _ t. Is (123 ∷ []) t) (λ _. Brace)
   brace_leads = record { after = λ _ t h. ap (phase Plain) h; quiet = λ _ t h s. ap (asks_from side Plain) h }
@@ -370,6 +370,6 @@ module _ (side : Side) where
   pub literal_part : Part side true waits (Literal side) (literal_at side)
   literal_part = record {
     reader = skip_reader (byte_reader 123) measured_reader (after_closed (seq (length_at side) (octets_of side)));
-    lexed = seq_lexed {M = λ _. ThenBy (LengthText side) Behind} (byte_reader 123) (byte_lexed side Plain 123 (λ _. refl) refl) brace_leads (λ _. measured_reader) (λ _. measured_lexed);
+    lexed = seq_lexed {M = λ _. ThenBy (LengthText side) Following} (byte_reader 123) (byte_lexed side Plain 123 (λ _. refl) refl) brace_leads (λ _. measured_reader) (λ _. measured_lexed);
     leads = λ _. record { after = literal_after; quiet = λ a t h s. absurd (false≢true s) };
   }

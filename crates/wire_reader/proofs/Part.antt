@@ -2,7 +2,7 @@
 -- a part whose texts lead back to where no literal is under way (`true`) may stand before others, and any may stand last.
 use Rattle.std.proofs.Common.{◌≡◌, ℕ, Bool, true, false, cond, eqb, List, [], ◌∷◌, ◌++◌, length, Option, Result, Ok, Err, refl, sym, ap, ◌∙◌, inl, inr, ◌⊎◌}
 use Rattle.std.proofs.lemmas.Bool.{cases_Bool, false≢true}
-use Rattle.wire_reader.specs.declared.side.Side.{Side}
+use Rattle.wire_reader.specs.declared.side.Speaker.{Speaker}
 use Rattle.wire_reader.specs.declared.lexical.Phase.{Phase}
 use Rattle.wire_reader.specs.declared.lexical.Phase.TheVariants.{Plain, Brace}
 use Rattle.wire_reader.specs.declared.stop.Kind.{Kind}
@@ -18,18 +18,18 @@ use Rattle.wire_reader.proofs.First.{Begins, as_reader, first_reader}
 use Rattle.wire_reader.proofs.Lexed.{Lexed, Leads, kind_at, dry, kind-first}
 use Rattle.wire_reader.proofs.LexedSeq.{two-phases, two-quiet, some_byte, seq_lexed, mapped_lexed}
 
-pub record Part {A : Type 0} (side : Side) (back : Bool) (e : Ender) (L : A → List ℕ → Type 0) (r : List ℕ → Result (A × List ℕ) Stop) : Type 0 where
+pub record Part {A : Type 0} (side : Speaker) (back : Bool) (e : Ender) (L : A → List ℕ → Type 0) (r : List ℕ → Result (A × List ℕ) Stop) : Type 0 where
   pub reader : Reader e L r
   pub lexed : Lexed side Plain r
   pub leads : back ≡ true → Leads side e Plain L (λ _. Plain)
 
 -- a part that may stand anywhere may stand last
-pub last_part : {A : Type 0} {side : Side} {back : Bool} {e : Ender} {L : A → List ℕ → Type 0} {r : List ℕ → Result (A × List ℕ) Stop} → Part side back e L r → Part side false e L r
+pub last_part : {A : Type 0} {side : Speaker} {back : Bool} {e : Ender} {L : A → List ℕ → Type 0} {r : List ℕ → Result (A × List ℕ) Stop} → Part side back e L r → Part side false e L r
 last_part p = record { reader = p.reader; lexed = p.lexed; leads = λ h. absurd (false≢true h) }
 
 -- ---- the same language or function, said otherwise
 
-module _ {A : Type 0} {side : Side} {k : Bool} {e : Ender} {L M : A → List ℕ → Type 0} {r : List ℕ → Result (A × List ℕ) Stop} (to : (a : A) (t : List ℕ) → L a t → M a t) (from : (a : A) (t : List ℕ) → M a t → L a t) (p : Part side k e L r) where
+module _ {A : Type 0} {side : Speaker} {k : Bool} {e : Ender} {L M : A → List ℕ → Type 0} {r : List ℕ → Result (A × List ℕ) Stop} (to : (a : A) (t : List ℕ) → L a t → M a t) (from : (a : A) (t : List ℕ) → M a t → L a t) (p : Part side k e L r) where
   pub same_part : Part side k e M r
   same_part = record {
     reader = same_reader to from p.reader;
@@ -37,7 +37,7 @@ module _ {A : Type 0} {side : Side} {k : Bool} {e : Ender} {L M : A → List ℕ
     leads = λ b. let l = p.leads b in record { after = λ a t h. l.after a t (from a t h); quiet = λ a t h s. l.quiet a t (from a t h) s };
   }
 
-module _ {A : Type 0} {side : Side} {k : Bool} {e : Ender} {L : A → List ℕ → Type 0} {r s : List ℕ → Result (A × List ℕ) Stop} (same : (xs : List ℕ) → s xs ≡ r xs) (p : Part side k e L r) where
+module _ {A : Type 0} {side : Speaker} {k : Bool} {e : Ender} {L : A → List ℕ → Type 0} {r s : List ℕ → Result (A × List ℕ) Stop} (same : (xs : List ℕ) → s xs ≡ r xs) (p : Part side k e L r) where
   pub as_part : Part side k e L s
   as_part = record {
     reader = as_reader same p.reader;
@@ -47,7 +47,7 @@ module _ {A : Type 0} {side : Side} {k : Bool} {e : Ender} {L : A → List ℕ �
 
 -- ---- a value under a function
 
-module _ {A B : Type 0} {side : Side} {k : Bool} {e : Ender} {L : A → List ℕ → Type 0} {M : B → List ℕ → Type 0} {r : List ℕ → Result (A × List ℕ) Stop} (f : A → B) (to : (a : A) (t : List ℕ) → L a t → M (f a) t) (from : (b : B) (t : List ℕ) → M b t → (a : A) × (b ≡ f a) × L a t) (p : Part side k e L r) where
+module _ {A B : Type 0} {side : Speaker} {k : Bool} {e : Ender} {L : A → List ℕ → Type 0} {M : B → List ℕ → Type 0} {r : List ℕ → Result (A × List ℕ) Stop} (f : A → B) (to : (a : A) (t : List ℕ) → L a t → M (f a) t) (from : (b : B) (t : List ℕ) → M b t → (a : A) × (b ≡ f a) × L a t) (p : Part side k e L r) where
   pub mapped_part : Part side k e M (mapped f r)
   mapped_part = record {
     reader = mapped_reader f to from p.reader;
@@ -57,7 +57,7 @@ module _ {A B : Type 0} {side : Side} {k : Bool} {e : Ender} {L : A → List ℕ
 
 -- ---- one after the other
 
-module _ {A B : Type 0} {side : Side} {k : Bool} {e d : Ender} {L : A → List ℕ → Type 0} {M : A → B → List ℕ → Type 0} {r : List ℕ → Result (A × List ℕ) Stop} {f : A → List ℕ → Result (B × List ℕ) Stop} (p : Part side true e L r) (q : (a : A) → Part side k d (M a) (f a)) (follows : (a : A) (xs : List ℕ) → stops e xs ≡ false → f a xs ≡ stuck xs) where
+module _ {A B : Type 0} {side : Speaker} {k : Bool} {e d : Ender} {L : A → List ℕ → Type 0} {M : A → B → List ℕ → Type 0} {r : List ℕ → Result (A × List ℕ) Stop} {f : A → List ℕ → Result (B × List ℕ) Stop} (p : Part side true e L r) (q : (a : A) → Part side k d (M a) (f a)) (follows : (a : A) (xs : List ℕ) → stops e xs ≡ false → f a xs ≡ stuck xs) where
   seq_leads : k ≡ true → Leads side d Plain (ThenBy L M) (λ _. Plain)
   seq_leads b =
       let l = p.leads refl in
@@ -73,14 +73,14 @@ module _ {A B : Type 0} {side : Side} {k : Bool} {e d : Ender} {L : A → List �
     leads = seq_leads;
   }
 
-module _ {A : Type 0} {side : Side} {k : Bool} {e d : Ender} {P : List ℕ → Type 0} {L : A → List ℕ → Type 0} {r : List ℕ → Result (Unit {0} × List ℕ) Stop} {s : List ℕ → Result (A × List ℕ) Stop} (p : Part side true e (λ _ t. P t) r) (q : Part side k d L s) (follows : (xs : List ℕ) → stops e xs ≡ false → s xs ≡ stuck xs) where
+module _ {A : Type 0} {side : Speaker} {k : Bool} {e d : Ender} {P : List ℕ → Type 0} {L : A → List ℕ → Type 0} {r : List ℕ → Result (Unit {0} × List ℕ) Stop} {s : List ℕ → Result (A × List ℕ) Stop} (p : Part side true e (λ _ t. P t) r) (q : Part side k d L s) (follows : (xs : List ℕ) → stops e xs ≡ false → s xs ≡ stuck xs) where
   pub skip_part : Part side k d (λ a. P ⨾ L a) (skip r s)
   skip_part = same_part
       (λ a t h. record { front = h.front; back = h.back; parts = h.parts; first = h.first; second = h.second })
       (λ a t h. record { value = tt; front = h.front; back = h.back; parts = h.parts; first = h.first; second = h.second })
       (seq_part p (λ _. q) (λ _. follows))
 
-module _ {A B : Type 0} {side : Side} {k : Bool} {e d : Ender} {L : A → List ℕ → Type 0} {M : B → List ℕ → Type 0} {r : List ℕ → Result (A × List ℕ) Stop} {s : List ℕ → Result (B × List ℕ) Stop} (p : Part side true e L r) (q : Part side k d M s) (follows : (xs : List ℕ) → stops e xs ≡ false → s xs ≡ stuck xs) where
+module _ {A B : Type 0} {side : Speaker} {k : Bool} {e d : Ender} {L : A → List ℕ → Type 0} {M : B → List ℕ → Type 0} {r : List ℕ → Result (A × List ℕ) Stop} {s : List ℕ → Result (B × List ℕ) Stop} (p : Part side true e L r) (q : Part side k d M s) (follows : (xs : List ℕ) → stops e xs ≡ false → s xs ≡ stuck xs) where
   pub both_part : Part side k d (λ v. L v.0 ⨾ M v.1) (both r s)
   both_part = record {
     reader = both_reader p.reader q.reader follows;
@@ -93,7 +93,7 @@ module _ {A B : Type 0} {side : Side} {k : Bool} {e d : Ender} {L : A → List �
     };
   }
 
-module _ {A : Type 0} {side : Side} {k : Bool} {e d : Ender} {L : A → List ℕ → Type 0} {Q : List ℕ → Type 0} {r : List ℕ → Result (A × List ℕ) Stop} {s : List ℕ → Result (Unit {0} × List ℕ) Stop} (p : Part side true e L r) (q : Part side k d (λ _ t. Q t) s) (follows : (xs : List ℕ) → stops e xs ≡ false → s xs ≡ stuck xs) where
+module _ {A : Type 0} {side : Speaker} {k : Bool} {e d : Ender} {L : A → List ℕ → Type 0} {Q : List ℕ → Type 0} {r : List ℕ → Result (A × List ℕ) Stop} {s : List ℕ → Result (Unit {0} × List ℕ) Stop} (p : Part side true e L r) (q : Part side k d (λ _ t. Q t) s) (follows : (xs : List ℕ) → stops e xs ≡ false → s xs ≡ stuck xs) where
   pub keep_part : Part side k d (λ a. L a ⨾ Q) (keep r s)
   keep_part = record {
     reader = keep_reader p.reader q.reader follows;
@@ -108,7 +108,7 @@ module _ {A : Type 0} {side : Side} {k : Bool} {e d : Ender} {L : A → List ℕ
 
 -- ---- one of two, by the first byte
 
-module _ {A : Type 0} {side : Side} {k : Bool} {e : Ender} {L M : A → List ℕ → Type 0} {r s : List ℕ → Result (A × List ℕ) Stop} (test : ℕ → Bool) (p : Part side k e L r) (q : Part side k e M s) (first : (a : A) (t : List ℕ) → L a t → Begins true test t) (second : (a : A) (t : List ℕ) → M a t → Begins false test t) where
+module _ {A : Type 0} {side : Speaker} {k : Bool} {e : Ender} {L M : A → List ℕ → Type 0} {r s : List ℕ → Result (A × List ℕ) Stop} (test : ℕ → Bool) (p : Part side k e L r) (q : Part side k e M s) (first : (a : A) (t : List ℕ) → L a t → Begins true test t) (second : (a : A) (t : List ℕ) → M a t → Begins false test t) where
   abbrev at : List ℕ → Bool → Result (A × List ℕ) Stop
   at xs t = cond t (r xs) (s xs)
 
@@ -152,7 +152,7 @@ abbrev byte_case : ℕ → ℕ → List ℕ → Bool → Result (Unit {0} × Lis
 byte_case c b bs t = cond t (Ok (tt, bs)) (stuck (b ∷ bs))
 
 -- from a phase in which no number stands and no octets are to come
-pub byte_lexed : (side : Side) (p : Phase) (c : ℕ) → ((b : ℕ) → kind_of side p b ≡ Syntax) → is_in p ≡ false → Lexed side p (byte_at c)
+pub byte_lexed : (side : Speaker) (p : Phase) (c : ℕ) → ((b : ℕ) → kind_of side p b ≡ Syntax) → is_in p ≡ false → Lexed side p (byte_at c)
 byte_lexed side p c calm out = record { asks = byte_asks; kind = byte_kind; octets = dry p (byte_at c) byte_out }
   where
     byte_out : (xs : List ℕ) (w : Option ℕ) → byte_at c xs ≡ Err (Ends w) → is_in (phase p xs) ≡ false
@@ -184,7 +184,7 @@ byte_lexed side p c calm out = record { asks = byte_asks; kind = byte_kind; octe
         ]
 
 -- a byte that begins no literal
-pub byte_part : {side : Side} (c : ℕ) → eqb c 123 ≡ false → Part side true Closed (λ _ t. Is (c ∷ []) t) (byte_at c)
+pub byte_part : {side : Speaker} (c : ℕ) → eqb c 123 ≡ false → Part side true Closed (λ _ t. Is (c ∷ []) t) (byte_at c)
 byte_part {side} c plain = record {
   reader = byte_reader c;
   lexed = byte_lexed side Plain c (λ b. refl) refl;
@@ -194,7 +194,7 @@ byte_part {side} c plain = record {
   };
 }
 
-pub crlf_part : {side : Side} → Part side true Closed (λ _ t. Is crlf t) crlf_at
+pub crlf_part : {side : Speaker} → Part side true Closed (λ _ t. Is crlf t) crlf_at
 crlf_part {side} = same_part
     (λ _ t h. h.parts ∙ ap (λ (x : List ℕ). x ++ h.back) h.first ∙ ap (λ (x : List ℕ). 13 ∷ x) h.second)
     (λ _ t h. record { front = 13 ∷ []; back = 10 ∷ []; parts = h; first = refl; second = refl })

@@ -3,7 +3,7 @@
 use Rattle.std.proofs.Common.{◌≡◌, ℕ, Bool, true, false, not, cond, eqb, ◌||◌, List, [], ◌∷◌, ◌++◌, length, Option, None, Result, Ok, Err, refl, sym, ap, subst, ◌∙◌, inl, inr, ◌⊎◌, arith}
 use Rattle.std.proofs.lemmas.Bool.{cases_Bool, false≢true, not-true, or_parts, or_from}
 use Rattle.std.proofs.lemmas.List.{append-nil}
-use Rattle.wire_reader.specs.declared.side.Side.{Side}
+use Rattle.wire_reader.specs.declared.side.Speaker.{Speaker}
 use Rattle.wire_reader.specs.declared.lexical.Phase.{Phase}
 use Rattle.wire_reader.specs.declared.lexical.Phase.TheVariants.{Plain}
 use Rattle.wire_reader.specs.declared.stop.Kind.{Kind}
@@ -136,7 +136,7 @@ module _ {A : Type 0} {e : Ender} {L : A → List ℕ → Type 0} {r : List ℕ 
     bad = ended_bad;
   }
 
-  module _ {side : Side} (x : Lexed side Plain r) (l : Leads side e Plain L (λ _. Plain)) where
+  module _ {side : Speaker} (x : Lexed side Plain r) (l : Leads side e Plain L (λ _. Plain)) where
     ended_asks : (xs : List ℕ) (w : Option ℕ) → ended class r xs ≡ Err (Ends w) → asks_from side Plain xs ≡ w
     ended_asks xs w h =
         elim (bind_err (r xs) (λ x. ended_by class x.0 x.1) (Ends w) h) [
@@ -189,7 +189,7 @@ module _ {A : Type 0} {e : Ender} {L : A → List ℕ → Type 0} {r : List ℕ 
     ended_lexed = record { asks = ended_asks; kind = ended_kind; octets = ended_octets }
 
 -- a part that ends by itself, or waits for a byte, ends as a token of the class does; `with_class` computes
-pub ended_part : {A : Type 0} {side : Side} {e : Ender} {L : A → List ℕ → Type 0} {r : List ℕ → Result (A × List ℕ) Stop} (class : ℕ → Bool) → Part side true e L r → Part side true (with_class e class) L (ended class r)
+pub ended_part : {A : Type 0} {side : Speaker} {e : Ender} {L : A → List ℕ → Type 0} {r : List ℕ → Result (A × List ℕ) Stop} (class : ℕ → Bool) → Part side true e L r → Part side true (with_class e class) L (ended class r)
 ended_part {e} class p = record {
   reader = ended_reader class p.reader;
   lexed = ended_lexed class p.reader p.lexed (p.leads refl);

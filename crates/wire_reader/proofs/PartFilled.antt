@@ -1,8 +1,8 @@
 -- A literal of at least one octet, as a part of a grammar.
 use Rattle.std.proofs.Common.{◌≡◌, ℕ, ◌+◌, ◌*◌, ◌-◌, ◌<◌, ◌≤◌, Bool, true, false, cond, eqb, List, [], ◌∷◌, ◌++◌, length, Option, Result, Ok, Err, refl, sym, ap, subst, ◌∙◌, inl, inr, arith}
 use Rattle.std.proofs.lemmas.Bool.{cases_Bool, cases_lt, true≢false, false≢true, eqb-false, ne_eqb, and_parts}
-use Rattle.wire_reader.specs.declared.side.Side.{Side}
-use Rattle.wire_reader.specs.declared.side.Side.TheVariants.{Commands, Replies}
+use Rattle.wire_reader.specs.declared.side.Speaker.{Speaker}
+use Rattle.wire_reader.specs.declared.side.Speaker.TheVariants.{Commands, Replies}
 use Rattle.wire_reader.specs.declared.lexical.Phase.{Phase}
 use Rattle.wire_reader.specs.declared.lexical.Phase.TheVariants.{Plain, Brace, Close}
 use Rattle.wire_reader.specs.declared.stop.Kind.{Kind}
@@ -20,7 +20,7 @@ use Rattle.wire_reader.proofs.Parts.{skip_reader, byte_reader, after_closed, sam
 use Rattle.wire_reader.proofs.Octets.{waits}
 use Rattle.wire_reader.proofs.Lengths.{length_reader}
 use Rattle.wire_reader.proofs.LengthSteps.{digit_is}
-use Rattle.wire_reader.proofs.LiteralPhases.{Behind, of_reader, of_lexed, length_lexed, length_leads, brace_leads, literal_part}
+use Rattle.wire_reader.proofs.LiteralPhases.{Following, of_reader, of_lexed, length_lexed, length_leads, brace_leads, literal_part}
 use Rattle.wire_reader.proofs.Lexed.{Lexed, Leads, kind_at, kind-first}
 use Rattle.wire_reader.proofs.LexedSeq.{seq_lexed, some_byte}
 use Rattle.wire_reader.proofs.Part.{Part, byte_lexed}
@@ -104,7 +104,7 @@ module _ {A : Type 0} {L : A → List ℕ → Type 0} {r : List ℕ → Result (
     bad = barred_bad;
   }
 
-  module _ {side : Side} {ph : Phase} (calm : (b : ℕ) → kind_of side ph b ≡ Syntax) (out : is_in ph ≡ false) (x : Lexed side ph r) where
+  module _ {side : Speaker} {ph : Phase} (calm : (b : ℕ) → kind_of side ph b ≡ Syntax) (out : is_in ph ≡ false) (x : Lexed side ph r) where
     barred_asks : (xs : List ℕ) (w : Option ℕ) → barred c r xs ≡ Err (Ends w) → asks_from side ph xs ≡ w
     barred_asks [] w h = x.asks [] w h
     barred_asks (b ∷ bs) w h =
@@ -162,7 +162,7 @@ number_above_0 n (d ∷ ds) back m f =
 
 -- ---- the literal
 
-module _ (side : Side) where
+module _ (side : Speaker) where
   abbrev FilledLength : ℕ × Bool → List ℕ → Type 0
   FilledLength p t = LengthText side p t × NotFirst 48 t
 
@@ -173,7 +173,7 @@ module _ (side : Side) where
   one : (t : List ℕ) × (p : ℕ × Bool) × FilledLength p t
   one = (49 ∷ 125 ∷ [], (1, false), (record { digits = 49 ∷ []; parts = refl; number = record { each = refl; plain = λ e. refl; is = refl }; plus = may side; most = omega arith }, refl))
     where
-      may : (s : Side) → MayPlus s false
+      may : (s : Speaker) → MayPlus s false
       may Commands = tt
       may Replies = tt
 
@@ -183,14 +183,14 @@ module _ (side : Side) where
   filled_leads : Leads side Closed Brace FilledLength (λ p. Close p.0 p.1)
   filled_leads = record { after = λ p t h. (length_leads side).after p t h.0; quiet = λ p t h s. (length_leads side).quiet p t h.0 s }
 
-  measured_reader : Reader waits (ThenBy FilledLength (Behind side)) (seq length_1 (octets_of side))
+  measured_reader : Reader waits (ThenBy FilledLength (Following side)) (seq length_1 (octets_of side))
   measured_reader = seq_reader filled_length (λ p. of_reader side p.0 p.1) (λ p. after_closed (octets_of side p))
 
   measured_lexed : Lexed side Brace (seq length_1 (octets_of side))
-  measured_lexed = seq_lexed {M = Behind side} filled_length (barred_lexed 48 (length_reader side) one (λ b. refl) refl (length_lexed side)) filled_leads (λ p. of_reader side p.0 p.1) (λ p. of_lexed side p.0 p.1)
+  measured_lexed = seq_lexed {M = Following side} filled_length (barred_lexed 48 (length_reader side) one (λ b. refl) refl (length_lexed side)) filled_leads (λ p. of_reader side p.0 p.1) (λ p. of_lexed side p.0 p.1)
 
   abbrev Steps : List ℕ → List ℕ → Type 0
-  Steps o = Is (123 ∷ []) ⨾ ThenBy FilledLength (Behind side) o
+  Steps o = Is (123 ∷ []) ⨾ ThenBy FilledLength (Following side) o
 
   to_filled : (o t : List ℕ) → Steps o t → FilledLiteral side o t
   to_filled o t h =
@@ -216,6 +216,6 @@ module _ (side : Side) where
   pub filled_literal_part : Part side true waits (FilledLiteral side) (filled_literal_at side)
   filled_literal_part = record {
     reader = same_reader to_filled from_filled (skip_reader (byte_reader 123) measured_reader (after_closed (seq length_1 (octets_of side))));
-    lexed = seq_lexed {M = λ _. ThenBy FilledLength (Behind side)} (byte_reader 123) (byte_lexed side Plain 123 (λ _. refl) refl) (brace_leads side) (λ _. measured_reader) (λ _. measured_lexed);
+    lexed = seq_lexed {M = λ _. ThenBy FilledLength (Following side)} (byte_reader 123) (byte_lexed side Plain 123 (λ _. refl) refl) (brace_leads side) (λ _. measured_reader) (λ _. measured_lexed);
     leads = λ b. let whole : Part side true waits (Literal side) (literal_at side) = literal_part _ in let l = whole.leads b in record { after = λ o t h. l.after o t h.0; quiet = λ o t h s. l.quiet o t h.0 s };
   }

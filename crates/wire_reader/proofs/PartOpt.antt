@@ -1,7 +1,7 @@
 -- A part that may be left out, after a token: as `:x` after `x`.
 use Rattle.std.proofs.Common.{◌≡◌, ℕ, Bool, true, false, not, cond, eqb, ◌||◌, List, [], ◌∷◌, ◌++◌, length, Option, None, Some, Result, Ok, Err, refl, sym, ap, subst, ◌∙◌, inl, inr}
 use Rattle.std.proofs.lemmas.Bool.{cases_Bool, true≢false, false≢true, eqb-true, eq-eqb, not-true, or_parts, or_from}
-use Rattle.wire_reader.specs.declared.side.Side.{Side}
+use Rattle.wire_reader.specs.declared.side.Speaker.{Speaker}
 use Rattle.wire_reader.specs.declared.lexical.Phase.{Phase}
 use Rattle.wire_reader.specs.declared.lexical.Phase.TheVariants.{Plain, Brace}
 use Rattle.wire_reader.specs.declared.stop.Kind.{Kind}
@@ -70,12 +70,12 @@ module _ {A : Type 0} {L : A → List ℕ → Type 0} {s : List ℕ → Result (
       ]
 
   -- the byte and what follows it
-  behind : (text front back rest : List ℕ) → text ≡ front ++ back → front ≡ c ∷ [] → opt_at g c s (text ++ rest) ≡ done (s (back ++ rest))
-  behind text front back rest e f =
+  following : (text front back rest : List ℕ) → text ≡ front ++ back → front ≡ c ∷ [] → opt_at g c s (text ++ rest) ≡ done (s (back ++ rest))
+  following text front back rest e f =
       ap (λ (x : List ℕ). opt_at g c s (x ++ rest)) (e ∙ ap (λ (x : List ℕ). x ++ back) f) ∙ ap (at g s c (back ++ rest)) (eq-eqb c c refl)
 
   opt_complete : (v : Option A) (text rest : List ℕ) → O v text → stops (Open (goes_on g c)) rest ≡ true → opt_at g c s (text ++ rest) ≡ Ok (v, rest)
-  opt_complete (Some a) text rest l st = behind text l.front l.back rest l.parts l.first ∙ ap done (p.complete a l.back rest l.second st)
+  opt_complete (Some a) text rest l st = following text l.front l.back rest l.parts l.first ∙ ap done (p.complete a l.back rest l.second st)
   opt_complete None text [] l st = absurd (false≢true st)
   opt_complete None text (b ∷ bs) l st =
       let q = or_parts _ _ (not-true _ st) in
@@ -145,7 +145,7 @@ module _ {A : Type 0} {L : A → List ℕ → Type 0} {s : List ℕ → Result (
     bad = opt_bad;
   }
 
-  module _ {side : Side} (plain : eqb c 123 ≡ false) (x : Lexed side Plain s) (l : Leads side (Open (goes_on g c)) Plain L (λ _. Plain)) where
+  module _ {side : Speaker} (plain : eqb c 123 ≡ false) (x : Lexed side Plain s) (l : Leads side (Open (goes_on g c)) Plain L (λ _. Plain)) where
     c_plain : (b : ℕ) → eqb b c ≡ true → next Plain b ≡ Plain
     c_plain b e = ap restart (eqb-true b c e) ∙ ap (λ (t : Bool). cond t Brace Plain) plain
 
@@ -207,5 +207,5 @@ module _ {A : Type 0} {L : A → List ℕ → Type 0} {s : List ℕ → Result (
     opt_of = record { reader = opt_reader; lexed = opt_lexed; leads = λ _. record { after = opt_after; quiet = λ v t h st. absurd (false≢true st) } }
 
 -- The part s follows the byte c, and ends before no byte of the token's class g and not before c: by `ended_part`.
-pub opt_part : {A : Type 0} {side : Side} {L : A → List ℕ → Type 0} {s : List ℕ → Result (A × List ℕ) Stop} (g : ℕ → Bool) (c : ℕ) → eqb c 123 ≡ false → Part side true (Open (goes_on g c)) L s → Part side true (Open (goes_on g c)) (OptText c L) (opt_at g c s)
+pub opt_part : {A : Type 0} {side : Speaker} {L : A → List ℕ → Type 0} {s : List ℕ → Result (A × List ℕ) Stop} (g : ℕ → Bool) (c : ℕ) → eqb c 123 ≡ false → Part side true (Open (goes_on g c)) L s → Part side true (Open (goes_on g c)) (OptText c L) (opt_at g c s)
 opt_part g c plain p = opt_of g c p.reader plain p.lexed (p.leads refl)

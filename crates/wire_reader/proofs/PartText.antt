@@ -3,7 +3,7 @@ use Rattle.std.proofs.Common.{◌≡◌, ℕ, Bool, true, false, cond, eqb, List
 use Rattle.std.specs.List.{list_all}
 use Rattle.std.proofs.lemmas.Bool.{cases_Bool, true≢false, false≢true, eqb-true, and_parts, and_from}
 use Rattle.std.proofs.lemmas.List.{append-nil}
-use Rattle.wire_reader.specs.declared.side.Side.{Side}
+use Rattle.wire_reader.specs.declared.side.Speaker.{Speaker}
 use Rattle.wire_reader.specs.declared.lexical.Phase.{Phase}
 use Rattle.wire_reader.specs.declared.lexical.Phase.TheVariants.{Digits, Return, In}
 use Rattle.wire_reader.specs.declared.stop.Kind.{Kind}
@@ -25,7 +25,7 @@ calm (Digits n) = false
 calm (In n) = false
 calm _ = true
 
-calm-kind : (side : Side) (p : Phase) (b : ℕ) → calm p ≡ true → kind_of side p b ≡ Syntax
+calm-kind : (side : Speaker) (p : Phase) (b : ℕ) → calm p ≡ true → kind_of side p b ≡ Syntax
 calm-kind side (Digits n) b h = absurd (false≢true h)
 calm-kind side (In n) b h = absurd (false≢true h)
 calm-kind side _ b h = refl
@@ -76,14 +76,14 @@ module _ (class : ℕ → Bool) (no_cr : class 13 ≡ false) (holds : (b : ℕ) 
 
   -- ---- the texts
 
-  behind_cr : (acc a t : List ℕ) → ScanText (line_step class) (acc, true) a t → (t ≡ 10 ∷ []) × (acc ≡ a)
-  behind_cr acc a [] h = absurd h
-  behind_cr acc a (b ∷ bs) (inl h) =
+  after_cr : (acc a t : List ℕ) → ScanText (line_step class) (acc, true) a t → (t ≡ 10 ∷ []) × (acc ≡ a)
+  after_cr acc a [] h = absurd h
+  after_cr acc a (b ∷ bs) (inl h) =
       elim (cases_Bool (eqb b 10)) [
         | inl e ↦ absurd (not_on h.0 acc (sym h.1 ∙ ap (at_end acc) e))
         | inr e ↦ absurd (odd_on Syntax h.0 (sym (ap (at_end acc) e) ∙ h.1))
       ]
-  behind_cr acc a (b ∷ bs) (inr h) =
+  after_cr acc a (b ∷ bs) (inr h) =
       elim (cases_Bool (eqb b 10)) [
         | inl e ↦ (ap (λ (x : ℕ). x ∷ bs) (eqb-true b 10 e) ∙ ap (λ (x : List ℕ). 10 ∷ x) h.1, take_is acc a (sym (ap (at_end acc) e) ∙ h.0))
         | inr e ↦ absurd (odd_take Syntax a (sym (ap (at_end acc) e) ∙ h.0))
@@ -108,7 +108,7 @@ module _ (class : ℕ → Bool) (no_cr : class 13 ≡ false) (holds : (b : ℕ) 
       elim (cases_Bool (eqb b 13)) [
         | inl e ↦
             let same : (acc, true) ≡ h.0 = on_is (acc, true) h.0 (sym (ap (at_cr acc b) e) ∙ h.1) in
-            let r = behind_cr acc a bs (subst (λ (x : List ℕ × Bool). ScanText (line_step class) x a bs) (sym same) h.2) in
+            let r = after_cr acc a bs (subst (λ (x : List ℕ × Bool). ScanText (line_step class) x a bs) (sym same) h.2) in
             ([], sym r.1 ∙ sym (append-nil acc), ap (λ (x : ℕ). x ∷ bs) (eqb-true b 13 e) ∙ ap (λ (x : List ℕ). 13 ∷ x) r.0, refl)
         | inr e ↦
             elim (cases_Bool (class b)) [
@@ -135,7 +135,7 @@ module _ (class : ℕ → Bool) (no_cr : class 13 ≡ false) (holds : (b : ℕ) 
   Stands (acc, true) p = calm p ≡ true
   Stands (acc, false) p = texty p ≡ true
 
-  module _ (side : Side) where
+  module _ (side : Speaker) where
     keeps : (s t : List ℕ × Bool) (p : Phase) (b : ℕ) → Stands s p → line_step class s b ≡ On t → Stands t (next p b) × (asked side p b ≡ None)
     keeps (acc, true) t p b i h =
         elim (cases_Bool (eqb b 10)) [

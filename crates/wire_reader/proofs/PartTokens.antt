@@ -1,7 +1,7 @@
 -- Tokens that are read by a state that steps, as parts of a grammar.
 use Rattle.std.proofs.Common.{◌≡◌, ℕ, ◌<◌, ◌≤◌, Bool, true, false, cond, ltb, List, [], ◌∷◌, ◌++◌, length, Option, None, Result, Ok, Err, refl, sym, ap, ◌∙◌, inl, inr, arith}
 use Rattle.std.proofs.lemmas.Bool.{cases_Bool, false≢true, and_from}
-use Rattle.wire_reader.specs.declared.side.Side.{Side}
+use Rattle.wire_reader.specs.declared.side.Speaker.{Speaker}
 use Rattle.wire_reader.specs.declared.lexical.Phase.{Phase}
 use Rattle.wire_reader.specs.declared.lexical.Phase.TheVariants.{Plain}
 use Rattle.wire_reader.specs.declared.stop.Kind.{Kind}
@@ -23,7 +23,7 @@ use Rattle.wire_reader.proofs.Part.{Part, same_part}
 
 -- ---- a token that ends before the first byte outside its class, which lacks `{`
 
-module _ {S A : Type 0} (side : Side) (class : ℕ → Bool) (go : S → ℕ → Result S Kind) (out : S → Option A) (lacks : class 123 ≡ false) (syntax : (s : S) (b : ℕ) (k : Kind) → go s b ≡ Err k → k ≡ Syntax) where
+module _ {S A : Type 0} (side : Speaker) (class : ℕ → Bool) (go : S → ℕ → Result S Kind) (out : S → Option A) (lacks : class 123 ≡ false) (syntax : (s : S) (b : ℕ) (k : Kind) → go s b ≡ Err k → k ≡ Syntax) where
   abbrev at_byte : S → ℕ → List ℕ → Bool → Result (A × List ℕ) Stop
   at_byte s b bs t = cond t (run_next (go s b) (λ t. run class go out t bs) (length (b ∷ bs))) (run_end (out s) (b ∷ bs))
 
@@ -108,7 +108,7 @@ text_syntax limit s b k h =
     ]
 
 -- a run of at least one and at most so many bytes of a class that lacks `{`; `sample` is a byte of the class
-pub text_part : {side : Side} (class : ℕ → Bool) (limit sample : ℕ) → class sample ≡ true → class 123 ≡ false → 0 < limit → Part side true (Open class) (λ a t. (t ≡ a) × IsRun class limit t) (run class (text_go limit) text_out [])
+pub text_part : {side : Speaker} (class : ℕ → Bool) (limit sample : ℕ) → class sample ≡ true → class 123 ≡ false → 0 < limit → Part side true (Open class) (λ a t. (t ≡ a) × IsRun class limit t) (run class (text_go limit) text_out [])
 text_part {side} class limit sample fits lacks pos = same_part
     (λ a t h. let r = texts.run_to class limit t [] a h (omega arith) in (sym r.0, record { each = r.1; some = r.2; most = r.3 }))
     (λ a t h. texts.run_from class limit t [] a (sym h.0) h.1.each h.1.some h.1.most)
@@ -117,7 +117,7 @@ text_part {side} class limit sample fits lacks pos = same_part
 -- ---- a token that takes its last byte
 
 -- `I s p`: in the phase p the state may be s
-module _ {S A : Type 0} (side : Side) (step : S → ℕ → Step S A) (I : S → Phase → Type 0)
+module _ {S A : Type 0} (side : Speaker) (step : S → ℕ → Step S A) (I : S → Phase → Type 0)
     (keeps : (s t : S) (p : Phase) (b : ℕ) → I s p → step s b ≡ On t → I t (next p b) × (asked side p b ≡ None))
     (odd : (s : S) (p : Phase) (b : ℕ) (k : Kind) → I s p → step s b ≡ Odd k → kind_of side p b ≡ k)
     (out : (s : S) (p : Phase) → I s p → is_in p ≡ false) where

@@ -1,7 +1,7 @@
 -- Words in any case, and one of several words, as parts of a grammar.
 use Rattle.std.proofs.Common.{◌≡◌, ℕ, ◌≤◌, Bool, true, false, cond, eqb, List, [], ◌∷◌, length, Option, Result, Err, refl, sym, ap, ◌∙◌, inl, inr, arith}
 use Rattle.std.proofs.lemmas.Bool.{cases_Bool, eqb-true, and_parts}
-use Rattle.wire_reader.specs.declared.side.Side.{Side}
+use Rattle.wire_reader.specs.declared.side.Speaker.{Speaker}
 use Rattle.wire_reader.specs.declared.lexical.Phase.{Phase}
 use Rattle.wire_reader.specs.declared.lexical.Phase.TheVariants.{Plain}
 use Rattle.wire_reader.specs.declared.stop.Kind.{Kind}
@@ -26,7 +26,7 @@ IsKeyword w = IsUpperWord w × (braceless w ≡ true)
 abbrev at_byte : List ℕ → ℕ → List ℕ → Bool → Result (Unit {0} × List ℕ) Stop
 at_byte cs b bs t = cond t (word_at cs bs) (stuck (b ∷ bs))
 
-word_asks : (side : Side) (w xs : List ℕ) (v : Option ℕ) → braceless w ≡ true → word_at w xs ≡ Err (Ends v) → asks_from side Plain xs ≡ v
+word_asks : (side : Speaker) (w xs : List ℕ) (v : Option ℕ) → braceless w ≡ true → word_at w xs ≡ Err (Ends v) → asks_from side Plain xs ≡ v
 word_asks side [] xs v plain h = absurd cc
 word_asks side (c ∷ cs) [] v plain h = cc
 word_asks side (c ∷ cs) (b ∷ bs) v plain h =
@@ -61,7 +61,7 @@ word_left (c ∷ cs) (b ∷ bs) k n h =
           let left : length (b ∷ bs) ≡ n = cc in omega (arith, left)
     ]
 
-word_kind : (side : Side) (w xs : List ℕ) (k : Kind) (n : ℕ) → braceless w ≡ true → word_at w xs ≡ Err (Fails k n) → kind_at side Plain n xs ≡ k
+word_kind : (side : Speaker) (w xs : List ℕ) (k : Kind) (n : ℕ) → braceless w ≡ true → word_at w xs ≡ Err (Fails k n) → kind_at side Plain n xs ≡ k
 word_kind side [] xs k n plain h = absurd cc
 word_kind side (c ∷ cs) [] k n plain h = absurd cc
 word_kind side (c ∷ cs) (b ∷ bs) k n plain h =
@@ -78,11 +78,11 @@ word_kind side (c ∷ cs) (b ∷ bs) k n plain h =
           ap (λ (m : ℕ). kind_at side Plain m (b ∷ bs)) (sym left) ∙ kind-first side Plain b bs ∙ kind
     ]
 
-word_lexed : (side : Side) (w : List ℕ) → braceless w ≡ true → Lexed side Plain (word_at w)
+word_lexed : (side : Speaker) (w : List ℕ) → braceless w ≡ true → Lexed side Plain (word_at w)
 word_lexed side w plain = record { asks = λ xs v h. word_asks side w xs v plain h; kind = λ xs k n h. word_kind side w xs k n plain h; octets = dry Plain (word_at w) (λ xs v h. word_out w xs v plain h) }
 
 -- a word in any case
-pub word_part : {side : Side} (w : List ℕ) → IsKeyword w → Part side true Closed (λ _ t. Word w t) (word_at w)
+pub word_part : {side : Speaker} (w : List ℕ) → IsKeyword w → Part side true Closed (λ _ t. Word w t) (word_at w)
 word_part {side} w good = record {
   reader = any_word_reader w good.0;
   lexed = word_lexed side w good.1;
@@ -101,7 +101,7 @@ Out r = (xs : List ℕ) (w : Option ℕ) → r xs ≡ Err (Ends w) → is_in (ph
 alt_out : {A : Type 0} (r s : List ℕ → Result (A × List ℕ) Stop) → Out r → Out s → Out (alt r s)
 alt_out r s p q xs w h = elim (either_ends (r xs) (s xs) w h) [ inl e ↦ p xs w e | inr e ↦ q xs w e ]
 
-alt_lexed : {A : Type 0} {side : Side} {r s : List ℕ → Result (A × List ℕ) Stop} → Lexed side Plain r → Lexed side Plain s → Out (alt r s) → Lexed side Plain (alt r s)
+alt_lexed : {A : Type 0} {side : Speaker} {r s : List ℕ → Result (A × List ℕ) Stop} → Lexed side Plain r → Lexed side Plain s → Out (alt r s) → Lexed side Plain (alt r s)
 alt_lexed {A} {side} {r} {s} p q out = record { asks = alt_asks; kind = alt_kind; octets = dry Plain (alt r s) out }
   where
     alt_asks : (xs : List ℕ) (w : Option ℕ) → alt r s xs ≡ Err (Ends w) → asks_from side Plain xs ≡ w
@@ -125,7 +125,7 @@ module _ {K : Type 0} (word : K → List ℕ) (good : (k : K) → IsKeyword (wor
   keys_out k [] = key_out k
   keys_out k (l ∷ ks) = alt_out (mapped (λ _. k) (word_at (word k))) (keys_at word l ks) (key_out k) (keys_out l ks)
 
-module _ {K : Type 0} {side : Side} (word : K → List ℕ) (good : (k : K) → IsKeyword (word k)) where
+module _ {K : Type 0} {side : Speaker} (word : K → List ℕ) (good : (k : K) → IsKeyword (word k)) where
   keys_lexed : (k : K) (ks : List K) → Lexed side Plain (keys_at word k ks)
   keys_lexed k [] = mapped_lexed (λ _. k) (word_lexed side (word k) (good k).1)
   keys_lexed k (l ∷ ks) = alt_lexed (mapped_lexed (λ _. k) (word_lexed side (word k) (good k).1)) (keys_lexed l ks) (keys_out word good k (l ∷ ks))

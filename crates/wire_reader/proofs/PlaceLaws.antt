@@ -4,7 +4,7 @@ use Rattle.std.specs.List.{list_all}
 use Rattle.std.proofs.Math.Seq.{take-append_seam, drop-append_seam}
 use Rattle.std.proofs.lemmas.Bool.{false≢true, true≢false, eq-eqb, and_parts}
 use Rattle.std.proofs.lemmas.List.{append-nil, length-append, take_at}
-use Rattle.wire_reader.specs.declared.side.Side.{Side}
+use Rattle.wire_reader.specs.declared.side.Speaker.{Speaker}
 use Rattle.wire_reader.specs.declared.lexical.Phase.TheVariants.{Plain}
 use Rattle.wire_reader.specs.declared.scanner.Scanner.{Scanner}
 use Rattle.wire_reader.specs.declared.stop.Kind.{Kind}
@@ -28,7 +28,7 @@ use Rattle.wire_reader.proofs.Positions.{phase-scanned, outside-append, outside-
 -- a list that ends with a byte: nothing follows the front, or the byte is also the last one of what follows it
 pub record LastOf (b : ℕ) (ys text : List ℕ) (zs : List ℕ) : Type 0 where
   pub rest : List ℕ
-  pub behind : zs ≡ rest ++ b ∷ []
+  pub following : zs ≡ rest ++ b ∷ []
   pub before : ys ≡ text ++ rest
 
 no_back : (text zs : List ℕ) → [] ≡ text ++ zs → zs ≡ []
@@ -36,14 +36,14 @@ no_back [] zs e = sym e
 no_back (c ∷ text) zs e = absurd cc
 
 last_of : (b : ℕ) (ys text zs : List ℕ) → ys ++ b ∷ [] ≡ text ++ zs → (zs ≡ []) ⊎ LastOf b ys text zs
-last_of b ys [] zs e = inr (record { rest = ys; behind = sym e; before = refl })
+last_of b ys [] zs e = inr (record { rest = ys; following = sym e; before = refl })
 last_of b [] (c ∷ text) zs e = inl (no_back text zs (let tail : [] ≡ text ++ zs = cc in tail))
 last_of b (y ∷ ys) (c ∷ text) zs e =
     let head : y ≡ c = cc in
     let tail : ys ++ b ∷ [] ≡ text ++ zs = cc in
     elim (last_of b ys text zs tail) [
       | inl z ↦ inl z
-      | inr l ↦ inr (record { rest = l.rest; behind = l.behind; before = ap (λ (x : ℕ). x ∷ ys) head ∙ ap (λ (x : List ℕ). c ∷ x) l.before })
+      | inr l ↦ inr (record { rest = l.rest; following = l.following; before = ap (λ (x : ℕ). x ∷ ys) head ∙ ap (λ (x : List ℕ). c ∷ x) l.before })
     ]
 
 single : (c b : ℕ) (rest : List ℕ) → c ∷ [] ≡ rest ++ b ∷ [] → b ≡ c
@@ -51,11 +51,11 @@ single c b [] e = cc
 single c b (d ∷ rest) e = absurd (omega (arith, ap length e, length-append rest (b ∷ [])))
 
 same_last : (b c : ℕ) (xs ys : List ℕ) → xs ++ b ∷ [] ≡ ys ++ c ∷ [] → b ≡ c
-same_last b c xs ys e = elim (last_of b xs ys (c ∷ []) e) [ inl z ↦ absurd cc | inr l ↦ single c b l.rest l.behind ]
+same_last b c xs ys e = elim (last_of b xs ys (c ∷ []) e) [ inl z ↦ absurd cc | inr l ↦ single c b l.rest l.following ]
 
 -- ---- what the reader says
 
-module _ {A : Type 0} {side : Side} {k : Bool} {L : A → List ℕ → Type 0} {r : List ℕ → Result (A × List ℕ) Stop} (p : Part side k Closed L r) where
+module _ {A : Type 0} {side : Speaker} {k : Bool} {L : A → List ℕ → Type 0} {r : List ℕ → Result (A × List ℕ) Stop} (p : Part side k Closed L r) where
   ok_not_err : (x : A × List ℕ) (s : Stop) → (let o : Result (A × List ℕ) Stop = Ok x in o ≡ Err s) → ⊥
   ok_not_err x s h = cc
 
@@ -142,7 +142,7 @@ module _ {A : Type 0} {side : Side} {k : Bool} {L : A → List ℕ → Type 0} {
         ap (take (suc (length xs))) (sym (append_assoc xs (b ∷ []) bs)) ∙ take_at (xs ++ b ∷ []) bs (suc (length xs)) (omega (arith, length-append xs (b ∷ []))) in
         record {
           at = length xs;
-          behind = omega arith;
+          following = omega arith;
           fault = record {
             within = omega (arith, length-append xs (b ∷ bs));
             before = subst (Begins L) (sym front) (begins_is p.reader xs w h);
@@ -157,7 +157,7 @@ module _ {A : Type 0} {side : Side} {k : Bool} {L : A → List ℕ → Type 0} {
 
     earlier : (xs : List ℕ) (b : ℕ) (text : List ℕ) → State (xs ++ b ∷ []) text → State xs text
     earlier xs b text (inl o) = inl o
-    earlier xs b text (inr d) = inr (record { at = d.at; behind = (let e = d.behind in omega (arith, e, length-append xs (b ∷ []))); fault = d.fault; fits = d.fits; no_end = d.no_end })
+    earlier xs b text (inr d) = inr (record { at = d.at; following = (let e = d.following in omega (arith, e, length-append xs (b ∷ []))); fault = d.fault; fits = d.fits; no_end = d.no_end })
 
     between : (ys xs : List ℕ) (at : ℕ) (w : Option ℕ) → r xs ≡ Err (Ends w) → outside xs ≤ 65536 → place_from at (scanned start xs) ys ≡ None → State xs (xs ++ ys)
     between [] xs at w h fits n = subst (State xs) (sym (append-nil xs)) (inl (record { begins = begins_is p.reader xs w h; fits = fits }))

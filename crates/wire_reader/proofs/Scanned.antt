@@ -178,8 +178,8 @@ moved s t u xs i j e f =
     f ∙ ap (λ (v : Scanner). scanned v (take j (drop i xs))) e ∙ sym (scanned-append s (take i xs) (take j (drop i xs))) ∙ ap (scanned s) (sym (take-add i j xs))
 
 -- from this byte on to the end
-pub behind : (bytes : List ℕ) (done : ℕ) (old : Scanner) (found : ℕ × Bool) (new : Scanner) → Advances old (take (length bytes - done) (drop done bytes)) found new → Advances old (drop done bytes) found new
-behind bytes done old found new h = subst (λ (x : List ℕ). Advances old x found new) (take_all (length bytes - done) (drop done bytes) (omega (arith, length-drop done bytes))) h
+pub following : (bytes : List ℕ) (done : ℕ) (old : Scanner) (found : ℕ × Bool) (new : Scanner) → Advances old (take (length bytes - done) (drop done bytes)) found new → Advances old (drop done bytes) found new
+following bytes done old found new h = subst (λ (x : List ℕ). Advances old x found new) (take_all (length bytes - done) (drop done bytes) (omega (arith, length-drop done bytes))) h
 
 -- no place so far, and none in these
 pub goes_on : (bytes : List ℕ) (done : ℕ) (old : Scanner) (found : ℕ × Bool) (new : Scanner) → Advances old (drop done bytes) found new → found.1 ≡ false → place_from (done + found.0) new (drop (done + found.0) bytes) ≡ place_from done old (drop done bytes)

@@ -1,8 +1,8 @@
 -- Phases in a text without line ends: `{`, digits and `}` may stand there, and no literal comes of them.
 use Rattle.std.proofs.Common.{◌≡◌, ℕ, ◌+◌, ◌*◌, ◌-◌, Bool, true, false, cond, eqb, ltb, leb, ◌&&◌, None, refl, ap, ◌∙◌, inl, inr}
 use Rattle.std.proofs.lemmas.Bool.{cases_Bool, false≢true}
-use Rattle.wire_reader.specs.declared.side.Side.{Side}
-use Rattle.wire_reader.specs.declared.side.Side.TheVariants.{Commands, Replies}
+use Rattle.wire_reader.specs.declared.side.Speaker.{Speaker}
+use Rattle.wire_reader.specs.declared.side.Speaker.TheVariants.{Commands, Replies}
 use Rattle.wire_reader.specs.declared.lexical.Phase.{Phase}
 use Rattle.wire_reader.specs.declared.lexical.Phase.TheVariants.{Plain, Brace, Digits, Plus, Close, Return, In}
 use Rattle.wire_reader.specs.declared.stop.Kind.{Kind}
@@ -43,7 +43,7 @@ pub texty-out : (p : Phase) → texty p ≡ true → is_in p ≡ false
 texty-out (In n) h = absurd (false≢true h)
 texty-out _ h = refl
 
-pub texty-asked : (side : Side) (p : Phase) (b : ℕ) → texty p ≡ true → asked side p b ≡ None
+pub texty-asked : (side : Speaker) (p : Phase) (b : ℕ) → texty p ≡ true → asked side p b ≡ None
 texty-asked side (Return m plus) b h = absurd (false≢true h)
 texty-asked side (In m) b h = absurd (false≢true h)
 texty-asked side _ b h = refl
@@ -51,12 +51,12 @@ texty-asked side _ b h = refl
 abbrev kind_if : Bool → Kind
 kind_if t = cond t TooLong Syntax
 
-over_none : (side : Side) (n b : ℕ) → is_digit b ≡ false → eqb b 43 ≡ false → over_by side n b ≡ false
+over_none : (side : Speaker) (n b : ℕ) → is_digit b ≡ false → eqb b 43 ≡ false → over_by side n b ≡ false
 over_none Commands n b d p = ap (λ (t : Bool). cond t (ltb plus_limit n) (is_digit b && ltb literal_limit (10 * n + (b - 48)))) p ∙ ap (λ (t : Bool). t && ltb literal_limit (10 * n + (b - 48))) d
 over_none Replies n b d p = ap (λ (t : Bool). t && ltb literal_limit (10 * n + (b - 48))) d
 
 -- a fault at a byte that is no digit and no `+` is none of a length
-pub texty-kind : (side : Side) (p : Phase) (b : ℕ) → is_digit b ≡ false → eqb b 43 ≡ false → kind_of side p b ≡ Syntax
+pub texty-kind : (side : Speaker) (p : Phase) (b : ℕ) → is_digit b ≡ false → eqb b 43 ≡ false → kind_of side p b ≡ Syntax
 texty-kind side (Digits n) b d e = ap kind_if (over_none side n b d e)
 texty-kind side _ b d e = refl
 

@@ -2,7 +2,7 @@
 -- The answer holds a value of T, which `view` shows as one of A.
 use Rattle.std.specs.Prelude.{◌≡◌, ◌<◌, ◌≤◌, ℕ, ◌-◌, false, true, suc, List, [], ◌++◌, length, take, None, Some, Result, Ok, Err, nat_lt, if◌then◌else◌}
 use Rattle.std.specs.Borrow.{Bor}
-use Rattle.wire_reader.specs.declared.side.Side.{Side}
+use Rattle.wire_reader.specs.declared.side.Speaker.{Speaker}
 use Rattle.wire_reader.specs.declared.stop.Kind.TheVariants as kinds
 use Rattle.wire_reader.specs.declared.stop.Stop.{Stop}
 use Rattle.wire_reader.specs.declared.stop.Stop.TheVariants.{Ends, Fails}
@@ -39,7 +39,7 @@ pub record WholeAt {A : Type 0} (L : A → List ℕ → Type 0) (xs : List ℕ) 
 
 -- The bytes before one begin a spelling, and it is the 65537th outside literals. If no spelling goes on with it, then
 -- not for a literal's length.
-pub record PassesLimit {A : Type 0} (side : Side) (L : A → List ℕ → Type 0) (xs : List ℕ) : Type 0 where
+pub record PassesLimit {A : Type 0} (side : Speaker) (L : A → List ℕ → Type 0) (xs : List ℕ) : Type 0 where
   pub at : ℕ
   pub within : at < length xs
   pub before : Begins L (take at xs)
@@ -48,7 +48,7 @@ pub record PassesLimit {A : Type 0} (side : Side) (L : A → List ℕ → Type 0
   pub short : FaultAt L xs at → passes_limit side at xs ≡ false
 
 -- what each answer says
-abbrev pub Answers : {T A : Type 0} → Side → (T → A) → (A → List ℕ → Type 0) → List ℕ → Result (Read T) WireFault → Type 0
+abbrev pub Answers : {T A : Type 0} → Speaker → (T → A) → (A → List ℕ → Type 0) → List ℕ → Result (Read T) WireFault → Type 0
 Answers side view L xs (Ok (Whole value used)) = WholeAt L xs (view value) used × (outside (take used xs) ≤ 65536)
 Answers side view L xs (Ok (WantsLiteral n)) = Begins L xs × (outside xs ≤ 65536) × (asks side xs ≡ Some n)
 Answers side view L xs (Ok Partial) = Begins L xs × (outside xs ≤ 65536) × (asks side xs ≡ None)

@@ -5,8 +5,8 @@ use Rattle.wire_reader.specs.declared.lexical.Phase.{Phase}
 use Rattle.wire_reader.specs.declared.lexical.Phase.TheVariants.{Plain, Brace, Digits, Plus, Close, Return, In}
 use Rattle.wire_reader.specs.declared.stop.Kind.{Kind}
 use Rattle.wire_reader.specs.declared.stop.Kind.TheVariants.{Syntax, TooLong}
-use Rattle.wire_reader.specs.declared.side.Side.{Side}
-use Rattle.wire_reader.specs.declared.side.Side.TheVariants.{Commands, Replies}
+use Rattle.wire_reader.specs.declared.side.Speaker.{Speaker}
+use Rattle.wire_reader.specs.declared.side.Speaker.TheVariants.{Commands, Replies}
 use Rattle.wire_reader.specs.Spelling.{is_digit}
 
 -- the greatest length of a literal, and of one after which its sender does not wait
@@ -57,43 +57,43 @@ limit_from p room at (b ∷ bs) =
 -- ---- where a literal's sender waits
 
 -- the length, where this byte ends the line after `{n}`; a sender of replies never waits
-abbrev pub asked_by : Side → ℕ → ℕ → Option ℕ
+abbrev pub asked_by : Speaker → ℕ → ℕ → Option ℕ
 asked_by Commands n b = if b == 10 then Some n else None
 asked_by Replies n b = None
 
-abbrev pub asked : Side → Phase → ℕ → Option ℕ
+abbrev pub asked : Speaker → Phase → ℕ → Option ℕ
 asked side (Return n false) b = asked_by side n b
 asked side _ b = None
 
-abbrev pub asks_from : Side → Phase → List ℕ → Option ℕ
+abbrev pub asks_from : Speaker → Phase → List ℕ → Option ℕ
 asks_from side p [] = None
 asks_from side p (b ∷ []) = asked side p b
 asks_from side p (b ∷ c ∷ bs) = asks_from side (next p b) (c ∷ bs)
 
 -- the number of octets that the sender keeps back until it is asked to go on: the bytes end right after `{n}` and a line end
-abbrev pub asks : Side → List ℕ → Option ℕ
+abbrev pub asks : Speaker → List ℕ → Option ℕ
 asks side xs = asks_from side Plain xs
 
 -- ---- where a literal's length passes its limit
 
 -- the byte puts the number n that stands before it over the limit
-abbrev pub over_by : Side → ℕ → ℕ → Bool
+abbrev pub over_by : Speaker → ℕ → ℕ → Bool
 over_by Commands n b = if b == 43 then nat_lt plus_limit n else is_digit b && nat_lt literal_limit (10 * n + (b - 48))
 over_by Replies n b = is_digit b && nat_lt literal_limit (10 * n + (b - 48))
 
-abbrev pub is_over : Side → Phase → ℕ → Bool
+abbrev pub is_over : Speaker → Phase → ℕ → Bool
 is_over side (Digits n) b = over_by side n b
 is_over side _ b = false
 
 -- what a fault at this byte is
-abbrev pub kind_of : Side → Phase → ℕ → Kind
+abbrev pub kind_of : Speaker → Phase → ℕ → Kind
 kind_of side p b = if is_over side p b then TooLong else Syntax
 
 -- the byte at this place puts a literal's number over its limit
-abbrev pub over_from : Side → Phase → ℕ → List ℕ → Bool
+abbrev pub over_from : Speaker → Phase → ℕ → List ℕ → Bool
 over_from side p at [] = false
 over_from side p zero (b ∷ bs) = is_over side p b
 over_from side p (suc at) (b ∷ bs) = over_from side (next p b) at bs
 
-abbrev pub passes_limit : Side → ℕ → List ℕ → Bool
+abbrev pub passes_limit : Speaker → ℕ → List ℕ → Bool
 passes_limit side at xs = over_from side Plain at xs

@@ -1,8 +1,8 @@
 -- Literals: `{n}` or, in commands, `{n+}`, a line end, and then n octets, none of them 0.
 use Rattle.std.specs.Prelude.{◌≡◌, ◌≤◌, ℕ, zero, suc, ◌+◌, ◌*◌, ◌-◌, Bool, true, false, not, List, [], ◌∷◌, ◌++◌, length, Option, None, Some, Result, Ok, Err, ◌==◌, nat_le, if◌then◌else◌}
 use Rattle.std.specs.List.{list_all}
-use Rattle.wire_reader.specs.declared.side.Side.{Side}
-use Rattle.wire_reader.specs.declared.side.Side.TheVariants.{Commands, Replies}
+use Rattle.wire_reader.specs.declared.side.Speaker.{Speaker}
+use Rattle.wire_reader.specs.declared.side.Speaker.TheVariants.{Commands, Replies}
 use Rattle.wire_reader.specs.declared.literal.LengthStep.{LengthStep}
 use Rattle.wire_reader.specs.declared.literal.LengthStep.TheVariants as lengths
 use Rattle.wire_reader.specs.declared.stop.Kind.TheVariants.{Syntax, TooLong}
@@ -36,13 +36,13 @@ close_text true = 43 ∷ 125 ∷ []
 close_text false = 125 ∷ []
 
 -- only in commands a sender may not wait
-abbrev pub MayPlus : Side → Bool → Type 0
+abbrev pub MayPlus : Speaker → Bool → Type 0
 MayPlus Commands plus = Unit {0}
 MayPlus Replies true = ⊥
 MayPlus Replies false = Unit {0}
 
 -- the length of a literal after `{`, and whether `+` stands there
-pub record LengthText (side : Side) (p : ℕ × Bool) (text : List ℕ) : Type 0 where
+pub record LengthText (side : Speaker) (p : ℕ × Bool) (text : List ℕ) : Type 0 where
   pub digits : List ℕ
   pub parts : text ≡ digits ++ close_text p.1
   pub number : Number p.0 digits
@@ -60,7 +60,7 @@ pub record IsOctets (n : ℕ) (text : List ℕ) : Type 0 where
 abbrev pub Octets : ℕ → List ℕ → List ℕ → Type 0
 Octets n octets text = (text ≡ octets) × IsOctets n text
 
-abbrev pub Literal : Side → List ℕ → List ℕ → Type 0
+abbrev pub Literal : Speaker → List ℕ → List ℕ → Type 0
 Literal side octets = Is (123 ∷ []) ⨾ ThenBy (LengthText side) (λ p o. Is (13 ∷ []) ⨾ Is (10 ∷ []) ⨾ Octets p.0 o) octets
 
 -- ---- how it is read
@@ -69,12 +69,12 @@ Literal side octets = Is (123 ∷ []) ⨾ ThenBy (LengthText side) (λ p o. Is (
 abbrev pub more_digits : ℕ → Step (Option (ℕ × Bool)) (ℕ × Bool)
 more_digits n = if nat_le n literal_limit then On (Some (n, false)) else Odd TooLong
 
-abbrev pub plus_step : Side → ℕ → Step (Option (ℕ × Bool)) (ℕ × Bool)
+abbrev pub plus_step : Speaker → ℕ → Step (Option (ℕ × Bool)) (ℕ × Bool)
 plus_step Commands n = if nat_le n plus_limit then On (Some (n, true)) else Odd TooLong
 plus_step Replies n = Odd Syntax
 
 -- what was read of the length: nothing, or a number, and whether `+` follows it
-abbrev pub length_step : Side → Option (ℕ × Bool) → ℕ → Step (Option (ℕ × Bool)) (ℕ × Bool)
+abbrev pub length_step : Speaker → Option (ℕ × Bool) → ℕ → Step (Option (ℕ × Bool)) (ℕ × Bool)
 length_step side None b = if is_digit b then On (Some (b - 48, false)) else Odd Syntax
 length_step side (Some (n, true)) b = if b == 125 then Take (n, true) else Odd Syntax
 length_step side (Some (n, false)) b =
@@ -93,7 +93,7 @@ Fits (lengths.On p) = p.0 ≤ literal_limit
 Fits (lengths.Take p) = p.0 ≤ literal_limit
 Fits (lengths.Odd k) = Unit {0}
 
-abbrev pub length_at : Side → List ℕ → Result ((ℕ × Bool) × List ℕ) Stop
+abbrev pub length_at : Speaker → List ℕ → Result ((ℕ × Bool) × List ℕ) Stop
 length_at side = scan (length_step side) None
 
 abbrev pub with_byte : ℕ → Result (List ℕ × List ℕ) Stop → Result (List ℕ × List ℕ) Stop
@@ -116,12 +116,12 @@ wait_at w n [] = Err (Ends w)
 wait_at w n (b ∷ bs) = octets_at n (b ∷ bs) >>= λ x. followed x.0 x.1
 
 -- for how many octets a sender waits
-abbrev pub waits_for : Side → ℕ × Bool → Option ℕ
+abbrev pub waits_for : Speaker → ℕ × Bool → Option ℕ
 waits_for Commands p = if p.1 then None else Some p.0
 waits_for Replies p = None
 
-abbrev pub octets_of : Side → ℕ × Bool → List ℕ → Result (List ℕ × List ℕ) Stop
+abbrev pub octets_of : Speaker → ℕ × Bool → List ℕ → Result (List ℕ × List ℕ) Stop
 octets_of side p = skip (byte_at 13) (skip (byte_at 10) (wait_at (waits_for side p) p.0))
 
-abbrev pub literal_at : Side → List ℕ → Result (List ℕ × List ℕ) Stop
+abbrev pub literal_at : Speaker → List ℕ → Result (List ℕ × List ℕ) Stop
 literal_at side = skip (byte_at 123) (seq (length_at side) (octets_of side))

@@ -47,7 +47,7 @@ pub record Opens {A : Type 0} (L : A → List ℕ → Type 0) (text : List ℕ) 
 -- after the bytes xs a fault was met, and its line goes on
 pub record Drops {A : Type 0} (L : A → List ℕ → Type 0) (xs text : List ℕ) : Type 0 where
   pub at : ℕ
-  pub behind : length xs ≤ at
+  pub following : length xs ≤ at
   pub fault : FaultAt L text at
   pub fits : outside (take (suc at) text) ≤ 65536
   pub no_end : NoLineEnd at text

@@ -9,7 +9,7 @@ ghost use Rattle.wire_reader.specs.Literal.{Fits, step_of, length_step, plus_ste
 use crate::answer::front;
 use crate::punctuation::byte;
 use crate::scanner::to_nul;
-use crate::side::Side;
+use crate::side::Speaker;
 use crate::stop::{Kind, Stop};
 
 /// What a byte does to the length so far: a number, and whether `+` follows it.
@@ -26,7 +26,7 @@ pub enum LengthStep {
 /// Reads a literal; gives its octets and the bytes after them, of which at least one is required.
 ///
 /// A length of more than 16777238, or of more than 4096 with `+`, is refused as too long.
-pub fn literal(side: Side, bytes: &[u8]) -> Result<(&[u8], &[u8]), Stop>
+pub fn literal(side: Speaker, bytes: &[u8]) -> Result<(&[u8], &[u8]), Stop>
     ensures { Gives (λ r. (r.0.now, r.1.now)) result (literal_at side bytes.now) }
 {
     let rest = byte(b'{', bytes)?;
@@ -36,7 +36,7 @@ pub fn literal(side: Side, bytes: &[u8]) -> Result<(&[u8], &[u8]), Stop>
 
 /// Reads a literal of at least one octet; gives its octets and the bytes after them, of which at least one is required. Its limits are
 /// those of `literal`.
-pub fn filled_literal(side: Side, bytes: &[u8]) -> Result<(&[u8], &[u8]), Stop>
+pub fn filled_literal(side: Speaker, bytes: &[u8]) -> Result<(&[u8], &[u8]), Stop>
     ensures { Gives (λ r. (r.0.now, r.1.now)) result (filled_literal_at side bytes.now) }
 {
     let rest = byte(b'{', bytes)?;
@@ -48,7 +48,7 @@ pub fn filled_literal(side: Side, bytes: &[u8]) -> Result<(&[u8], &[u8]), Stop>
 }
 
 /// The length of a literal after its `{`, up to and with `}`.
-fn length(side: Side, bytes: &[u8]) -> Result<((u32, bool), &[u8]), Stop>
+fn length(side: Speaker, bytes: &[u8]) -> Result<((u32, bool), &[u8]), Stop>
     ensures { Gives (λ r. (r.0, r.1.now)) result (length_at side bytes.now) }
 {
     let mut read = None;
@@ -62,7 +62,7 @@ fn length(side: Side, bytes: &[u8]) -> Result<((u32, bool), &[u8]), Stop>
     Err(Stop::Ends(None))
 }
 
-fn length_step(side: Side, read: Option<(u32, bool)>, b: u8) -> LengthStep
+fn length_step(side: Speaker, read: Option<(u32, bool)>, b: u8) -> LengthStep
     requires limit { ForSome read (λ p. p.0 ≤ 16777238) }
     ensures step { step_of result ≡ length_step side read b }
     ensures kept { Fits result }
@@ -87,7 +87,7 @@ fn length_step(side: Side, read: Option<(u32, bool)>, b: u8) -> LengthStep
 }
 
 /// What a byte does after a number.
-fn number_step(side: Side, n: u32, b: u8) -> LengthStep
+fn number_step(side: Speaker, n: u32, b: u8) -> LengthStep
     requires limit { n ≤ 16777238 }
     ensures step { step_of result ≡ length_step side (Some (n, false)) b }
     ensures kept { Fits result }
@@ -109,34 +109,34 @@ fn number_step(side: Side, n: u32, b: u8) -> LengthStep
 }
 
 /// What `+` does after a number.
-fn plus_step(side: Side, n: u32) -> LengthStep
+fn plus_step(side: Speaker, n: u32) -> LengthStep
     ensures step { step_of result ≡ plus_step side n }
     ensures kept { Fits result }
 {
     match side {
-        Side::Commands => {
+        Speaker::Commands => {
             if n <= 4096 {
                 LengthStep::On((n, true))
             } else {
                 LengthStep::Odd(Kind::TooLong)
             }
         }
-        Side::Replies => LengthStep::Odd(Kind::Syntax),
+        Speaker::Replies => LengthStep::Odd(Kind::Syntax),
     }
 }
 
 /// The number of octets for which a literal's sender waits.
-fn waits_for(side: Side, n: u32, plus: bool) -> Option<u32>
+fn waits_for(side: Speaker, n: u32, plus: bool) -> Option<u32>
     ensures { result ≡ waits_for side (n, plus) }
 {
     match side {
-        Side::Commands => if plus { None } else { Some(n) },
-        Side::Replies => None,
+        Speaker::Commands => if plus { None } else { Some(n) },
+        Speaker::Replies => None,
     }
 }
 
 /// The octets of a literal after the `}` of its length.
-fn octets_of(side: Side, n: u32, plus: bool, bytes: &[u8]) -> Result<(&[u8], &[u8]), Stop>
+fn octets_of(side: Speaker, n: u32, plus: bool, bytes: &[u8]) -> Result<(&[u8], &[u8]), Stop>
     ensures { Gives (λ r. (r.0.now, r.1.now)) result (octets_of side (n, plus) bytes.now) }
 {
     let rest = byte(b'\n', byte(b'\r', bytes)?)?;

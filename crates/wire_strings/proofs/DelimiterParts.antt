@@ -2,7 +2,7 @@
 use Rattle.std.proofs.Common.{◌≡◌, ℕ, Bool, true, false, cond, eqb, ◌||◌, List, [], ◌∷◌, ◌++◌, None, refl, sym, ap, subst, ◌∙◌, inl, inr, ◌⊎◌}
 use Rattle.std.proofs.lemmas.Bool.{cases_Bool, true≢false, eqb-true, and_parts, and_from}
 use Rattle.std.proofs.lemmas.List.{append-nil}
-use Rattle.wire_reader.specs.declared.side.Side.{Side}
+use Rattle.wire_reader.specs.declared.side.Speaker.{Speaker}
 use Rattle.wire_reader.specs.declared.lexical.Phase.{Phase}
 use Rattle.wire_reader.specs.declared.lexical.Phase.TheVariants.{Plain, Brace}
 use Rattle.wire_reader.specs.declared.stop.Kind.{Kind}
@@ -169,16 +169,16 @@ out Slash p i = ap is_in i
 out (Got c) p (inl i) = ap is_in i
 out (Got c) p (inr i) = ap is_in i
 
-behind : (b : ℕ) → (next Plain b ≡ Plain) ⊎ (next Plain b ≡ Brace)
-behind b = elim (cases_Bool (eqb b 123)) [
+following : (b : ℕ) → (next Plain b ≡ Plain) ⊎ (next Plain b ≡ Brace)
+following b = elim (cases_Bool (eqb b 123)) [
   | inl e ↦ inr (ap (λ (x : Bool). cond x Brace Plain) e)
   | inr e ↦ inl (ap (λ (x : Bool). cond x Brace Plain) e)
 ]
 
 got : (p : Phase) (b : ℕ) → p ≡ Plain → (next p b ≡ Plain) ⊎ (next p b ≡ Brace)
-got p b i = subst (λ (x : Phase). (next x b ≡ Plain) ⊎ (next x b ≡ Brace)) (sym i) (behind b)
+got p b i = subst (λ (x : Phase). (next x b ≡ Plain) ⊎ (next x b ≡ Brace)) (sym i) (following b)
 
-module _ (side : Side) where
+module _ (side : Speaker) where
   quiet : (p : Phase) (b : ℕ) → p ≡ Plain → asked side p b ≡ None
   quiet p b i = ap (λ (x : Phase). asked side x b) i
 
@@ -240,7 +240,7 @@ completes Nothing = (32 ∷ 34 ∷ [], 32, inl (Got 32, refl, inr (refl, refl)))
 completes Slash = (34 ∷ 34 ∷ [], 34, inl (Got 34, refl, inr (refl, refl)))
 completes (Got c) = (34 ∷ [], c, inr (refl, refl))
 
-rest_part : {side : Side} → Part side true Closed (λ c t. (t ≡ escaped c ++ 34 ∷ []) × (is_text c ≡ true)) (delimiter_rest Nothing)
+rest_part : {side : Speaker} → Part side true Closed (λ c t. (t ≡ escaped c ++ 34 ∷ []) × (is_text c ≡ true)) (delimiter_rest Nothing)
 rest_part {side} = same_part
     (λ c t h. rest_to t Nothing c h)
     (λ c t h. subst (ScanText delimiter_step Nothing c) (sym h.0) (rest_from c h.1))
@@ -249,7 +249,7 @@ rest_part {side} = same_part
 one : (c : ℕ) → escaped c ++ [] ≡ escaped c
 one c = append-nil (escaped c)
 
-pub delimiter_part : {side : Side} → Part side true Closed DelimiterText delimiter_at
+pub delimiter_part : {side : Speaker} → Part side true Closed DelimiterText delimiter_at
 delimiter_part = same_part
     (λ c t h. (h.parts ∙ ap (λ (x : List ℕ). x ++ h.back) h.first ∙ ap (λ (x : List ℕ). 34 ∷ x) (h.second.0 ∙ ap (λ (x : List ℕ). x ++ 34 ∷ []) (sym (one c))), and_from _ _ h.second.1 refl))
     (λ c t h. record { front = 34 ∷ []; back = escaped c ++ 34 ∷ []; parts = h.0 ∙ ap (λ (x : List ℕ). 34 ∷ x ++ 34 ∷ []) (one c); first = refl; second = (refl, (and_parts _ _ h.1).0) })

@@ -1,7 +1,7 @@
 -- A part whose texts may not begin with one byte.
 use Rattle.std.proofs.Common.{◌≡◌, ℕ, Bool, true, false, cond, eqb, List, [], ◌∷◌, ◌++◌, length, Option, None, Result, Ok, Err, refl, sym, ap, ◌∙◌, inl, inr}
 use Rattle.std.proofs.lemmas.Bool.{cases_Bool, false≢true}
-use Rattle.wire_reader.specs.declared.side.Side.{Side}
+use Rattle.wire_reader.specs.declared.side.Speaker.{Speaker}
 use Rattle.wire_reader.specs.declared.lexical.Phase.TheVariants.{Plain}
 use Rattle.wire_reader.specs.declared.stop.Kind.{Kind}
 use Rattle.wire_reader.specs.declared.stop.Kind.TheVariants.{Syntax}
@@ -15,7 +15,7 @@ use Rattle.wire_reader.proofs.Part.{Part}
 use Rattle.wire_strings.specs.Texts.{begins_with, unless_at}
 
 -- `sample` is a text that begins with another byte
-module _ {A : Type 0} {side : Side} {k : Bool} {e : Ender} {L : A → List ℕ → Type 0} {r : List ℕ → Result (A × List ℕ) Stop} (c : ℕ) (sample : (a : A) × (t : List ℕ) × L a t × (begins_with c t ≡ false)) (some : (a : A) → L a [] → ⊥) (p : Part side k e L r) where
+module _ {A : Type 0} {side : Speaker} {k : Bool} {e : Ender} {L : A → List ℕ → Type 0} {r : List ℕ → Result (A × List ℕ) Stop} (c : ℕ) (sample : (a : A) × (t : List ℕ) × L a t × (begins_with c t ≡ false)) (some : (a : A) → L a [] → ⊥) (p : Part side k e L r) where
   abbrev M : A → List ℕ → Type 0
   M a t = L a t × (begins_with c t ≡ false)
 

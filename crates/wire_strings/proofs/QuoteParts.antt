@@ -3,8 +3,8 @@ use Rattle.std.proofs.Common.{◌≡◌, ◌<◌, ◌+◌, ℕ, get_or, take, dr
 use Rattle.std.specs.List.{list_all, flat_map}
 use Rattle.std.proofs.lemmas.Bool.{cases_Bool, true≢false, false≢true, eqb-true, and_parts, and_from}
 use Rattle.std.proofs.lemmas.List.{append-nil, drop_more}
-use Rattle.wire_reader.specs.declared.side.Side.{Side}
-use Rattle.wire_reader.specs.declared.side.Side.TheVariants.{Commands}
+use Rattle.wire_reader.specs.declared.side.Speaker.{Speaker}
+use Rattle.wire_reader.specs.declared.side.Speaker.TheVariants.{Commands}
 use Rattle.wire_reader.specs.declared.lexical.Phase.{Phase}
 use Rattle.wire_reader.specs.declared.lexical.Phase.TheVariants.{Plain, Return, In}
 use Rattle.wire_reader.specs.declared.stop.Kind.{Kind}
@@ -132,7 +132,7 @@ out : (s : List ℕ × Bool) (p : Phase) → Within s p → is_in p ≡ false
 out (acc, true) p i = ap is_in i
 out (acc, false) p i = texty-out p i
 
-module _ (side : Side) where
+module _ (side : Speaker) where
   keeps : (s t : List ℕ × Bool) (p : Phase) (b : ℕ) → Within s p → raw_step s b ≡ On t → Within t (next p b) × (asked side p b ≡ None)
   keeps (acc, true) t p b i h = elim (stepped acc b true) [
     | Follows s g ↦
@@ -180,13 +180,13 @@ completes (acc, true) = (34 ∷ 34 ∷ [], acc ++ 34 ∷ [], inl ((acc ++ 34 ∷
 completes (acc, false) = (34 ∷ [], acc, inr (refl, refl))
 
 -- after the first quote
-pub raw_rest_part : {side : Side} → Part side true Closed (λ raw t. (t ≡ raw ++ 34 ∷ []) × IsRaw raw) raw_rest
+pub raw_rest_part : {side : Speaker} → Part side true Closed (λ raw t. (t ≡ raw ++ 34 ∷ []) × IsRaw raw) raw_rest
 raw_rest_part {side} = same_part
     (λ a t h. let r = rest_to t [] false a h in (r.2 ∙ ap (λ (x : List ℕ). x ++ 34 ∷ []) (sym r.1), record { value = r.0; of = record { is = r.1; each = r.3 } }))
     (λ a t h. subst (ScanText raw_step ([], false) a) (sym (h.0 ∙ ap (λ (x : List ℕ). x ++ 34 ∷ []) h.1.of.is)) (rest_from h.1.value [] a h.1.of.is h.1.of.each))
     (scan_part side raw_step Within (keeps side) (odd side) out (takes side) completes ([], false) refl)
 
-pub raw_part : {side : Side} → Part side true Closed RawText raw_at
+pub raw_part : {side : Speaker} → Part side true Closed RawText raw_at
 raw_part = same_part
     (λ a t h. (h.parts ∙ ap (λ (x : List ℕ). x ++ h.back) h.first ∙ ap (λ (x : List ℕ). 34 ∷ x) h.second.0, h.second.1))
     (λ a t h. record { front = 34 ∷ []; back = a ++ 34 ∷ []; parts = h.0; first = refl; second = (refl, h.1) })
@@ -201,8 +201,8 @@ closed xs i slash in' none quote h =
 
 -- ---- the value
 
-behind_slash : (c : ℕ) (cs : List ℕ) → unescaped_from true (c ∷ cs) ≡ c ∷ unescaped cs
-behind_slash c cs = refl
+after_slash : (c : ℕ) (cs : List ℕ) → unescaped_from true (c ∷ cs) ≡ c ∷ unescaped cs
+after_slash c cs = refl
 
 no_slash : (c : ℕ) → is_special c ≡ false → eqb c 92 ≡ false
 no_slash c h = elim (cases_Bool (eqb c 92)) [
@@ -226,7 +226,7 @@ unescaped_escapes (c ∷ v) =
 pub value_of : (raw : List ℕ) → IsRaw raw → RawOf (unescaped raw) raw
 value_of raw h = subst (λ (v : List ℕ). RawOf v raw) (sym (ap unescaped h.of.is ∙ unescaped_escapes h.value)) h.of
 
-pub quoted_part : {side : Side} → Part side true Closed QuotedText quoted_at
+pub quoted_part : {side : Speaker} → Part side true Closed QuotedText quoted_at
 quoted_part = mapped_part {L = RawText} unescaped
     (λ raw t h. let v = value_of raw h.1 in (h.0 ∙ ap (λ (x : List ℕ). 34 ∷ x ++ 34 ∷ []) v.is, v.each))
     (λ v t h. (flat_map escaped v, sym (unescaped_escapes v), (h.0, record { value = v; of = record { is = refl; each = h.1 } })))

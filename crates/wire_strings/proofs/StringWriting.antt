@@ -1,18 +1,18 @@
 -- Literals as they are written.
 use Rattle.std.proofs.Common.{◌≡◌, ℕ, false, List, [], ◌∷◌, ◌++◌, length, refl, sym, ap, ◌∙◌, append_assoc}
-use Rattle.wire_reader.specs.declared.side.Side.{Side}
-use Rattle.wire_reader.specs.declared.side.Side.TheVariants.{Commands, Replies}
+use Rattle.wire_reader.specs.declared.side.Speaker.{Speaker}
+use Rattle.wire_reader.specs.declared.side.Speaker.TheVariants.{Commands, Replies}
 use Rattle.wire_reader.specs.Literal.{Number, MayPlus, Literal}
 use Rattle.wire_tokens.specs.Numbers.{NumberText}
 use Rattle.wire_strings.specs.Literals.{IsLiteral}
 use Rattle.wire_strings.specs.Strings.{OnEitherSide}
 use Rattle.wire_tokens.specs.Writing.{Appended}
 
-no_plus : (side : Side) → MayPlus side false
+no_plus : (side : Speaker) → MayPlus side false
 no_plus Commands = tt
 no_plus Replies = tt
 
-literal_text : (side : Side) (octets digits : List ℕ) → Number (length octets) digits → IsLiteral octets → Literal side octets (123 ∷ ((digits ++ 125 ∷ []) ++ 13 ∷ 10 ∷ octets))
+literal_text : (side : Speaker) (octets digits : List ℕ) → Number (length octets) digits → IsLiteral octets → Literal side octets (123 ∷ ((digits ++ 125 ∷ []) ++ 13 ∷ 10 ∷ octets))
 literal_text side octets digits n h = record {
   front = 123 ∷ [];
   back = (digits ++ 125 ∷ []) ++ 13 ∷ 10 ∷ octets;
@@ -48,5 +48,5 @@ literal_written old brace number close new octets h b n c o =
     }
 
 -- a spelling for both sides is one in replies
-pub in_replies : {L : Side → List ℕ → Type 0} {old new : List ℕ} → Appended (OnEitherSide L) old new → Appended (L Replies) old new
+pub in_replies : {L : Speaker → List ℕ → Type 0} {old new : List ℕ} → Appended (OnEitherSide L) old new → Appended (L Replies) old new
 in_replies a = record { text = a.text; parts = a.parts; spelled = a.spelled Replies }

@@ -4,8 +4,8 @@ use Rattle.std.specs.List.{flat_map, list_all}
 use Rattle.std.proofs.lemmas.Bool.{cases_Bool}
 use Rattle.std.proofs.lemmas.List.{length-append}
 use Rattle.std.proofs.lemmas.List.Concat.{flat_map-cons}
-use Rattle.wire_reader.specs.declared.side.Side.{Side}
-use Rattle.wire_reader.specs.declared.side.Side.TheVariants.{Replies}
+use Rattle.wire_reader.specs.declared.side.Speaker.{Speaker}
+use Rattle.wire_reader.specs.declared.side.Speaker.TheVariants.{Replies}
 use Rattle.wire_reader.specs.declared.lexical.Phase.TheVariants.{Plain}
 use Rattle.wire_reader.specs.Lexical.{phase}
 use Rattle.wire_reader.specs.Literal.{Literal, literal_at}
@@ -49,7 +49,7 @@ raw_fits raw t h =
     let p : Part Replies true Closed RawText raw_at = raw_part in
     by_length (length raw + 2) t ((p.leads refl).after raw t h) (omega (arith, ap length h.0, length-append raw (34 ∷ [])))
 
-pub literal_fits : (side : Side) (octets t : List ℕ) → Literal side octets t → Fits most_literal t
+pub literal_fits : (side : Speaker) (octets t : List ℕ) → Literal side octets t → Fits most_literal t
 literal_fits side octets t h =
     let p : Part side true waits (Literal side) (literal_at side) = literal_part side in
     record { plain = (p.leads refl).after octets t h; few = literal_few side octets t h }
@@ -68,9 +68,9 @@ astring_fits (astrings.Literal octets) t h = literal_fits Replies octets t h
 
 -- ---- as a string of the bytes
 
-string_value : (b : Bool) (side : Side) (value t : List ℕ) → StringBy b value t → ValueText side value t
+string_value : (b : Bool) (side : Speaker) (value t : List ℕ) → StringBy b value t → ValueText side value t
 string_value true side value t h = inr (inl h)
 string_value false side value t h = inr (inr (h side))
 
-pub written_value : (side : Side) (value t : List ℕ) → WrittenString value t → ValueText side value t
+pub written_value : (side : Speaker) (value t : List ℕ) → WrittenString value t → ValueText side value t
 written_value side value t h = string_value (list_all is_text value) side value t h

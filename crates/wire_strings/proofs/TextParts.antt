@@ -3,8 +3,8 @@ use Rattle.std.proofs.Common.{◌≡◌, ℕ, ◌+◌, ◌-◌, ◌<◌, Bool, t
 use Rattle.std.specs.List.{list_all}
 use Rattle.std.proofs.lemmas.Bool.{cases_Bool, true≢false, le-leb, ne_eqb, eqb-true, and_parts, and_from}
 use Rattle.std.proofs.lemmas.List.{append-nil, drop_more, take_all, length-drop}
-use Rattle.wire_reader.specs.declared.side.Side.{Side}
-use Rattle.wire_reader.specs.declared.side.Side.TheVariants.{Commands}
+use Rattle.wire_reader.specs.declared.side.Speaker.{Speaker}
+use Rattle.wire_reader.specs.declared.side.Speaker.TheVariants.{Commands}
 use Rattle.wire_reader.specs.declared.lexical.Phase.{Phase}
 use Rattle.wire_reader.specs.declared.lexical.Phase.TheVariants.{Plain}
 use Rattle.wire_reader.specs.declared.stop.Kind.{Kind}
@@ -51,7 +51,7 @@ no_cr b h = elim (cases_Bool (eqb b 13)) [
 
 -- ---- the text that ends a line
 
-pub last_text_part : {side : Side} → Part side false Closed LastText last_text_at
+pub last_text_part : {side : Speaker} → Part side false Closed LastText last_text_at
 last_text_part {side} = line_part is_text refl no_text side
 
 no_line : (a : List ℕ) → LastText a [] → ⊥
@@ -63,7 +63,7 @@ line_begins : (c : ℕ) (a t : List ℕ) → eqb 13 c ≡ false → t ≡ a ++ c
 line_begins c [] t h e = ap (begins_with c) e ∙ h
 line_begins c (b ∷ a) t h e = ap (begins_with c) e
 
-pub plain_text_part : {side : Side} → Part side false Closed PlainLine plain_text_at
+pub plain_text_part : {side : Speaker} → Part side false Closed PlainLine plain_text_at
 plain_text_part = same_part
     (λ a t h. (h.0.0, record { each = h.0.1; first = sym (line_begins 91 a t refl h.0.0) ∙ h.1 }))
     (λ a t h. ((h.0, h.1.each), line_begins 91 a t refl h.0 ∙ h.1.first))
@@ -158,7 +158,7 @@ Within acc p = texty p ≡ true
 out : (s : List ℕ) (p : Phase) → Within s p → is_in p ≡ false
 out acc p i = texty-out p i
 
-module _ (side : Side) where
+module _ (side : Speaker) where
   keeps : (s t : List ℕ) (p : Phase) (b : ℕ) → Within s p → code_step s b ≡ On t → Within t (next p b) × (asked side p b ≡ None)
   keeps acc t p b i h = elim (stepped acc b) [
     | Closes e g ↦ absurd (on_not_take t acc (sym h ∙ g))
@@ -183,7 +183,7 @@ module _ (side : Side) where
 completes : (s : List ℕ) → (z : List ℕ) × (a : List ℕ) × ScanText code_step s a z
 completes acc = (93 ∷ [], acc, inr (refl, refl))
 
-pub code_text_part : {side : Side} → Part side true Closed BracketText code_text_at
+pub code_text_part : {side : Speaker} → Part side true Closed BracketText code_text_at
 code_text_part {side} = same_part
     (λ a t h. let r = rest_to t [] a h in (r.2 ∙ ap (λ (x : List ℕ). x ++ 93 ∷ []) (sym r.1), ap (list_all is_code_text) r.1 ∙ r.3))
     (λ a t h. subst (ScanText code_step [] a) (sym h.0) (rest_from a [] a refl h.1))
@@ -201,8 +201,8 @@ pub line_closed : (xs rest : List ℕ) (i : ℕ) → i < length xs → get_or xs
 line_closed xs rest i in' cr lf h =
     let all : take (length xs - (i + 1)) (drop (i + 1) xs) ≡ drop (i + 1) xs = take_all (length xs - (i + 1)) (drop (i + 1) xs) (omega (arith, length-drop (i + 1) xs)) in
     let end = (byte_reader 10).sound (drop (i + 1) xs) tt rest (ap (byte_at 10) (sym all) ∙ lf) in
-    let behind : drop (i + 1) xs ≡ 10 ∷ rest = end.parts ∙ ap (λ (x : List ℕ). x ++ rest) end.spelled in
-    let here : drop i xs ≡ 13 ∷ 10 ∷ rest = drop_more xs i 0 in' ∙ ap (λ (b : ℕ). b ∷ drop (i + 1) xs) cr ∙ ap (λ (x : List ℕ). 13 ∷ x) behind in
+    let following : drop (i + 1) xs ≡ 10 ∷ rest = end.parts ∙ ap (λ (x : List ℕ). x ++ rest) end.spelled in
+    let here : drop i xs ≡ 13 ∷ 10 ∷ rest = drop_more xs i 0 in' ∙ ap (λ (b : ℕ). b ∷ drop (i + 1) xs) cr ∙ ap (λ (x : List ℕ). 13 ∷ x) following in
     let read : last_text_at xs ≡ Ok (take i xs, rest) = sym h ∙ ap (scan (line_step is_text) (take i xs, false)) here in
     ((last_text_part {side = Commands}).reader.sound xs (take i xs) rest read).spelled.1
 

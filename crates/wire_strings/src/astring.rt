@@ -5,12 +5,12 @@ ghost use Rattle.wire_reader.specs.Given.{Gives};
 ghost use Rattle.wire_strings.specs.Strings.{OnEitherSide, AStringText, astring_at};
 ghost use Rattle.wire_tokens.specs.Writing.{Appended};
 
-use crate::octets::Octets;
+use crate::octets::LentOctets;
 use crate::quoted::Quoted;
 use crate::string::{lent_literal, lent_quoted};
 use crate::string_writing::write_literal;
 use std::alloc::AllocError;
-use wire_reader::side::Side;
+use wire_reader::side::Speaker;
 use wire_reader::stop::Stop;
 use wire_tokens::atom::{Atom, read_atom};
 
@@ -22,7 +22,7 @@ pub enum AString<'a> {
     /// A quoted string.
     Quoted(Quoted<'a>),
     /// A literal.
-    Literal(Octets<'a>),
+    Literal(LentOctets<'a>),
 }
 
 impl<'a> AString<'a> {
@@ -42,7 +42,7 @@ impl<'a> AString<'a> {
 }
 
 /// Reads an atom or a string; a byte that is no byte of an atom is required after it.
-pub fn read_astring(side: Side, bytes: &[u8]) -> Result<(AString<'_>, &[u8]), Stop>
+pub fn read_astring(side: Speaker, bytes: &[u8]) -> Result<(AString<'_>, &[u8]), Stop>
     ensures { Gives (λ r. (r.0, r.1.now)) result (astring_at side bytes.now) }
 {
     match bytes {

@@ -74,10 +74,10 @@ pub fn read_delimiter(bytes: &[u8]) -> Result<(Delimiter, &[u8]), Stop>
     let rest = byte(b'"', bytes)?;
     match rest {
         [] => Err(Stop::Ends(None)),
-        [b'\\', behind @ ..] => escaped(behind),
-        [c, behind @ ..] => {
+        [b'\\', following @ ..] => escaped(following),
+        [c, following @ ..] => {
             if *c != b'"' && is_text(*c) {
-                closed(*c, behind)
+                closed(*c, following)
             } else {
                 Err(Stop::Fails(Kind::Syntax, rest.len()))
             }
@@ -91,9 +91,9 @@ fn escaped(bytes: &[u8]) -> Result<(Delimiter, &[u8]), Stop>
 {
     match bytes {
         [] => Err(Stop::Ends(None)),
-        [c, behind @ ..] => {
+        [c, following @ ..] => {
             if is_special(*c) {
-                closed(*c, behind)
+                closed(*c, following)
             } else {
                 Err(Stop::Fails(Kind::Syntax, bytes.len()))
             }

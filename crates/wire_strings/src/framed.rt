@@ -10,14 +10,14 @@ use std::alloc::AllocError;
 pub(crate) fn write_framed(
     before: &[u8],
     text: &[u8],
-    behind: &[u8],
+    following: &[u8],
     out: &mut Vec<u8>,
 ) -> Result<(), AllocError>
-    ensures ok { OnOk result (out.new.items ≡ out.old.items ++ (before.now ++ (text.now ++ behind.now))) }
+    ensures ok { OnOk result (out.new.items ≡ out.old.items ++ (before.now ++ (text.now ++ following.now))) }
     ensures err { OnErr result (out.new.items ≡ out.old.items) }
 {
     let start = out.len();
-    let written = append_framed(before, text, behind, out);
+    let written = append_framed(before, text, following, out);
     if written.is_err() {
         out.truncate(start);
     }
@@ -28,14 +28,14 @@ pub(crate) fn write_framed(
 fn append_framed(
     before: &[u8],
     text: &[u8],
-    behind: &[u8],
+    following: &[u8],
     out: &mut Vec<u8>,
 ) -> Result<(), AllocError>
-    ensures ok { OnOk result (out.new.items ≡ out.old.items ++ (before.now ++ (text.now ++ behind.now))) }
+    ensures ok { OnOk result (out.new.items ≡ out.old.items ++ (before.now ++ (text.now ++ following.now))) }
     ensures kept { OnErr result (take (length out.old.items) out.new.items ≡ out.old.items) }
 {
     out.extend_from_slice(before)?;
     out.extend_from_slice(text)?;
-    out.extend_from_slice(behind)?;
+    out.extend_from_slice(following)?;
     Ok(())
 }

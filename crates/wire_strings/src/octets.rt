@@ -9,7 +9,7 @@ ghost use Rattle.wire_strings.specs.Literals.{IsLiteral};
 
 use std::marker::Model;
 use wire_reader::literal::literal;
-use wire_reader::side::Side;
+use wire_reader::side::Speaker;
 use wire_reader::stop::Stop;
 
 /// The greatest number of octets of a literal.
@@ -17,11 +17,11 @@ pub const OCTETS_MAX: usize = 16777238;
 
 /// The octets of a literal, lent: at most 16777238, none of them 0.
 #[derive(Drop)]
-pub struct Octets<'a> {
+pub struct LentOctets<'a> {
     bytes: &'a [u8],
 }
 
-impl<'a> Model for Octets<'a> {
+impl<'a> Model for LentOctets<'a> {
     ghost use Rattle.std.specs.Prelude.{ℕ, List};
     ghost use Rattle.wire_strings.specs.Literals.{IsLiteral};
 
@@ -32,13 +32,13 @@ impl<'a> Model for Octets<'a> {
     ghost invariant = { λ o. IsLiteral o.bytes.now };
 }
 
-impl<'a> Octets<'a> {
+impl<'a> LentOctets<'a> {
     /// These bytes as the octets of a literal, or none if there are too many or one is 0.
-    pub fn read(bytes: &'a [u8]) -> Option<Octets<'a>>
+    pub fn read(bytes: &'a [u8]) -> Option<LentOctets<'a>>
         ensures { SomeIff result (IsLiteral bytes.now) bytes.now }
     {
         if bytes.len() <= OCTETS_MAX && all_octets(bytes) {
-            Some(Octets { bytes })
+            Some(LentOctets { bytes })
         } else {
             None
         }
@@ -54,11 +54,11 @@ impl<'a> Octets<'a> {
 }
 
 /// Reads a literal; gives its octets and the bytes after them, of which at least one is required.
-pub fn read_octets(side: Side, bytes: &[u8]) -> Result<(Octets<'_>, &[u8]), Stop>
+pub fn read_octets(side: Speaker, bytes: &[u8]) -> Result<(LentOctets<'_>, &[u8]), Stop>
     ensures { Gives (λ r. (r.0, r.1.now)) result (literal_at side bytes.now) }
 {
     let (octets, rest) = literal(side, bytes)?;
-    Ok((Octets { bytes: octets }, rest))
+    Ok((LentOctets { bytes: octets }, rest))
 }
 
 /// Whether no byte is 0.

@@ -79,19 +79,19 @@ pub fn read_quoted(bytes: &[u8]) -> Result<(Quoted<'_>, &[u8]), Stop>
 fn raw_rest(bytes: &[u8]) -> Result<(Quoted<'_>, &[u8]), Stop>
     ensures { Gives (λ r. (r.0, r.1.now)) result (raw_rest bytes.now) }
 {
-    let mut behind_slash = false;
+    let mut after_slash = false;
     for (i, b) in bytes.iter().enumerate() {
         let b = *b;
-        if behind_slash {
+        if after_slash {
             if !is_special(b) {
                 return Err(Stop::Fails(Kind::Syntax, bytes.len() - i));
             }
-            behind_slash = false;
+            after_slash = false;
         } else if b == b'"' {
             let raw = &bytes[..i];
             return Ok((Quoted { raw }, &bytes[i + 1..]));
         } else if b == b'\\' {
-            behind_slash = true;
+            after_slash = true;
         } else if !is_text(b) {
             return Err(Stop::Fails(Kind::Syntax, bytes.len() - i));
         }
@@ -111,13 +111,13 @@ fn unescaped(alloc: Global, raw: &[u8]) -> Result<Vec<u8>, AllocError>
     ensures { IfOk result (λ v. v.items ≡ unescaped raw.now) }
 {
     let mut value = Vec::with_capacity(alloc, raw.len())?;
-    let mut behind_slash = false;
+    let mut after_slash = false;
     for b in raw {
-        if !behind_slash && *b == b'\\' {
-            behind_slash = true;
+        if !after_slash && *b == b'\\' {
+            after_slash = true;
         } else {
             value.push(*b)?;
-            behind_slash = false;
+            after_slash = false;
         }
     }
     Ok(value)

@@ -5,13 +5,13 @@ ghost use Rattle.wire_reader.specs.Given.{Gives};
 ghost use Rattle.wire_strings.specs.Strings.{OnEitherSide, StringText, lent_quoted_at, lent_literal_at, nil_at, string_at, nstring_at};
 ghost use Rattle.wire_tokens.specs.Writing.{Appended};
 
-use crate::octets::{Octets, read_octets};
+use crate::octets::{LentOctets, read_octets};
 use crate::quoted::{Quoted, read_quoted};
 use crate::string_writing::write_literal;
 use crate::token_end::ended;
 use std::alloc::AllocError;
 use wire_reader::keyword::word;
-use wire_reader::side::Side;
+use wire_reader::side::Speaker;
 use wire_reader::stop::Stop;
 
 /// A string, lent.
@@ -20,7 +20,7 @@ pub enum WireString<'a> {
     /// A quoted string.
     Quoted(Quoted<'a>),
     /// A literal.
-    Literal(Octets<'a>),
+    Literal(LentOctets<'a>),
 }
 
 impl<'a> WireString<'a> {
@@ -39,7 +39,7 @@ impl<'a> WireString<'a> {
 }
 
 /// Reads a string; a byte that is no byte of an atom is required after it.
-pub fn read_string(side: Side, bytes: &[u8]) -> Result<(WireString<'_>, &[u8]), Stop>
+pub fn read_string(side: Speaker, bytes: &[u8]) -> Result<(WireString<'_>, &[u8]), Stop>
     ensures { Gives (λ r. (r.0, r.1.now)) result (string_at side bytes.now) }
 {
     match bytes {
@@ -56,7 +56,7 @@ pub fn read_string(side: Side, bytes: &[u8]) -> Result<(WireString<'_>, &[u8]), 
 }
 
 /// Reads a string, or NIL in any case, which is none; a byte that is no byte of an atom is required after it.
-pub fn read_nstring(side: Side, bytes: &[u8]) -> Result<(Option<WireString<'_>>, &[u8]), Stop>
+pub fn read_nstring(side: Speaker, bytes: &[u8]) -> Result<(Option<WireString<'_>>, &[u8]), Stop>
     ensures { Gives (λ r. (r.0, r.1.now)) result (nstring_at side bytes.now) }
 {
     match bytes {
@@ -81,7 +81,7 @@ pub(crate) fn lent_quoted(bytes: &[u8]) -> Result<(Quoted<'_>, &[u8]), Stop>
 }
 
 /// A literal, ended as an atom is.
-pub(crate) fn lent_literal(side: Side, bytes: &[u8]) -> Result<(Octets<'_>, &[u8]), Stop>
+pub(crate) fn lent_literal(side: Speaker, bytes: &[u8]) -> Result<(LentOctets<'_>, &[u8]), Stop>
     ensures { Gives (λ r. (r.0, r.1.now)) result (lent_literal_at side bytes.now) }
 {
     let (octets, rest) = read_octets(side, bytes)?;

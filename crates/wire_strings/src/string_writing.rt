@@ -9,7 +9,7 @@ ghost use Rattle.wire_strings.specs.Literals.{IsLiteral};
 ghost use Rattle.wire_strings.specs.Strings.{OnEitherSide};
 ghost use Rattle.wire_tokens.specs.Writing.{Appended, Extended};
 
-use crate::octets::Octets;
+use crate::octets::LentOctets;
 use crate::quoted::is_special;
 use std::alloc::AllocError;
 use wire_tokens::number::write_number;
@@ -58,7 +58,7 @@ fn append_escaped(b: u8, out: &mut Vec<u8>) -> Result<(), AllocError>
 /// Writes octets as a literal `{n}`, without `+`.
 ///
 /// `AllocError`: memory ran out, and nothing is written.
-pub fn write_literal(octets: &Octets<'_>, out: &mut Vec<u8>) -> Result<(), AllocError>
+pub fn write_literal(octets: &LentOctets<'_>, out: &mut Vec<u8>) -> Result<(), AllocError>
     ensures ok { OnOk result (Appended (OnEitherSide (λ side. Literal side octets.now)) out.old.items out.new.items) }
     ensures err { OnErr result (out.new.items ≡ out.old.items) }
 {

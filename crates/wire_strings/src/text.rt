@@ -9,11 +9,11 @@ ghost use Rattle.wire_tokens.specs.Writing.{Appended};
 
 use crate::astring::{AString, read_astring};
 use crate::line_text::all_text;
-use crate::octets::Octets;
+use crate::octets::LentOctets;
 use crate::string_writing::{write_literal, write_quoted};
 use std::alloc::{AllocError, Global};
 use std::marker::Model;
-use wire_reader::side::Side;
+use wire_reader::side::Speaker;
 use wire_reader::stop::ReadError;
 
 /// Bytes for which a quoted string or a literal stands: all of them are 32 to 255 except 127, or they are at most
@@ -39,7 +39,7 @@ impl Text {
     pub fn from_vec(bytes: Vec<u8>) -> Option<Text>
         ensures { SomeIff result (IsValue bytes.items) bytes.items }
     {
-        if all_text(&bytes) || Octets::read(&bytes).is_some() {
+        if all_text(&bytes) || LentOctets::read(&bytes).is_some() {
             Some(Text { bytes })
         } else {
             None
@@ -78,7 +78,7 @@ impl Text {
         if all_text(&self.bytes) {
             return write_quoted(&self.bytes, out);
         }
-        match Octets::read(&self.bytes) {
+        match LentOctets::read(&self.bytes) {
             Some(octets) => write_literal(&octets, out),
             None => unreachable!(),
         }
@@ -86,7 +86,7 @@ impl Text {
 }
 
 /// Reads an atom or a string; a byte that is no byte of an atom is required after it. Gives the bytes for which it stands.
-pub fn read_text(alloc: Global, side: Side, bytes: &[u8]) -> Result<(Text, &[u8]), ReadError>
+pub fn read_text(alloc: Global, side: Speaker, bytes: &[u8]) -> Result<(Text, &[u8]), ReadError>
     ensures { GivesOr (λ r. (r.0, r.1.now)) result (value_at side bytes.now) }
 {
     let (string, rest) = read_astring(side, bytes)?;

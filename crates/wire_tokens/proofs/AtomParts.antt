@@ -3,7 +3,7 @@ use Rattle.std.proofs.Common.{◌≡◌, ℕ, ◌-◌, ◌≤◌, Bool, true, Li
 use Rattle.std.specs.List.{list_all}
 use Rattle.std.proofs.lemmas.List.{length-take-le, drop-replicate}
 use Rattle.std.proofs.Math.Seq.{take-append_seam}
-use Rattle.wire_reader.specs.declared.side.Side.{Side}
+use Rattle.wire_reader.specs.declared.side.Speaker.{Speaker}
 use Rattle.wire_reader.specs.Spelling.{IsRun}
 use Rattle.wire_reader.proofs.Reader.{Open}
 use Rattle.wire_reader.proofs.Part.{Part}
@@ -24,8 +24,8 @@ in_tag text self bytes h same e =
     record { tag = subst IsTag (sym front) h; long = ap length front; zeros = whole ∙ ap padded (sym front) }
 
 -- `A` stands for a letter
-pub atom_part : {side : Side} → Part side true (Open is_atom_byte) AtomText atom_at
+pub atom_part : {side : Speaker} → Part side true (Open is_atom_byte) AtomText atom_at
 atom_part = text_part is_atom_byte 255 65 refl refl (omega arith)
 
-pub tag_part : {side : Side} → Part side true (Open is_tag_byte) TagText tag_at
+pub tag_part : {side : Speaker} → Part side true (Open is_tag_byte) TagText tag_at
 tag_part = text_part is_tag_byte 32 65 refl refl (omega arith)

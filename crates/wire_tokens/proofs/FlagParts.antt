@@ -1,7 +1,7 @@
 -- Lists of flags in brackets, as parts of a grammar.
 use Rattle.std.proofs.Common.{◌≡◌, ℕ, true, false, List, [], ◌∷◌, ◌++◌, refl, sym, ap, subst, ◌∙◌, inl, inr, ◌⊎◌}
 use Rattle.std.proofs.lemmas.Bool.{eqb-true}
-use Rattle.wire_reader.specs.declared.side.Side.{Side}
+use Rattle.wire_reader.specs.declared.side.Speaker.{Speaker}
 use Rattle.wire_reader.specs.Spelling.{◌⨾◌, Is}
 use Rattle.wire_reader.proofs.Reader.{Closed}
 use Rattle.wire_reader.proofs.Parts.{after_closed, after_open}
@@ -10,7 +10,7 @@ use Rattle.wire_reader.proofs.Part.{Part, same_part, mapped_part, skip_part, kee
 use Rattle.wire_tokens.specs.declared.spaced.NameKind.{NameKind}
 use Rattle.wire_tokens.specs.declared.spaced.NameKind.TheVariants as kinds
 use Rattle.wire_tokens.specs.Names.{IsFlag, IsName, SpacedText}
-use Rattle.wire_tokens.specs.FlagLists.{ListedText, BracketedText, FlagsText, PermanentFlagsText, is_close, no_name_at, behind_bracket, bracketed_at, flags_at, permanent_flags_at}
+use Rattle.wire_tokens.specs.FlagLists.{ListedText, BracketedText, FlagsText, PermanentFlagsText, is_close, no_name_at, after_bracket, bracketed_at, flags_at, permanent_flags_at}
 use Rattle.wire_tokens.proofs.NameParts.{atom_begins, spaced_part}
 
 abbrev Text : Type 0
@@ -48,15 +48,15 @@ NoName names t = (names ≡ []) × Is (41 ∷ []) t
 abbrev SomeNames : NameKind → List Text → Text → Type 0
 SomeNames kind names = SpacedText kind names ⨾ Is (41 ∷ [])
 
-no_name_part : {side : Side} → Part side true Closed NoName no_name_at
+no_name_part : {side : Speaker} → Part side true Closed NoName no_name_at
 no_name_part = mapped_part (λ _. []) (λ _ t h. (refl, h)) (λ names t h. (tt, h.0, h.1)) (byte_part 41 refl)
 
-behind_part : {side : Side} (kind : NameKind) → Part side true Closed (λ names t. NoName names t ⊎ SomeNames kind names t) (behind_bracket kind)
-behind_part kind = first_part is_close no_name_part (keep_part (spaced_part kind) (byte_part 41 refl) (after_open _ 41 refl))
+after_part : {side : Speaker} (kind : NameKind) → Part side true Closed (λ names t. NoName names t ⊎ SomeNames kind names t) (after_bracket kind)
+after_part kind = first_part is_close no_name_part (keep_part (spaced_part kind) (byte_part 41 refl) (after_open _ 41 refl))
     (λ names t h. subst (Begins true is_close) (sym h.1) refl) (λ names t h. subst Open' (sym h.parts) (longer h.front h.back (names_begin kind names h.front h.first)))
 
-pub bracketed_part : {side : Side} (kind : NameKind) → Part side true Closed (BracketedText kind) (bracketed_at kind)
-bracketed_part {side} kind = same_part to from (skip_part (byte_part 40 refl) (behind_part kind) (after_closed (behind_bracket kind)))
+pub bracketed_part : {side : Speaker} (kind : NameKind) → Part side true Closed (BracketedText kind) (bracketed_at kind)
+bracketed_part {side} kind = same_part to from (skip_part (byte_part 40 refl) (after_part kind) (after_closed (after_bracket kind)))
   where
     to : (names : List Text) (t : Text) → (Is (40 ∷ []) ⨾ (λ t. NoName names t ⊎ SomeNames kind names t)) t → BracketedText kind names t
     to names t h = record { front = h.front; back = h.back; parts = h.parts; first = h.first; second = inside names h.back h.second }
@@ -76,8 +76,8 @@ bracketed_part {side} kind = same_part to from (skip_part (byte_part 40 refl) (b
 
 -- ---- lists of flags
 
-pub flags_part : {side : Side} → Part side true Closed FlagsText flags_at
+pub flags_part : {side : Speaker} → Part side true Closed FlagsText flags_at
 flags_part = bracketed_part kinds.Flag
 
-pub permanent_flags_part : {side : Side} → Part side true Closed PermanentFlagsText permanent_flags_at
+pub permanent_flags_part : {side : Speaker} → Part side true Closed PermanentFlagsText permanent_flags_at
 permanent_flags_part = bracketed_part kinds.PermanentFlag

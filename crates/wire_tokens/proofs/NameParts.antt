@@ -1,7 +1,7 @@
 -- Flags and other names as parts of a grammar, and lists of them with a space between.
 use Rattle.std.proofs.Common.{◌≡◌, ℕ, Bool, true, false, List, [], ◌∷◌, ◌++◌, refl, sym, ap, subst, ◌∙◌, inl, inr, ◌⊎◌, arith}
 use Rattle.std.proofs.lemmas.Bool.{cases_Bool, eqb-true, true≢false, and_parts}
-use Rattle.wire_reader.specs.declared.side.Side.{Side}
+use Rattle.wire_reader.specs.declared.side.Speaker.{Speaker}
 use Rattle.wire_reader.specs.Spelling.{◌⨾◌, Is}
 use Rattle.wire_reader.proofs.Reader.{Open}
 use Rattle.wire_reader.proofs.Parts.{after_closed}
@@ -37,10 +37,10 @@ begins test c P fits t h = subst (Begins true test) (sym (h.parts ∙ ap (λ (x 
 abbrev Backslashed : Text → Text → Type 0
 Backslashed name t = (a : Text) × (name ≡ 92 ∷ a) × AtomText a t
 
-backslashed_part : {side : Side} → Part side true (Open is_atom_byte) Backslashed backslashed_at
+backslashed_part : {side : Speaker} → Part side true (Open is_atom_byte) Backslashed backslashed_at
 backslashed_part = mapped_part (λ a. 92 ∷ a) (λ a t h. (a, refl, h)) (λ name t h. h) atom_part
 
-pub flag_part : {side : Side} → Part side true (Open is_atom_byte) (NameText kinds.Flag) flag_at
+pub flag_part : {side : Speaker} → Part side true (Open is_atom_byte) (NameText kinds.Flag) flag_at
 flag_part {side} = same_part to from
     (first_part is_backslash (skip_part (byte_part 92 refl) backslashed_part (after_closed backslashed_at)) atom_part
     (λ name t h. begins is_backslash 92 (Backslashed name) refl t h) (λ name t h. atom_begins is_backslash 92 (λ b e. eqb-true b 92 e) refl t h.1))
@@ -61,17 +61,17 @@ flag_part {side} = same_part to from
 abbrev Star : Text → Text → Type 0
 Star name t = (name ≡ star) × Is (42 ∷ []) t
 
-star_part : {side : Side} → Part side true (Open is_atom_byte) Star star_at
+star_part : {side : Speaker} → Part side true (Open is_atom_byte) Star star_at
 star_part = ended_part is_atom_byte (mapped_part (λ _. star) (λ _ t h. (refl, h)) (λ name t h. (tt, h.0, h.1)) (byte_part 42 refl))
 
 abbrev StarOrAtom : Text → Text → Type 0
 StarOrAtom name t = Star name t ⊎ Backslashed name t
 
-star_or_atom_part : {side : Side} → Part side true (Open is_atom_byte) StarOrAtom star_or_atom_at
+star_or_atom_part : {side : Speaker} → Part side true (Open is_atom_byte) StarOrAtom star_or_atom_at
 star_or_atom_part = first_part is_star star_part backslashed_part
     (λ name t h. subst (Begins true is_star) (sym h.1) refl) (λ name t h. atom_begins is_star 42 (λ b e. eqb-true b 42 e) refl t h.2.1)
 
-pub permanent_flag_part : {side : Side} → Part side true (Open is_atom_byte) (NameText kinds.PermanentFlag) permanent_flag_at
+pub permanent_flag_part : {side : Speaker} → Part side true (Open is_atom_byte) (NameText kinds.PermanentFlag) permanent_flag_at
 permanent_flag_part {side} = same_part to from
     (first_part is_backslash (skip_part (byte_part 92 refl) star_or_atom_part (after_closed star_or_atom_at)) atom_part
     (λ name t h. begins is_backslash 92 (StarOrAtom name) refl t h) (λ name t h. atom_begins is_backslash 92 (λ b e. eqb-true b 92 e) refl t h.1))
@@ -91,13 +91,13 @@ permanent_flag_part {side} = same_part to from
 
 -- ---- each kind, and lists
 
-pub name_part : {side : Side} (kind : NameKind) → Part side true (Open is_atom_byte) (NameText kind) (name_at kind)
+pub name_part : {side : Speaker} (kind : NameKind) → Part side true (Open is_atom_byte) (NameText kind) (name_at kind)
 name_part kinds.Atom = atom_part
 name_part kinds.Flag = flag_part
 name_part kinds.PermanentFlag = permanent_flag_part
 
-pub spaced_part : {side : Side} (kind : NameKind) → Part side true (with_sep (Open is_atom_byte) 32) (SpacedText kind) (spaced_at kind)
+pub spaced_part : {side : Speaker} (kind : NameKind) → Part side true (with_sep (Open is_atom_byte) 32) (SpacedText kind) (spaced_at kind)
 spaced_part {side} kind = items_part side 32 refl refl (name_part kind)
 
-pub names_part : {side : Side} → Part side true (with_sep (Open is_atom_byte) 32) NamesText names_at
+pub names_part : {side : Speaker} → Part side true (with_sep (Open is_atom_byte) 32) NamesText names_at
 names_part = spaced_part kinds.Atom

@@ -2,7 +2,7 @@
 use Rattle.std.proofs.Common.{◌≡◌, ℕ, ◌+◌, ◌*◌, ◌-◌, ◌≤◌, Bool, true, cond, eqb, leb, ltb, List, [], ◌∷◌, Option, None, Some, Ok, Err, refl, sym, ap, subst, ◌∙◌, inl, inr, zero-add, arith}
 use Rattle.std.specs.List.{list_all}
 use Rattle.std.proofs.lemmas.Bool.{cases_Bool, eqb-true, eqb-false, ne_eqb, leb-true, le-leb, ltb-false, le-ltb, and_parts, and_from}
-use Rattle.wire_reader.specs.declared.side.Side.{Side}
+use Rattle.wire_reader.specs.declared.side.Speaker.{Speaker}
 use Rattle.wire_reader.specs.declared.stop.Kind.{Kind}
 use Rattle.wire_reader.specs.declared.stop.Kind.TheVariants.{Syntax}
 use Rattle.wire_reader.specs.Spelling.{is_digit}
@@ -120,12 +120,12 @@ module _ (least most : ℕ) (low : least ≤ 1) (high : 9 ≤ most) where
   completes None = (49 ∷ [], 1, (refl, (Some 1, ap or_syntax (ap (at_first 1) (le-ltb 1 least low)), refl)))
   completes (Some n) = ([], n, refl)
 
-  pub digits_part : {side : Side} → Part side true (Open is_digit) Within (digits_at least most)
+  pub digits_part : {side : Speaker} → Part side true (Open is_digit) Within (digits_at least most)
   digits_part {side} = same_part to_number from_number
       (run_part side is_digit (number_go least most) read_so_far refl (λ s b k h. or_syntax-err (with_digit least most s (b - 48)) k h) completes None)
 
-pub number_part : {side : Side} → Part side true (Open is_digit) NumberText number_at
+pub number_part : {side : Speaker} → Part side true (Open is_digit) NumberText number_at
 number_part = same_part (λ n t h. (h.0, h.2)) (λ n t h. (h.0, omega arith, h.1)) (digits_part 0 greatest (omega arith) (omega arith))
 
-pub nz_part : {side : Side} → Part side true (Open is_digit) NzText nz_at
+pub nz_part : {side : Speaker} → Part side true (Open is_digit) NzText nz_at
 nz_part = same_part (λ n t h. (h.0, (let l = h.1 in omega (arith, l)), h.2)) (λ n t h. (h.0, (let l = h.1 in omega (arith, l)), h.2)) (digits_part 1 greatest (omega arith) (omega arith))

@@ -3,8 +3,8 @@ use Rattle.std.proofs.Common.{◌≡◌, ℕ, true, false, eqb, List, [], ◌∷
 use Rattle.std.specs.List.{list_all}
 use Rattle.std.proofs.lemmas.Bool.{ne_eqb, and_parts, not-true}
 use Rattle.std.proofs.lemmas.List.{append-nil}
-use Rattle.wire_reader.specs.declared.side.Side.{Side}
-use Rattle.wire_reader.specs.declared.side.Side.TheVariants.{Commands}
+use Rattle.wire_reader.specs.declared.side.Speaker.{Speaker}
+use Rattle.wire_reader.specs.declared.side.Speaker.TheVariants.{Commands}
 use Rattle.wire_reader.specs.declared.stop.Stop.{Stop}
 use Rattle.wire_reader.specs.Spelling.{◌⨾◌, Is, OptText, is_digit}
 use Rattle.wire_reader.specs.Reading.{◌>>=◌, mapped}
@@ -66,7 +66,7 @@ from_end : (x : SetEnd) (t : List ℕ) → EndText x t → OfStar x t ⊎ OfNumb
 from_end (Number n) t h = inr h
 from_end Greatest t h = inl h
 
-pub end_part : {side : Side} → Part side true (Open is_digit) EndText end_at
+pub end_part : {side : Speaker} → Part side true (Open is_digit) EndText end_at
 unfolding end_at
 end_part {side} = same_part to_end from_end
     (first_part is_star
@@ -74,7 +74,7 @@ end_part {side} = same_part to_end from_end
     (mapped_part {M = OfNumber} number_end (λ n t h. h) from_number nz_part)
     star_first number_first)
 
-pub second_part : {side : Side} → Part side true (Open (goes_on is_digit 58)) EndText second_at
+pub second_part : {side : Speaker} → Part side true (Open (goes_on is_digit 58)) EndText second_at
 unfolding second_at
 second_part {side} = ended_part is_colon end_part
 
@@ -91,7 +91,7 @@ from_item : (i : SetItem) (t : List ℕ) → ItemText i t → (v : SetEnd × Opt
 from_item (One x) t h = ((x, None), refl, record { front = t; back = []; parts = sym (append-nil t); first = h; second = refl })
 from_item (Range x y) t h = ((x, Some y), refl, h)
 
-pub item_part : {side : Side} → Part side true (Open (goes_on is_digit 58)) ItemText item_at
+pub item_part : {side : Speaker} → Part side true (Open (goes_on is_digit 58)) ItemText item_at
 unfolding item_at
 item_part {side} = mapped_part item_of to_item from_item
     (both_part end_part (opt_part is_digit 58 refl second_part) (opt_follows is_digit 58 second_at refl))
@@ -110,7 +110,7 @@ item_one xs x b bs h colon =
 
 -- ---- a set
 
-pub set_part : {side : Side} → Part side true (Open is_set_byte) SetText set_at
+pub set_part : {side : Speaker} → Part side true (Open is_set_byte) SetText set_at
 unfolding set_at
 set_part {side} = items_part side 44 refl refl item_part
 

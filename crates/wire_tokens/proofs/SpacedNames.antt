@@ -5,7 +5,7 @@ use Rattle.std.proofs.lemmas.Bool.{cases_Bool, eqb-true, true≢false, and_parts
 use Rattle.std.proofs.lemmas.List.Splits.{slice_split_none, slice_split_at}
 use Rattle.std.proofs.lemmas.List.Sums.{AllPass-from_list_all}
 use Rattle.wire_reader.specs.declared.stop.Stop.{Stop}
-use Rattle.wire_reader.specs.declared.side.Side.TheVariants.{Commands}
+use Rattle.wire_reader.specs.declared.side.Speaker.TheVariants.{Commands}
 use Rattle.wire_reader.specs.Reading.{◌>>=◌}
 use Rattle.wire_reader.specs.Folding.{fold_by}
 use Rattle.wire_reader.proofs.Reader.{bind_ok, bind_err}

@@ -46,11 +46,11 @@ is_close b = b == 41
 abbrev pub no_name_at : List ℕ → Result (List (List ℕ) × List ℕ) Stop
 no_name_at = mapped (λ _. []) (byte_at 41)
 
-abbrev pub behind_bracket : NameKind → List ℕ → Result (List (List ℕ) × List ℕ) Stop
-behind_bracket kind = by_first is_close no_name_at (keep (spaced_at kind) (byte_at 41))
+abbrev pub after_bracket : NameKind → List ℕ → Result (List (List ℕ) × List ℕ) Stop
+after_bracket kind = by_first is_close no_name_at (keep (spaced_at kind) (byte_at 41))
 
 abbrev pub bracketed_at : NameKind → List ℕ → Result (List (List ℕ) × List ℕ) Stop
-bracketed_at kind = skip (byte_at 40) (behind_bracket kind)
+bracketed_at kind = skip (byte_at 40) (after_bracket kind)
 
 abbrev pub flags_at : List ℕ → Result (List (List ℕ) × List ℕ) Stop
 flags_at = bracketed_at kinds.Flag

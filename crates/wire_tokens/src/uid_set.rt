@@ -231,7 +231,7 @@ fn end(bytes: &[u8]) -> Result<(SetEnd, &[u8]), Stop>
 {
     match bytes {
         [] => Err(Stop::Ends(None)),
-        [b'*', rest @ ..] => behind_star(rest),
+        [b'*', rest @ ..] => after_star(rest),
         _ => {
             let (number, rest) = nz(bytes)?;
             Ok((SetEnd::Number(number), rest))
@@ -240,7 +240,7 @@ fn end(bytes: &[u8]) -> Result<(SetEnd, &[u8]), Stop>
 }
 
 /// The end `*`, where these bytes follow it.
-fn behind_star(bytes: &[u8]) -> Result<(SetEnd, &[u8]), Stop>
+fn after_star(bytes: &[u8]) -> Result<(SetEnd, &[u8]), Stop>
     ensures { Gives (λ r. (r.0, r.1.now)) result (ended_by is_digit SetEnd.Greatest bytes.now) }
 {
     match bytes {

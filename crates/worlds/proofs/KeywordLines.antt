@@ -102,7 +102,7 @@ pub adds : (old new : List Keyword) (text : List ℕ) → 2 ≤ length text → 
 adds old new text long space m above none is = record {
   keyword = record { letter = letter_in text; name = name_in text };
   text = text_of text long space;
-  behind = is ∙ stands_last (record { letter = letter_in text; name = name_in text }) old above;
+  following = is ∙ stands_last (record { letter = letter_in text; name = name_in text }) old above;
   is_map = subst IsMap (sym is) (map_with (letter_in text) (name_in text) old m none);
 }
 
@@ -124,14 +124,14 @@ no_next_refused keywords line fault other (inr refused) = λ k is m.
 
 -- ---- one line more
 
-pub lines_more : (keywords : List Keyword) (k : Keyword) (behind : List ℕ) → keyword_lines (keywords ++ k ∷ []) behind ≡ keyword_lines keywords (codes "keyword " ++ (keyword_text k ++ 10 ∷ behind))
-lines_more [] k behind = refl
-lines_more (x ∷ xs) k behind = ap (λ (l : List ℕ). codes "keyword " ++ (keyword_text x ++ 10 ∷ l)) (lines_more xs k behind)
+pub lines_more : (keywords : List Keyword) (k : Keyword) (following : List ℕ) → keyword_lines (keywords ++ k ∷ []) following ≡ keyword_lines keywords (codes "keyword " ++ (keyword_text k ++ 10 ∷ following))
+lines_more [] k following = refl
+lines_more (x ∷ xs) k following = ap (λ (l : List ℕ). codes "keyword " ++ (keyword_text x ++ 10 ∷ l)) (lines_more xs k following)
 
-pub given_more : (old new : List Keyword) (line behind rest text : List ℕ) → text ≡ keyword_lines old rest → IsLine (codes "keyword ") line behind rest → Adds old line new
-    → text ≡ keyword_lines new behind
-given_more old new line behind rest text is first adds =
+pub given_more : (old new : List Keyword) (line following rest text : List ℕ) → text ≡ keyword_lines old rest → IsLine (codes "keyword ") line following rest → Adds old line new
+    → text ≡ keyword_lines new following
+given_more old new line following rest text is first adds =
     is
-    ∙ ap (λ (t : List ℕ). keyword_lines old t) (first.parts ∙ ap (λ (t : List ℕ). codes "keyword " ++ (t ++ 10 ∷ behind)) (sym adds.text))
-    ∙ sym (lines_more old adds.keyword behind)
-    ∙ ap (λ (l : List Keyword). keyword_lines l behind) (sym adds.behind)
+    ∙ ap (λ (t : List ℕ). keyword_lines old t) (first.parts ∙ ap (λ (t : List ℕ). codes "keyword " ++ (t ++ 10 ∷ following)) (sym adds.text))
+    ∙ sym (lines_more old adds.keyword following)
+    ∙ ap (λ (l : List Keyword). keyword_lines l following) (sym adds.following)

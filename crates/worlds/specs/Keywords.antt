@@ -11,15 +11,15 @@ abbrev pub keyword_text : Keyword → List ℕ
 keyword_text k = k.letter ∷ 32 ∷ k.name
 
 -- a line for each keyword, and what follows them
-abbrev pub keyword_lines : List Keyword → (behind : List ℕ) → List ℕ
-keyword_lines [] behind = behind
-keyword_lines (k ∷ ks) behind = codes "keyword " ++ (keyword_text k ++ 10 ∷ keyword_lines ks behind)
+abbrev pub keyword_lines : List Keyword → (following : List ℕ) → List ℕ
+keyword_lines [] following = following
+keyword_lines (k ∷ ks) following = codes "keyword " ++ (keyword_text k ++ 10 ∷ keyword_lines ks following)
 
--- the keyword lines with which a text begins are those of a map; `behind` is what follows them
-pub record Gives (keywords : List Keyword) (behind text : List ℕ) : Type 0 where
+-- the keyword lines with which a text begins are those of a map; `following` is what follows them
+pub record Gives (keywords : List Keyword) (following text : List ℕ) : Type 0 where
   pub is_map : IsMap keywords
-  pub lines : text ≡ keyword_lines keywords behind
-  pub all : (line rest : List ℕ) → ¬ IsLine (codes "keyword ") line rest behind
+  pub lines : text ≡ keyword_lines keywords following
+  pub all : (line rest : List ℕ) → ¬ IsLine (codes "keyword ") line rest following
 
 -- no map has these keywords and, as its last one, that of a line
 abbrev pub HasNoNext : List Keyword → (line : List ℕ) → Type 0
@@ -35,11 +35,11 @@ IsOfBadNext keywords line number NoMemory = Unit {0}
 pub record IsFirstBad (taken : ℕ) (text : List ℕ) (number : ℕ) : Type 0 where
   pub keywords : List Keyword
   pub line : List ℕ
-  pub behind : List ℕ
+  pub following : List ℕ
   pub rest : List ℕ
   pub is_map : IsMap keywords
   pub lines : text ≡ keyword_lines keywords rest
-  pub is_line : IsLine (codes "keyword ") line behind rest
+  pub is_line : IsLine (codes "keyword ") line following rest
   pub bad : HasNoNext keywords line
   pub number_is : number ≡ taken + length keywords + 1
 
@@ -52,15 +52,15 @@ IsOfFirstBad taken text NoMemory = Unit {0}
 pub record Adds (old : List Keyword) (line : List ℕ) (new : List Keyword) : Type 0 where
   pub keyword : Keyword
   pub text : keyword_text keyword ≡ line
-  pub behind : new ≡ old ++ keyword ∷ []
+  pub following : new ≡ old ++ keyword ∷ []
   pub is_map : IsMap new
 
 -- a text begins with a line `sync` and a line `expunge`, and goes on with the keyword lines of a map
-pub record IsHead (keywords : List Keyword) (behind text : List ℕ) : Type 0 where
+pub record IsHead (keywords : List Keyword) (following text : List ℕ) : Type 0 where
   pub sync : List ℕ
   pub from_expunge : List ℕ
   pub expunge : List ℕ
   pub from_keywords : List ℕ
   pub first : IsLine (codes "sync ") sync from_expunge text
   pub second : IsLine (codes "expunge ") expunge from_keywords from_expunge
-  pub gives : Gives keywords behind from_keywords
+  pub gives : Gives keywords following from_keywords

@@ -2,7 +2,7 @@
 use Rattle.std.specs.Prelude.{All, List, [], map}
 use Rattle.mailcore.specs.declared.keywords.Keyword.{Keyword}
 use Rattle.mailcore.specs.declared.listing.Item.{Item}
-use Rattle.mailcore.specs.declared.mailbox.Mailbox.{Mailbox}
+use Rattle.mailcore.specs.declared.mailbox.StoredMailbox.{StoredMailbox}
 use Rattle.mailcore.specs.declared.mailbox.Message.{Message}
 use Rattle.mailcore.specs.KeywordNames.{IsWithin}
 use Rattle.mailcore.specs.Stores.{Store, Waiting}
@@ -10,7 +10,7 @@ use Rattle.rules.specs.World.{World}
 use Rattle.worlds.specs.declared.world.WaitingFile.{WaitingFile}
 use Rattle.worlds.specs.declared.world.World as written
 
-abbrev pub store_of : Mailbox → Store
+abbrev pub store_of : StoredMailbox → Store
 store_of m = record { validity = m.validity; next = m.next; messages = m.messages }
 
 abbrev pub waiting_of : WaitingFile → Waiting

@@ -44,7 +44,7 @@ pub struct ListedWorld {
 
 /// The world that a text gives. Nothing may follow its line `end`.
 pub fn read_listed_world(alloc: Global, text: &[u8]) -> Result<ListedWorld, WorldFault>
-    ensures head { IfOk result (λ w. (behind : List ℕ) × IsHead w.options.keywords behind text.now) }
+    ensures head { IfOk result (λ w. (following : List ℕ) × IsHead w.options.keywords following text.now) }
     ensures far { IfOk result (λ w. AreListedNamed w.options.keywords w.far.items) }
     ensures near { IfOk result (λ w. AreListedNamed w.options.keywords w.near.items) }
     ensures fault { IfErr result (IsUpTo (line_ends text.now + 1)) }

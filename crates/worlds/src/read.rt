@@ -15,14 +15,14 @@ use crate::read_options::read_options;
 use crate::read_state::read_state;
 use crate::world::{Waiting, WaitingFile, World};
 use mailcore::keywords::Keywords;
-use mailcore::mailbox::Mailbox;
+use mailcore::mailbox::StoredMailbox;
 use mailcore::side::Side;
 use std::alloc::Global;
 use texts::lines::Lines;
 
 /// The world that a text gives. Nothing may follow its line `end`.
 pub fn read_world(alloc: Global, text: &[u8], waiting: Waiting) -> Result<World, WorldFault>
-    ensures head { IfOk result (λ w. (behind : List ℕ) × IsHead w.options.keywords behind text.now) }
+    ensures head { IfOk result (λ w. (following : List ℕ) × IsHead w.options.keywords following text.now) }
     ensures named { IfOk result (λ w. IsNamed w.options.keywords (world_of w)) }
     ensures fault { IfErr result (IsUpTo (line_ends text.now + 1)) }
 {
@@ -51,7 +51,7 @@ pub fn take_world(
     waiting: Waiting,
     lines: &mut Lines<'_>,
 ) -> Result<World, WorldFault>
-    ensures head { IfOk result (λ w. (behind : List ℕ) × IsHead w.options.keywords behind lines.old.rest.now) }
+    ensures head { IfOk result (λ w. (following : List ℕ) × IsHead w.options.keywords following lines.old.rest.now) }
     ensures named { IfOk result (λ w. IsNamed w.options.keywords (world_of w)) }
     ensures count { line_count lines.new ≤ line_count lines.old }
     ensures fault { IfErr result (IsUpTo (line_count lines.old + 1)) }
@@ -75,7 +75,7 @@ fn read_mailboxes(
     waiting: Waiting,
     keywords: &Keywords,
     lines: &mut Lines<'_>,
-) -> Result<(Mailbox, Mailbox, Vec<WaitingFile>), WorldFault>
+) -> Result<(StoredMailbox, StoredMailbox, Vec<WaitingFile>), WorldFault>
     ensures text { waiting ≡ Waiting.Kept → IfOk result (λ parts. lines.old.rest.now ≡ mailbox_text Side.Far (store_of parts.0)
         ++ (mailbox_text Side.Near (store_of parts.1) ++ (flat_map waiting_line (map waiting_of parts.2.items) ++ lines.new.rest.now))) }
     ensures far { IfOk result (λ parts. AreNamed keywords.now parts.0.messages []) }

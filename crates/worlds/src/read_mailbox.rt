@@ -17,7 +17,7 @@ use crate::world::{Waiting, WaitingFile};
 use mailcore::fault::PushFault;
 use mailcore::flags::Flags;
 use mailcore::keywords::Keywords;
-use mailcore::mailbox::{Mailbox, Message};
+use mailcore::mailbox::{Message, StoredMailbox};
 use mailcore::mailbox_name::MailboxName;
 use mailcore::octets::Octets;
 use mailcore::side::Side;
@@ -38,7 +38,7 @@ pub fn read_mailbox(
     side: Side,
     keywords: &Keywords,
     lines: &mut Lines<'_>,
-) -> Result<Mailbox, WorldFault>
+) -> Result<StoredMailbox, WorldFault>
     ensures text { IfOk result (λ mailbox. lines.old.rest.now ≡ mailbox_text side (store_of mailbox) ++ lines.new.rest.now) }
     ensures named { IfOk result (λ mailbox. AreNamed keywords.now mailbox.messages []) }
     ensures count { line_count lines.new ≤ line_count lines.old }
@@ -48,7 +48,7 @@ pub fn read_mailbox(
     let line = take_line(lines, mailbox_start)?;
     let (validity, next) = read_numbers(line.text).ok_or(WorldFault::of(line))?;
     let name = MailboxName::inbox(alloc)?;
-    let mut mailbox = Mailbox::new(alloc, name, validity, next);
+    let mut mailbox = StoredMailbox::new(alloc, name, validity, next);
     while let Some(line) = lines.take_if(message_start) {
         let message = read_message(alloc, side, keywords, line)?;
         pushed(line, mailbox.push(message))?;
@@ -150,7 +150,7 @@ pub(crate) fn read_bytes_into(
 pub fn read_waiting(
     alloc: Global,
     waiting: Waiting,
-    near: &mut Mailbox,
+    near: &mut StoredMailbox,
     keywords: &Keywords,
     lines: &mut Lines<'_>,
 ) -> Result<Vec<WaitingFile>, WorldFault>
@@ -201,7 +201,7 @@ pub(crate) fn split_file<'a>(text: &'a [u8], keywords: &Keywords) -> Option<(Fla
 }
 
 /// Makes a waiting file the message with the next UID. `OutOfOrder`: no UID is left.
-fn admit(near: &mut Mailbox, file: WaitingFile) -> Result<(), PushFault>
+fn admit(near: &mut StoredMailbox, file: WaitingFile) -> Result<(), PushFault>
     ensures last { OnOk result (near.new.messages ≡ near.old.messages ++ message_of near.old.next file ∷ []) }
     ensures next { OnOk result (near.new.next ≡ near.old.next + 1) }
     ensures full { IsErrOf result PushFault.OutOfOrder → 0 < near.old.next → near.old.next + 1 ≡ 2 ^ 32 }

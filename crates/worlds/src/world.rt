@@ -1,7 +1,7 @@
 //! A world: two mailboxes, the state of the last run and what a run may do.
 
 use mailcore::flags::Flags;
-use mailcore::mailbox::Mailbox;
+use mailcore::mailbox::StoredMailbox;
 use mailcore::octets::Octets;
 use rules::options::Options;
 use rules::state::SyncState;
@@ -30,9 +30,9 @@ pub struct World {
     /// What the run may do.
     pub options: Options,
     /// The far mailbox.
-    pub far: Mailbox,
+    pub far: StoredMailbox,
     /// The near mailbox.
-    pub near: Mailbox,
+    pub near: StoredMailbox,
     /// The near files that wait for a UID, in the order of their names.
     pub waiting: Vec<WaitingFile>,
     /// What the last run recorded.

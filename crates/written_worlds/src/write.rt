@@ -10,7 +10,7 @@ ghost use Rattle.written_worlds.specs.Written.{store_in, world_in};
 
 use mailcore::flags::Flags;
 use mailcore::keywords::{Keyword, Keywords};
-use mailcore::mailbox::{Mailbox, Message};
+use mailcore::mailbox::{Message, StoredMailbox};
 use mailcore::octets::Octets;
 use mailcore::side::Side;
 use plan_lines::FlagsWord;
@@ -52,7 +52,7 @@ pub struct WrittenMailbox<'a> {
 
 impl<'a> WrittenMailbox<'a> {
     /// This mailbox.
-    pub fn of(mailbox: &'a Mailbox) -> Self
+    pub fn of(mailbox: &'a StoredMailbox) -> Self
         ensures { store_in result ≡ store_of mailbox.now }
     {
         WrittenMailbox {

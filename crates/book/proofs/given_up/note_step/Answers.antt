@@ -2,7 +2,7 @@ use Rattle.std.proofs.Common.{◌≡◌, ◌∙◌, ap, subst, ℕ, List, Some, 
 use Rattle.std.proofs.lemmas.Grind.{common_steps}
 use Rattle.std.proofs.lemmas.Option.{gets}
 use Rattle.rules.specs.declared.entry.Entry.{Entry}
-use Rattle.book.specs.GivingUp.{flags_behind}
+use Rattle.book.specs.GivingUp.{flags_after}
 use Rattle.book.specs.GivenUpParts.{HasNoPair, HasPairAt}
 use Rattle.book.proofs.GivenUpSteps.{get_is, step_gone, step_none, step_set}
 use Rattle.book.proofs.given_up.note_step.Goals as goal
@@ -23,7 +23,7 @@ returns c =
     let here : HasPairAt es c.in-Some.pair.0 c.in-Some.pair.1 at = subst (λ (l : List Entry). HasPairAt l c.in-Some.pair.0 c.in-Some.pair.1 at) c.deref.ensures.value c.in-Some-place_in.ensures in
     let there : slice_get es at ≡ Some entry = grind (arith, common_steps, gets, here.0, c.index_mut.ensures.value) in
     let first : slice_get es at ≡ Some c.index.result.now = grind (arith, common_steps, gets, here.0, c.index.ensures) in
-    step_set es s c.in-Some.pair.0 c.in-Some.pair.1 at (record entry { flags = c.flags_behind-flags.result }) c.requires.pairs c.in-Some.ensures here
-    (λ d. ap (λ (n : ℕ). record entry { flags = n }) c.flags_behind-flags.ensures
-    ∙ ap (λ (x : Entry). record entry { flags = flags_behind s x }) (get_is es at c.index.result.now d first)
-    ∙ ap (λ (x : Entry). record x { flags = flags_behind s (get_or es at d) }) (get_is es at entry d there))
+    step_set es s c.in-Some.pair.0 c.in-Some.pair.1 at (record entry { flags = c.flags_after-flags.result }) c.requires.pairs c.in-Some.ensures here
+    (λ d. ap (λ (n : ℕ). record entry { flags = n }) c.flags_after-flags.ensures
+    ∙ ap (λ (x : Entry). record entry { flags = flags_after s x }) (get_is es at c.index.result.now d first)
+    ∙ ap (λ (x : Entry). record x { flags = flags_after s (get_or es at d) }) (get_is es at entry d there))

@@ -10,9 +10,9 @@ loop-name-preserved c = record {
     | then-matches+in_ok-put_name w ↦ rw w.boxes-is w.in_ok-put_name.ensures.rising
     | else-matches w ↦ rw w.boxes-is c.loop-name.invariant.rising
   ];
-  boxes = λ is_chosen tells.
-      let h = c.loop-name.invariant.boxes is_chosen tells in
-      let same = same_from_decides (is_chosen c.as_str.result.now) c.matches.result (tells c.as_str.result.now) c.matches.ensures in
+  boxes = λ is_chosen states.
+      let h = c.loop-name.invariant.boxes is_chosen states in
+      let same = same_from_decides (is_chosen c.as_str.result.now) c.matches.result (states c.as_str.result.now) c.matches.ensures in
       let at = ap is_chosen (sym (c.as_str.ensures.text ∙ c.name-item.is)) ∙ same in
       elim c.if-matches.branch [
         | then-matches+in_ok-put_name w ↦

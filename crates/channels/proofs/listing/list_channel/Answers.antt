@@ -35,5 +35,5 @@ returns-in-Ok-clause-asked g c =
 pub returns-in-Err-clause-asked : goal.returns-in-Err-clause-asked
 returns-in-Err-clause-asked g c =
     SoFar-lists g.S.BoxLists.noted (joined_of c.args.of) c.args.of.channel.now.boxes c.in-Matching.patterns (g.S.BoxLists.asked c.args.stores.now.stores.now)
-    (g.S.BoxLists.asked c.matching.new.stores.stores.now) (g.S.BoxLists.asked c.tell_unlisted.new.self.stores.now) Over c.tell_unlisted.result c.in-Matching.is
-    c.tell_unlisted.ensures.asks.1 c.tell_unlisted.ensures.over c.in-Err.ensures.listed
+    (g.S.BoxLists.asked c.matching.new.stores.stores.now) (g.S.BoxLists.asked c.report_unlisted.new.self.stores.now) Over c.report_unlisted.result c.in-Matching.is
+    c.report_unlisted.ensures.asks.1 c.report_unlisted.ensures.over c.in-Err.ensures.listed

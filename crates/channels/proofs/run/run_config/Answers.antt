@@ -1,12 +1,12 @@
 use Rattle.std.proofs.Common.{arith, ap, rules}
 use Rattle.std.proofs.lemmas.Grind.{common_steps}
-use Rattle.channels.proofs.ChannelLemmas.{GoesAsFar-told}
+use Rattle.channels.proofs.ChannelLemmas.{GoesAsFar-reported}
 use Rattle.channels.proofs.run.run_config.Goals as goal
 
 -- what the command line names was asked
 pub returns-in-Ok-clause-asked : goal.returns-in-Ok-clause-asked
 returns-in-Ok-clause-asked g c =
-    GoesAsFar-told g.S.BoxLists.noted c.args.config.now c.args.request.now c.in-Ok.course.cells c.in-Ok.course.places.items c.run_told.result
-    c.run_told.new.stores.write_failed _ _ (g.S.BoxLists.asked c.args.stores.now) (g.S.BoxLists.asked c.new.result.stores.now)
-    (g.S.BoxLists.asked c.run_told.new.stores.stores.now) _ c.in-Ok.ensures.cells c.in-Ok.ensures.places (ap g.S.BoxLists.asked c.new.ensures.stores_now)
-    (first_of (search rules, grind (arith, common_steps))) c.run_told.ensures.asked
+    GoesAsFar-reported g.S.BoxLists.noted c.args.config.now c.args.request.now c.in-Ok.course.cells c.in-Ok.course.places.items c.run_reported.result
+    c.run_reported.new.stores.write_failed _ _ (g.S.BoxLists.asked c.args.stores.now) (g.S.BoxLists.asked c.new.result.stores.now)
+    (g.S.BoxLists.asked c.run_reported.new.stores.stores.now) _ c.in-Ok.ensures.cells c.in-Ok.ensures.places (ap g.S.BoxLists.asked c.new.ensures.stores_now)
+    (first_of (search rules, grind (arith, common_steps))) c.run_reported.ensures.asked

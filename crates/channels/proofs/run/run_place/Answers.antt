@@ -36,12 +36,12 @@ returns-in-Ok-clause-asked g c =
 pub returns-in-Err-clause-asked : goal.returns-in-Err-clause-asked
 returns-in-Err-clause-asked g c =
     SoFar-place_unsettled g.S.BoxLists.noted c.args.work.config.now (ways_of c.args.work.request.now c.args.cells) c.args.place (joined_of c.in-Some.of)
-    (g.S.BoxLists.asked c.args.stores.now.stores.now) (g.S.BoxLists.asked c.tell_list.new.self.stores.now) c.tell_list.result
-    c.in-Some.ensures c.if-work.false c.tell_list.ensures.asks.1 c.tell_list.ensures.over
+    (g.S.BoxLists.asked c.args.stores.now.stores.now) (g.S.BoxLists.asked c.print_list.new.self.stores.now) c.print_list.result
+    c.in-Some.ensures c.if-work.false c.print_list.ensures.asks.1 c.print_list.ensures.over
 
 -- there is no such channel
 pub returns-in_default-clause-asked : goal.returns-in_default-clause-asked
 returns-in_default-clause-asked g c =
     SoFar-unjoined g.S.BoxLists.noted c.args.work.config.now (ways_of c.args.work.request.now c.args.cells) c.args.place
-    (g.S.BoxLists.asked c.args.stores.now.stores.now) (g.S.BoxLists.asked c.tell_no_channel.new.self.stores.now) c.tell_no_channel.result
-    c.in_default.ensures (grind (arith, common_steps)) c.tell_no_channel.ensures.over
+    (g.S.BoxLists.asked c.args.stores.now.stores.now) (g.S.BoxLists.asked c.print_no_channel.new.self.stores.now) c.print_no_channel.result
+    c.in_default.ensures (grind (arith, common_steps)) c.print_no_channel.ensures.over

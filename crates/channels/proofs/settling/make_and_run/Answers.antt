@@ -9,34 +9,34 @@ use Rattle.channels.proofs.OrderLemmas.{Begun-unrun, SoFar-ran, SoFar-unmade}
 use Rattle.channels.proofs.settling.make_and_run.Goals as goal
 
 -- what the stores reported of the making, and then the run
-pub returns-in_ok-tell_notices-in-Ok-clause-quiet : goal.returns-in_ok-tell_notices-in-Ok-clause-quiet
-returns-in_ok-tell_notices-in-Ok-clause-quiet g c =
+pub returns-in_ok-report_notices-in-Ok-clause-quiet : goal.returns-in_ok-report_notices-in-Ok-clause-quiet
+returns-in_ok-report_notices-in-Ok-clause-quiet g c =
     let same : g.E.Write.contents c.make_absent.new.stores.err.now ≡ g.E.Write.contents c.args.stores.now.err.now = grind (arith, common_steps) in
-    IfOk-before _ _ _ c.run_box.result (HasNotices-from _ _ _ same c.in_ok-tell_notices-in-Ok.ensures.notices) c.run_box.ensures.quiet
+    IfOk-before _ _ _ c.run_box.result (HasNotices-from _ _ _ same c.in_ok-report_notices-in-Ok.ensures.notices) c.run_box.ensures.quiet
 
 -- it was made, and a write failed before the run
-pub returns-in_err-tell_notices-in-Ok-clause-asked : goal.returns-in_err-tell_notices-in-Ok-clause-asked
-returns-in_err-tell_notices-in-Ok-clause-asked g c =
+pub returns-in_err-report_notices-in-Ok-clause-asked : goal.returns-in_err-report_notices-in-Ok-clause-asked
+returns-in_err-report_notices-in-Ok-clause-asked g c =
     let p = err_from_is_err_and c.from_residual.result c.from_residual.ensures.1 in
     rw p.1 (SoFar-ran g.S.BoxLists.noted c.args.work.options.now (place_of c.args.place) c.args.absent (g.S.BoxLists.asked c.args.stores.now.stores.now)
-    (g.S.BoxLists.asked c.make_absent.new.stores.stores.now) (g.S.BoxLists.asked c.tell_notices.new.self.stores.now) (Err p.0) c.in-Ok.ensures.asked
+    (g.S.BoxLists.asked c.make_absent.new.stores.stores.now) (g.S.BoxLists.asked c.report_notices.new.self.stores.now) (Err p.0) c.in-Ok.ensures.asked
     (Begun-unrun g.S.BoxLists.noted c.args.work.options.now (place_of c.args.place) (g.S.BoxLists.asked c.make_absent.new.stores.stores.now)
-    (g.S.BoxLists.asked c.tell_notices.new.self.stores.now) c.tell_notices.ensures.asks.1))
+    (g.S.BoxLists.asked c.report_notices.new.self.stores.now) c.report_notices.ensures.asks.1))
 
 -- it was made and run
-pub returns-in_ok-tell_notices-in-Ok-clause-asked : goal.returns-in_ok-tell_notices-in-Ok-clause-asked
-returns-in_ok-tell_notices-in-Ok-clause-asked g c =
+pub returns-in_ok-report_notices-in-Ok-clause-asked : goal.returns-in_ok-report_notices-in-Ok-clause-asked
+returns-in_ok-report_notices-in-Ok-clause-asked g c =
     SoFar-ran g.S.BoxLists.noted c.args.work.options.now (place_of c.args.place) c.args.absent (g.S.BoxLists.asked c.args.stores.now.stores.now)
-    (g.S.BoxLists.asked c.tell_notices.new.self.stores.now) (g.S.BoxLists.asked c.run_box.new.stores.stores.now) c.run_box.result
+    (g.S.BoxLists.asked c.report_notices.new.self.stores.now) (g.S.BoxLists.asked c.run_box.new.stores.stores.now) c.run_box.result
     (Makes-same g.S.BoxLists.noted (place_of c.args.place) c.args.absent Done (g.S.BoxLists.asked c.args.stores.now.stores.now)
-    (g.S.BoxLists.asked c.make_absent.new.stores.stores.now) (g.S.BoxLists.asked c.tell_notices.new.self.stores.now) c.tell_notices.ensures.asks.1 c.in-Ok.ensures.asked)
+    (g.S.BoxLists.asked c.make_absent.new.stores.stores.now) (g.S.BoxLists.asked c.report_notices.new.self.stores.now) c.report_notices.ensures.asks.1 c.in-Ok.ensures.asked)
     c.run_box.ensures.asked
 
 -- it was not made
 pub returns-in-Err-clause-asked : goal.returns-in-Err-clause-asked
 returns-in-Err-clause-asked g c =
     SoFar-unmade g.S.BoxLists.noted c.args.work.options.now (place_of c.args.place) c.args.absent (g.S.BoxLists.asked c.args.stores.now.stores.now)
-    (g.S.BoxLists.asked c.tell.new.self.stores.now) c.in-Err.fault c.tell.result
+    (g.S.BoxLists.asked c.report.new.self.stores.now) c.in-Err.fault c.report.result
     (Makes-same g.S.BoxLists.noted (place_of c.args.place) c.args.absent (outcome_of_box_fault c.in-Err.fault) (g.S.BoxLists.asked c.args.stores.now.stores.now)
-    (g.S.BoxLists.asked c.make_absent.new.stores.stores.now) (g.S.BoxLists.asked c.tell.new.self.stores.now) c.tell.ensures.asks.1 c.in-Err.ensures.asked)
-    c.tell.ensures.verdict
+    (g.S.BoxLists.asked c.make_absent.new.stores.stores.now) (g.S.BoxLists.asked c.report.new.self.stores.now) c.report.ensures.asks.1 c.in-Err.ensures.asked)
+    c.report.ensures.verdict

@@ -7,19 +7,19 @@ use Rattle.channels.specs.Asked.{Asked, Outcome, Ran, place_of}
 use Rattle.channels.specs.Asks.{run_attempts}
 use Rattle.channels.specs.Courses.{run_course}
 use Rattle.channels.specs.Outcomes.{has_void, outcome_of_box_fault, outcome_of_giving, outcome_of_pass}
-use Rattle.channels.proofs.CourseLemmas.{IsToldOf-behind, was_done}
+use Rattle.channels.proofs.CourseLemmas.{IsReportedOf-following, was_done}
 use Rattle.channels.proofs.OrderLemmas.{Begun-run, Begun-unrun, Goes-run, SoFar-fault}
 use Rattle.channels.proofs.settling.run_box.Goals as goal
 
 -- the answer and what was left out were reported, over what the run left as it was
-pub returns-in_ok-tell_left_out-in-Ok-clause-quiet : goal.returns-in_ok-tell_left_out-in-Ok-clause-quiet
-returns-in_ok-tell_left_out-in-Ok-clause-quiet g c =
+pub returns-in_ok-report_left_out-in-Ok-clause-quiet : goal.returns-in_ok-report_left_out-in-Ok-clause-quiet
+returns-in_ok-report_left_out-in-Ok-clause-quiet g c =
     let same : g.E.Write.contents c.settle.new.self.err.now ≡ g.E.Write.contents c.args.stores.now.err.now = grind (arith, common_steps) in
     IsQuiet-from _ _ _ _ same
-    (IsQuiet-both _ _ _ _ _ _ c.and.ensures c.in_ok-verdict-in-Ok.ensures.quiet c.in_ok-tell_left_out-in-Ok.ensures.quiet)
+    (IsQuiet-both _ _ _ _ _ _ c.and.ensures c.in_ok-verdict-in-Ok.ensures.quiet c.in_ok-report_left_out-in-Ok.ensures.quiet)
 
-pub returns-in_ok-tell_left_out-in-Ok-clause-whole : goal.returns-in_ok-tell_left_out-in-Ok-clause-whole
-returns-in_ok-tell_left_out-in-Ok-clause-whole g c = grind (arith, common_steps, stream_steps)
+pub returns-in_ok-report_left_out-in-Ok-clause-whole : goal.returns-in_ok-report_left_out-in-Ok-clause-whole
+returns-in_ok-report_left_out-in-Ok-clause-whole g c = grind (arith, common_steps, stream_steps)
 
 -- a write failed before the run
 pub returns-in_err-print_box-clause-asked : goal.returns-in_err-print_box-clause-asked
@@ -39,25 +39,25 @@ returns-in_err-verdict-in-Ok-clause-asked g c =
     (g.S.BoxLists.asked c.print_answer.new.stores.stores.now)
     (c.print_answer.ensures.asks.1 ∙ c.in-Ok.ensures.asks.1 ∙ ap (λ l. g.S.BoxLists.noted l ran) same))
 
-pub returns-in_err-tell_left_out-in-Ok-clause-asked : goal.returns-in_err-tell_left_out-in-Ok-clause-asked
-returns-in_err-tell_left_out-in-Ok-clause-asked g c =
+pub returns-in_err-report_left_out-in-Ok-clause-asked : goal.returns-in_err-report_left_out-in-Ok-clause-asked
+returns-in_err-report_left_out-in-Ok-clause-asked g c =
     let ran : Asked = Ran (place_of c.args.place) c.args.work.options.now run_attempts (outcome_of_pass c.in-Ok.pass) in
     let same : g.S.BoxLists.asked c.print_box.new.self.stores.now ≡ g.S.BoxLists.asked c.args.stores.now.stores.now = grind (arith, common_steps) in
-    let p = err_from_is_err_and c.from_residual-in_err-tell_left_out-in-Ok.result c.from_residual-in_err-tell_left_out-in-Ok.ensures.1 in
+    let p = err_from_is_err_and c.from_residual-in_err-report_left_out-in-Ok.result c.from_residual-in_err-report_left_out-in-Ok.ensures.1 in
     rw p.1 (Begun-run g.S.BoxLists.noted c.args.work.options.now (place_of c.args.place) (outcome_of_pass c.in-Ok.pass) None (g.S.BoxLists.asked c.args.stores.now.stores.now)
-    (g.S.BoxLists.asked c.tell_left_out.new.stores.stores.now)
-    (c.tell_left_out.ensures.asks.1 ∙ c.print_answer.ensures.asks.1 ∙ c.in-Ok.ensures.asks.1 ∙ ap (λ l. g.S.BoxLists.noted l ran) same))
+    (g.S.BoxLists.asked c.report_left_out.new.stores.stores.now)
+    (c.report_left_out.ensures.asks.1 ∙ c.print_answer.ensures.asks.1 ∙ c.in-Ok.ensures.asks.1 ∙ ap (λ l. g.S.BoxLists.noted l ran) same))
 
 -- it was run to an answer
-pub returns-in_ok-tell_left_out-in-Ok-clause-asked : goal.returns-in_ok-tell_left_out-in-Ok-clause-asked
-returns-in_ok-tell_left_out-in-Ok-clause-asked g c =
+pub returns-in_ok-report_left_out-in-Ok-clause-asked : goal.returns-in_ok-report_left_out-in-Ok-clause-asked
+returns-in_ok-report_left_out-in-Ok-clause-asked g c =
     let ran : Asked = Ran (place_of c.args.place) c.args.work.options.now run_attempts (outcome_of_pass c.in-Ok.pass) in
     let same : g.S.BoxLists.asked c.print_box.new.self.stores.now ≡ g.S.BoxLists.asked c.args.stores.now.stores.now = grind (arith, common_steps) in
     Goes-run g.S.BoxLists.noted c.args.work.options.now (place_of c.args.place) (outcome_of_pass c.in-Ok.pass) None c.and.result (g.S.BoxLists.asked c.args.stores.now.stores.now)
-    (g.S.BoxLists.asked c.tell_left_out.new.stores.stores.now)
-    (c.tell_left_out.ensures.asks.1 ∙ c.print_answer.ensures.asks.1 ∙ c.in-Ok.ensures.asks.1 ∙ ap (λ l. g.S.BoxLists.noted l ran) same)
-    (IsToldOf-behind (has_void c.in-Ok.pass) c.in_ok-verdict-in-Ok.verdict c.in_ok-tell_left_out-in-Ok.field-0 c.and.result c.and.ensures c.in_ok-verdict-in-Ok.ensures.tells
-    c.in_ok-tell_left_out-in-Ok.ensures.goes_on)
+    (g.S.BoxLists.asked c.report_left_out.new.stores.stores.now)
+    (c.report_left_out.ensures.asks.1 ∙ c.print_answer.ensures.asks.1 ∙ c.in-Ok.ensures.asks.1 ∙ ap (λ l. g.S.BoxLists.noted l ran) same)
+    (IsReportedOf-following (has_void c.in-Ok.pass) c.in_ok-verdict-in-Ok.verdict c.in_ok-report_left_out-in-Ok.field-0 c.and.result c.and.ensures c.in_ok-verdict-in-Ok.ensures.states
+    c.in_ok-report_left_out-in-Ok.ensures.goes_on)
 
 -- or to a fault
 pub returns-in-Err-clause-asked : goal.returns-in-Err-clause-asked
@@ -65,17 +65,17 @@ returns-in-Err-clause-asked g c =
     let gave_up : Option Outcome = option_map outcome_of_giving c.in-Err.failure.giving_up in
     let ran : List Asked = (run_course c.args.work.options.now (place_of c.args.place) (outcome_of_box_fault c.in-Err.failure.fault) gave_up).asked in
     let same : g.S.BoxLists.asked c.print_box.new.self.stores.now ≡ g.S.BoxLists.asked c.args.stores.now.stores.now = grind (arith, common_steps) in
-    SoFar-fault g.S.BoxLists.noted c.args.work.options.now (place_of c.args.place) c.in-Err.failure.fault gave_up c.tell_failure.result (g.S.BoxLists.asked c.args.stores.now.stores.now)
-    (g.S.BoxLists.asked c.tell_failure.new.self.stores.now)
-    (c.tell_failure.ensures.asks.1 ∙ c.in-Err.ensures.asks.1 ∙ ap (λ l. fold g.S.BoxLists.noted l ran) same) c.tell_failure.ensures.verdict
+    SoFar-fault g.S.BoxLists.noted c.args.work.options.now (place_of c.args.place) c.in-Err.failure.fault gave_up c.report_failure.result (g.S.BoxLists.asked c.args.stores.now.stores.now)
+    (g.S.BoxLists.asked c.report_failure.new.self.stores.now)
+    (c.report_failure.ensures.asks.1 ∙ c.in-Err.ensures.asks.1 ∙ ap (λ l. fold g.S.BoxLists.noted l ran) same) c.report_failure.ensures.verdict
 
 -- without a fault it was done
-pub returns-in_ok-tell_left_out-in-Ok-clause-asks : goal.returns-in_ok-tell_left_out-in-Ok-clause-asks
-returns-in_ok-tell_left_out-in-Ok-clause-asks g c =
+pub returns-in_ok-report_left_out-in-Ok-clause-asks : goal.returns-in_ok-report_left_out-in-Ok-clause-asks
+returns-in_ok-report_left_out-in-Ok-clause-asks g c =
     let ran : Asked = Ran (place_of c.args.place) c.args.work.options.now run_attempts (outcome_of_pass c.in-Ok.pass) in
     let same : g.S.BoxLists.asked c.print_box.new.self.stores.now ≡ g.S.BoxLists.asked c.args.stores.now.stores.now = grind (arith, common_steps) in
-    λ clean. c.tell_left_out.ensures.asks.1 ∙ c.print_answer.ensures.asks.1 ∙ c.in-Ok.ensures.asks.1 ∙ ap (λ l. g.S.BoxLists.noted l ran) same
+    λ clean. c.report_left_out.ensures.asks.1 ∙ c.print_answer.ensures.asks.1 ∙ c.in-Ok.ensures.asks.1 ∙ ap (λ l. g.S.BoxLists.noted l ran) same
     ∙ ap (λ o. g.S.BoxLists.noted (g.S.BoxLists.asked c.args.stores.now.stores.now) (Ran (place_of c.args.place) c.args.work.options.now run_attempts o))
     (was_done (has_void c.in-Ok.pass) c.and.result
-    (IsToldOf-behind (has_void c.in-Ok.pass) c.in_ok-verdict-in-Ok.verdict c.in_ok-tell_left_out-in-Ok.field-0 c.and.result c.and.ensures
-    c.in_ok-verdict-in-Ok.ensures.tells c.in_ok-tell_left_out-in-Ok.ensures.goes_on) clean)
+    (IsReportedOf-following (has_void c.in-Ok.pass) c.in_ok-verdict-in-Ok.verdict c.in_ok-report_left_out-in-Ok.field-0 c.and.result c.and.ensures
+    c.in_ok-verdict-in-Ok.ensures.states c.in_ok-report_left_out-in-Ok.ensures.goes_on) clean)

@@ -8,33 +8,33 @@ use Rattle.channels.proofs.ChannelLemmas.{Begun-possible, IsFoundAsked-possible,
 use Rattle.channels.proofs.settling.settle_channel.Goals as goal
 
 -- what the stores reported of the listing, and then the mailboxes
-pub returns-in_ok-tell_notices-in-Ok-clause-quiet : goal.returns-in_ok-tell_notices-in-Ok-clause-quiet
-returns-in_ok-tell_notices-in-Ok-clause-quiet g c =
+pub returns-in_ok-report_notices-in-Ok-clause-quiet : goal.returns-in_ok-report_notices-in-Ok-clause-quiet
+returns-in_ok-report_notices-in-Ok-clause-quiet g c =
     let same : g.E.Write.contents c.of.new.stores.err.now ≡ g.E.Write.contents c.args.stores.now.err.now = grind (arith, common_steps) in
-    IfOk-before _ _ _ c.settle_found.result (HasNotices-from _ _ _ same c.in_ok-tell_notices-in-Ok.ensures.notices) c.settle_found.ensures.quiet
+    IfOk-before _ _ _ c.settle_found.result (HasNotices-from _ _ _ same c.in_ok-report_notices-in-Ok.ensures.notices) c.settle_found.ensures.quiet
 
 -- a write failed after the lists
-pub returns-in_err-tell_notices-in-Ok-clause-asked : goal.returns-in_err-tell_notices-in-Ok-clause-asked
-returns-in_err-tell_notices-in-Ok-clause-asked g c =
+pub returns-in_err-report_notices-in-Ok-clause-asked : goal.returns-in_err-report_notices-in-Ok-clause-asked
+returns-in_err-report_notices-in-Ok-clause-asked g c =
     let p = err_from_is_err_and c.from_residual.result c.from_residual.ensures.1 in
     rw p.1 (SoFar-listed g.S.BoxLists.noted (joined_of c.args.work.of) (λ fars nears. IsFoundAsked c.args.work.options.now (joined_of c.args.work.of) fars nears c.args.work.of.channel.now.boxes)
     c.in-Ok.found.far.items c.in-Ok.found.near.items (g.S.BoxLists.asked c.args.stores.now.stores.now) (g.S.BoxLists.asked c.of.new.stores.stores.now)
-    (g.S.BoxLists.asked c.tell_notices.new.self.stores.now) (Err p.0) c.in-Ok.ensures.asks
-    (Begun-possible g.S.BoxLists.noted (g.S.BoxLists.asked c.of.new.stores.stores.now) (g.S.BoxLists.asked c.tell_notices.new.self.stores.now)
+    (g.S.BoxLists.asked c.report_notices.new.self.stores.now) (Err p.0) c.in-Ok.ensures.asks
+    (Begun-possible g.S.BoxLists.noted (g.S.BoxLists.asked c.of.new.stores.stores.now) (g.S.BoxLists.asked c.report_notices.new.self.stores.now)
     (IsFoundAsked c.args.work.options.now (joined_of c.args.work.of) c.in-Ok.found.far.items c.in-Ok.found.near.items c.args.work.of.channel.now.boxes)
-    c.tell_notices.ensures.asks.1
+    c.report_notices.ensures.asks.1
     (IsFoundAsked-possible c.args.work.options.now (joined_of c.args.work.of) c.in-Ok.found.far.items c.in-Ok.found.near.items c.args.work.of.channel.now.boxes)))
 
 -- the mailboxes were asked for
-pub returns-in_ok-tell_notices-in-Ok-clause-asked : goal.returns-in_ok-tell_notices-in-Ok-clause-asked
-returns-in_ok-tell_notices-in-Ok-clause-asked g c =
+pub returns-in_ok-report_notices-in-Ok-clause-asked : goal.returns-in_ok-report_notices-in-Ok-clause-asked
+returns-in_ok-report_notices-in-Ok-clause-asked g c =
     SoFar-listed g.S.BoxLists.noted (joined_of c.args.work.of) (λ fars nears. IsFoundAsked c.args.work.options.now (joined_of c.args.work.of) fars nears c.args.work.of.channel.now.boxes)
-    c.in-Ok.found.far.items c.in-Ok.found.near.items (g.S.BoxLists.asked c.args.stores.now.stores.now) (g.S.BoxLists.asked c.tell_notices.new.self.stores.now)
-    (g.S.BoxLists.asked c.settle_found.new.stores.stores.now) c.settle_found.result (c.tell_notices.ensures.asks.1 ∙ c.in-Ok.ensures.asks) c.settle_found.ensures.asked
+    c.in-Ok.found.far.items c.in-Ok.found.near.items (g.S.BoxLists.asked c.args.stores.now.stores.now) (g.S.BoxLists.asked c.report_notices.new.self.stores.now)
+    (g.S.BoxLists.asked c.settle_found.new.stores.stores.now) c.settle_found.result (c.report_notices.ensures.asks.1 ∙ c.in-Ok.ensures.asks) c.settle_found.ensures.asked
 
 -- a store was not listed
 pub returns-in-Err-clause-asked : goal.returns-in-Err-clause-asked
 returns-in-Err-clause-asked g c =
     SoFar-unlisted g.S.BoxLists.noted (joined_of c.args.work.of) (λ fars nears. IsFoundAsked c.args.work.options.now (joined_of c.args.work.of) fars nears c.args.work.of.channel.now.boxes)
-    (g.S.BoxLists.asked c.args.stores.now.stores.now) (g.S.BoxLists.asked c.of.new.stores.stores.now) (g.S.BoxLists.asked c.tell_unlisted.new.self.stores.now)
-    c.tell_unlisted.result c.tell_unlisted.ensures.asks.1 c.tell_unlisted.ensures.over c.in-Err.ensures.unlisted
+    (g.S.BoxLists.asked c.args.stores.now.stores.now) (g.S.BoxLists.asked c.of.new.stores.stores.now) (g.S.BoxLists.asked c.report_unlisted.new.self.stores.now)
+    c.report_unlisted.result c.report_unlisted.ensures.asks.1 c.report_unlisted.ensures.over c.in-Err.ensures.unlisted

@@ -15,11 +15,11 @@ pub returns-in-Ok-clause-asked : goal.returns-in-Ok-clause-asked
 returns-in-Ok-clause-asked g c =
     SoFar-matching g.S.BoxLists.noted c.args.work.options.now (joined_of c.args.work.of) c.args.found.now.far.items c.args.found.now.near.items
     c.deref.result.now c.in-Matching.patterns c.args.work.of.channel.now.boxes (g.S.BoxLists.asked c.args.stores.now.stores.now)
-    (g.S.BoxLists.asked c.settle_boxes.new.stores.stores.now) c.settle_boxes.result c.in-Matching.is (λ is_chosen tells. c.deref.ensures.value ∙ c.in-Ok.ensures is_chosen tells) c.settle_boxes.ensures.asked
+    (g.S.BoxLists.asked c.settle_boxes.new.stores.stores.now) c.settle_boxes.result c.in-Matching.is (λ is_chosen states. c.deref.ensures.value ∙ c.in-Ok.ensures is_chosen states) c.settle_boxes.ensures.asked
 
 -- no memory for their names
 pub returns-in-Err-clause-asked : goal.returns-in-Err-clause-asked
 returns-in-Err-clause-asked g c =
     SoFar-unnamed g.S.BoxLists.noted c.args.work.options.now (joined_of c.args.work.of) c.args.found.now.far.items c.args.found.now.near.items
     c.in-Matching.patterns c.args.work.of.channel.now.boxes (g.S.BoxLists.asked c.args.stores.now.stores.now)
-    (g.S.BoxLists.asked c.tell_list.new.self.stores.now) c.tell_list.result c.in-Matching.is c.tell_list.ensures.asks.1 c.tell_list.ensures.over
+    (g.S.BoxLists.asked c.print_list.new.self.stores.now) c.print_list.result c.in-Matching.is c.print_list.ensures.asks.1 c.print_list.ensures.over

@@ -10,7 +10,7 @@ loop-group-preserved c = (
   λ last are old.
       let lines = all_before (λ (g : NamedGroup). AreLines last g.members.items) c.loop-group.yielded c.in-Some.group are in
       c.in_ok-channels.ensures.lines last (search rules) (c.loop-group.invariant.0 last lines.0 old),
-  λ again told. c.in_ok-channels.ensures.again again (c.loop-group.invariant.1 again told),
+  λ again reported. c.in_ok-channels.ensures.again again (c.loop-group.invariant.1 again reported),
   λ none. c.loop-group.invariant.2 (c.in_ok-channels.ensures.none none),
   λ none.
       group_more (map string_bytes c.args.channels.now) c.loop-group.placed.items c.push.new.self.items _ c.loop-group.yielded c.in-Some.group

@@ -5,7 +5,7 @@ use Rattle.texts.specs.Lines.{lines_of}
 use Rattle.std.specs.Prelude.{fold}
 use Rattle.config.specs.Configurations.{no_parts, parted}
 use Rattle.config.proofs.PartedLemmas.{all_accepted, all_parted, first_parted, more_parted}
-use Rattle.config.proofs.ReadingLemmas.{all_so_far, first_so_far, more_so_far, on_told, unless_memory}
+use Rattle.config.proofs.ReadingLemmas.{all_so_far, first_so_far, more_so_far, on_reported, unless_memory}
 use Rattle.config.proofs.read.read_config.Goals as goal
 
 pub loop-line-init : goal.loop-line-init
@@ -31,7 +31,7 @@ loop-line-preserved c = (
 
 pub returns-in-Ok-finish-clause-again : goal.returns-in-Ok-finish-clause-again
 returns-in-Ok-finish-clause-again c =
-    unless_memory (faults_again c.args.text.now) c.in-Ok-finish.told
+    unless_memory (faults_again c.args.text.now) c.in-Ok-finish.reported
     (c.in-Ok-finish.ensures.again (faults_again c.args.text.now)
     (all_so_far c.args.text.now c.loop-line.lines.taken c.loop-line.lines.rest.now c.loop-line.reading c.loop-line.invariant.2 c.in_default.ensures.all))
 
@@ -42,5 +42,5 @@ returns-in-Ok-finish-clause-means c =
 
 pub returns-in-Ok-finish-clause-whole : goal.returns-in-Ok-finish-clause-whole
 returns-in-Ok-finish-clause-whole c =
-    on_told c.in-Ok-finish.told (all_accepted c.args.text.now c.loop-line.lines.taken c.loop-line.lines.rest.now c.loop-line.reading c.loop-line.invariant.3 c.in_default.ensures.all)
+    on_reported c.in-Ok-finish.reported (all_accepted c.args.text.now c.loop-line.lines.taken c.loop-line.lines.rest.now c.loop-line.reading c.loop-line.invariant.3 c.in_default.ensures.all)
     c.in-Ok-finish.ensures.none

@@ -1,7 +1,7 @@
 use Rattle.imap_client.specs.Sessions.{server_of, state_of}
 use Rattle.imap_session.specs.Visits.{Among}
 use Rattle.far_side.specs.FarStops.{Ends}
-use Rattle.far_side.proofs.Endings.{ends_behind, ends_of, ends_unmade}
+use Rattle.far_side.proofs.Endings.{ends_after, ends_of, ends_unmade}
 use Rattle.far_side.proofs.Joined.{LoginEnds, before_login, connected, handed, unconnected}
 use Rattle.far_side.proofs.entering.log_in.Goals as goal
 
@@ -27,7 +27,7 @@ returns-clause-ends g c =
     let mid = state_of c.reconnect.new.self.session in
     let new = state_of c.login.new.self.session in
     let made = c.in_ok-reconnect.ensures.ready in
-    ends_behind old mid new c.login.result made.same (ends_of 3 mid new c.login.result made.is_ready c.login.ensures.counts c.login.ensures.ends)
+    ends_after old mid new c.login.result made.same (ends_of 3 mid new c.login.result made.is_ready c.login.ensures.counts c.login.ensures.ends)
 
 pub returns-clause-outcome : goal.returns-clause-outcome
 returns-clause-outcome g c h =

@@ -2,7 +2,7 @@ use Rattle.std.proofs.Common.{◌≡◌, sym, ◌∙◌, ap, length, drop, get_o
 use Rattle.std.specs.Prelude.{if◌then◌else◌}
 use Rattle.std.proofs.lemmas.Bool.{ne_eqb}
 use Rattle.wire_strings.specs.Quotes.{unescaped_from, unescaped}
-use Rattle.imap_answers.proofs.marks.value_len.Goals.{then-not-behind_slash+then-b-eq92, else-not-behind_slash, else-not-behind_slash-via-then-not-behind_slash+else-b-eq92, else-not-behind_slash-via-else-not-behind_slash}
+use Rattle.imap_answers.proofs.marks.value_len.Goals.{then-not-after_slash+then-b-eq92, else-not-after_slash, else-not-after_slash-via-then-not-after_slash+else-b-eq92, else-not-after_slash-via-else-not-after_slash}
 use Rattle.imap_answers.proofs.marks.value_len.Goals as goal
 
 escapes : (b : ℕ) (bs : List ℕ) → b ≡ 92 → unescaped_from false (b ∷ bs) ≡ unescaped_from true bs
@@ -50,14 +50,14 @@ loop-b-preserved c =
     let raw = c.args.raw.now in
     let i = c.loop-b.b-index in
     let count = c.loop-b.count in
-    let now = c.if-not-behind_slash.count in
-    let old = c.loop-b.behind_slash in
-    let new = c.if-not-behind_slash.behind_slash in
-    elim c.if-not-behind_slash.branch [
-      | then-not-behind_slash+then-b-eq92 w ↦ none_counted raw i count now old new c.loop-b-test.true c.loop-b.invariant w.if-not-behind_slash.true w.if-b-eq92.true w.behind_slash-is w.count-is
-      | else-not-behind_slash w ↦
-          elim w.else-not-behind_slash.branch [
-            | else-not-behind_slash-via-then-not-behind_slash+else-b-eq92 v ↦ plain_counted raw i count now old new c.loop-b-test.true c.loop-b.invariant v.if-not-behind_slash.true v.if-b-eq92.false w.behind_slash-is w.count-is
-            | else-not-behind_slash-via-else-not-behind_slash v ↦ escaped_counted raw i count now old new c.loop-b-test.true c.loop-b.invariant v.if-not-behind_slash.false w.behind_slash-is w.count-is
+    let now = c.if-not-after_slash.count in
+    let old = c.loop-b.after_slash in
+    let new = c.if-not-after_slash.after_slash in
+    elim c.if-not-after_slash.branch [
+      | then-not-after_slash+then-b-eq92 w ↦ none_counted raw i count now old new c.loop-b-test.true c.loop-b.invariant w.if-not-after_slash.true w.if-b-eq92.true w.after_slash-is w.count-is
+      | else-not-after_slash w ↦
+          elim w.else-not-after_slash.branch [
+            | else-not-after_slash-via-then-not-after_slash+else-b-eq92 v ↦ plain_counted raw i count now old new c.loop-b-test.true c.loop-b.invariant v.if-not-after_slash.true v.if-b-eq92.false w.after_slash-is w.count-is
+            | else-not-after_slash-via-else-not-after_slash v ↦ escaped_counted raw i count now old new c.loop-b-test.true c.loop-b.invariant v.if-not-after_slash.false w.after_slash-is w.count-is
           ]
     ]

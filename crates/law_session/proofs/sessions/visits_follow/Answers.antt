@@ -1,5 +1,5 @@
-use Rattle.law_session.proofs.Visiting.{nobody_visits, visits_follow, visits_told, arrival_visits}
+use Rattle.law_session.proofs.Visiting.{nobody_visits, visits_follow, visits_reported, arrival_visits}
 use Rattle.law_session.proofs.sessions.visits_follow.Goals as goal
 
 pub returns : goal.returns
-returns c = record { nobody = nobody_visits; follow = visits_follow; told = visits_told; arrival = arrival_visits }
+returns c = record { nobody = nobody_visits; follow = visits_follow; reported = visits_reported; arrival = arrival_visits }

@@ -5,17 +5,17 @@ use Rattle.link_face.proofs.OneToOne.{one_far}
 use Rattle.link_face.proofs.command.with_far_name.Goals as goal
 
 pub returns-in_default-2 : goal.returns-in_default-2
-returns-in_default-2 c tag word near behind far names name =
+returns-in_default-2 c tag word near following far names name =
     let named = c.in-Some.named in
-    let same = same_name c.args.command.now named.tag.now named.word.now named.name.now named.behind.now tag word near behind c.in-Some.ensures.parts names.parts in
+    let same = same_name c.args.command.now named.tag.now named.word.now named.name.now named.following.now tag word near following c.in-Some.ensures.parts names.parts in
     let never = none_case c.in_ok-far.field-0 _ _ c.in_default-2.is c.in_ok-far.ensures in
     let P : List ℕ → Type 0 = λ near. IsName far near in
     absurd (never far (subst P (sym same) name))
 
 pub returns-then-eq : goal.returns-then-eq
-returns-then-eq c tag word near behind far names name =
+returns-then-eq c tag word near following far names name =
     let named = c.in-Some.named in
-    let same = same_name c.args.command.now named.tag.now named.word.now named.name.now named.behind.now tag word near behind c.in-Some.ensures.parts names.parts in
+    let same = same_name c.args.command.now named.tag.now named.word.now named.name.now named.following.now tag word near following c.in-Some.ensures.parts names.parts in
     let found = some_case c.in_ok-far.field-0 _ _ c.in-Some-2.far c.in-Some-2.is c.in_ok-far.ensures in
     let unchanged : c.in-Some-2.far.items ≡ named.name.now = search rules in
     let P : List ℕ → Type 0 = λ near. IsName c.in-Some-2.far.items near in

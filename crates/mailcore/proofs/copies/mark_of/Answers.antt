@@ -25,14 +25,14 @@ no_field : (bs : List ℕ) → pointwise nat_eq (take 8 bs) field ≡ false → 
 unfolding mark_of
 no_field bs is = rw (begins_with_field bs false is)
 
-behind_field : (bs behind text rest : List ℕ) → pointwise nat_eq (take 8 bs) field ≡ true → behind ≡ drop 8 bs → text ≡ take 12 behind → rest ≡ drop 12 behind → mark_of bs ≡ ended_mark text rest
+after_field : (bs following text rest : List ℕ) → pointwise nat_eq (take 8 bs) field ≡ true → following ≡ drop 8 bs → text ≡ take 12 following → rest ≡ drop 12 following → mark_of bs ≡ ended_mark text rest
 unfolding mark_of
-behind_field bs behind text rest field_is behind_is text_is rest_is =
-    let far : rest ≡ drop 20 bs = rest_is ∙ ap (drop 12) behind_is ∙ drop-drop 12 8 bs in
-    rw (far, text_is, behind_is, begins_with_field bs true field_is)
+after_field bs following text rest field_is past_is text_is rest_is =
+    let far : rest ≡ drop 20 bs = rest_is ∙ ap (drop 12) past_is ∙ drop-drop 12 8 bs in
+    rw (far, text_is, past_is, begins_with_field bs true field_is)
 
-too_short : (behind : List ℕ) → length behind < 12 → ended_mark (take 12 behind) (drop 12 behind) ≡ None
-too_short behind short = rw (ne_eqb (length (take 12 behind)) 12 (λ e. omega (arith, length-take 12 behind)))
+too_short : (following : List ℕ) → length following < 12 → ended_mark (take 12 following) (drop 12 following) ≡ None
+too_short following short = rw (ne_eqb (length (take 12 following)) 12 (λ e. omega (arith, length-take 12 following)))
 
 read_mark : (text rest : List ℕ) (found : Option (List ℕ)) → begins_with_line_end rest ≡ true → SomeIff found (IsMark text) text → found ≡ ended_mark text rest
 read_mark text rest None ends other = rw (false_from_ne_true (is_mark text) other)
@@ -41,23 +41,23 @@ read_mark text rest (Some mark) ends is = rw (is.0, is.1, ends)
 no_line_end : (text rest : List ℕ) → begins_with_line_end rest ≡ false → ended_mark text rest ≡ None
 no_line_end text rest open_end = rw (and_right (is_mark text) (begins_with_line_end rest) open_end)
 
-pub returns-in_err-behind : goal.returns-in_err-behind
-returns-in_err-behind c = c.from_residual.ensures ∙ sym (no_field _ c.in_err-behind.ensures.cases)
+pub returns-in_err-following : goal.returns-in_err-following
+returns-in_err-following c = c.from_residual.ensures ∙ sym (no_field _ c.in_err-following.ensures.cases)
 
 pub returns-in_err-text : goal.returns-in_err-text
 returns-in_err-text c =
-    let behind = c.in_ok-behind.ensures.cases in
+    let following = c.in_ok-following.ensures.cases in
     c.from_residual-in_err-text.ensures
-    ∙ sym (behind_field _ _ _ _ behind.0 behind.1 refl refl ∙ too_short _ c.in_err-text.ensures.cases)
+    ∙ sym (after_field _ _ _ _ following.0 following.1 refl refl ∙ too_short _ c.in_err-text.ensures.cases)
 
 pub returns-then-ends_line : goal.returns-then-ends_line
 returns-then-ends_line c =
-    let behind = c.in_ok-behind.ensures.cases in
+    let following = c.in_ok-following.ensures.cases in
     let cut = c.in_ok-text.ensures.cases in
-    read_mark c.in_ok-text.text.now c.in_ok-text.rest.now c.read.result (sym c.if-ends_line.ensures) c.read.ensures ∙ sym (behind_field _ _ _ _ behind.0 behind.1 cut.1 cut.2)
+    read_mark c.in_ok-text.text.now c.in_ok-text.rest.now c.read.result (sym c.if-ends_line.ensures) c.read.ensures ∙ sym (after_field _ _ _ _ following.0 following.1 cut.1 cut.2)
 
 pub returns-else-ends_line : goal.returns-else-ends_line
 returns-else-ends_line c =
-    let behind = c.in_ok-behind.ensures.cases in
+    let following = c.in_ok-following.ensures.cases in
     let cut = c.in_ok-text.ensures.cases in
-    sym (behind_field _ _ _ _ behind.0 behind.1 cut.1 cut.2 ∙ no_line_end c.in_ok-text.text.now c.in_ok-text.rest.now (sym c.if-ends_line.ensures))
+    sym (after_field _ _ _ _ following.0 following.1 cut.1 cut.2 ∙ no_line_end c.in_ok-text.text.now c.in_ok-text.rest.now (sym c.if-ends_line.ensures))

@@ -10,8 +10,8 @@ returns-clause-more c = gains_more
 pub returns-clause-apart : goal.returns-clause-apart
 returns-clause-apart c = apart_gained
 
-pub returns-clause-nothing_behind : goal.returns-clause-nothing_behind
-returns-clause-nothing_behind c = adds_none
+pub returns-clause-nothing_after : goal.returns-clause-nothing_after
+returns-clause-nothing_after c = adds_none
 
-pub returns-clause-more_behind : goal.returns-clause-more_behind
-returns-clause-more_behind c = adds_more
+pub returns-clause-more_after : goal.returns-clause-more_after
+returns-clause-more_after c = adds_more

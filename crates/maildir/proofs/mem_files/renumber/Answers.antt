@@ -3,7 +3,7 @@ use Rattle.std.proofs.lemmas.List.{get_or_default}
 use Rattle.maildir.specs.declared.name_index.NameIndex.{NameIndex}
 use Rattle.maildir.specs.NameIndexes.{KeepsRoom}
 use Rattle.maildir.proofs.IndexLemmas.{room_kept}
-use Rattle.maildir.proofs.ToldLemmas.{NotedTo, noted_all, noted_none, noted_one}
+use Rattle.maildir.proofs.ReportedLemmas.{NotedTo, noted_all, noted_none, noted_one}
 use Rattle.maildir.proofs.mem_files.renumber.Goals.{in-Some, in_default}
 use Rattle.maildir.proofs.mem_files.renumber.Goals as goal
 
@@ -24,5 +24,5 @@ loop-spot-preserved c =
           (noted_none slots i old c.loop-spot.index c.loop-spot-test.true (is ∙ w.in_default.is) c.loop-spot.invariant.0, c.loop-spot.invariant.1)
     ]
 
-pub returns-clause-told : goal.returns-clause-told
-returns-clause-told c = noted_all c.args.slots.now c.loop-spot.spot c.args.index.now c.loop-spot.index c.requires.known (omega (arith, c.loop-spot-test.false)) c.loop-spot.invariant.0
+pub returns-clause-reported : goal.returns-clause-reported
+returns-clause-reported c = noted_all c.args.slots.now c.loop-spot.spot c.args.index.now c.loop-spot.index c.requires.known (omega (arith, c.loop-spot-test.false)) c.loop-spot.invariant.0

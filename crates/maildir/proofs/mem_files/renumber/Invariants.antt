@@ -1,5 +1,5 @@
 use Rattle.maildir.specs.NameIndexes.{KeepsRoom}
-use Rattle.maildir.proofs.ToldLemmas.{NotedTo}
+use Rattle.maildir.proofs.ReportedLemmas.{NotedTo}
 use Rattle.maildir.proofs.mem_files.renumber.Given as goal
 
 abbrev pub invariant-loop-spot : goal.invariant-loop-spot

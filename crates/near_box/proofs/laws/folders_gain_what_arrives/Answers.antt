@@ -12,5 +12,5 @@ returns-clause-store c = store_gained
 pub returns-clause-mailbox : goal.returns-clause-mailbox
 returns-clause-mailbox c v fresh s s' is gains = mailbox_gained v fresh [] s s' is gains
 
-pub returns-clause-behind : goal.returns-clause-behind
-returns-clause-behind c = added_arrives
+pub returns-clause-following : goal.returns-clause-following
+returns-clause-following c = added_arrives

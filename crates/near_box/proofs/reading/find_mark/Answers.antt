@@ -1,6 +1,6 @@
 use Rattle.std.proofs.Common.{rules, arith, ◌+◌, ltb, map}
 use Rattle.std.proofs.lemmas.List.Sorted.{IsPartitionPoint-from_clause, IsPartitionedBy-ltb}
-use Rattle.near_box.specs.declared.survey.Entry.{Entry}
+use Rattle.near_box.specs.declared.survey.SurveyEntry.{SurveyEntry}
 use Rattle.near_box.specs.Entries.{message_at}
 use Rattle.near_box.proofs.SearchLemmas.{end_of_rest, entry_of_rest, next_known, place_of_rest, search_begins, search_ends, search_finds, search_goes_on}
 use Rattle.near_box.proofs.reading.find_mark.Goals as goal
@@ -18,7 +18,7 @@ loop-entry-init g c = record {
       let below = c.begin.new.self.below in
       search_begins keywords s es c.args.mark c.args.from next first (first + 0) c.args.known.now c.begin.new.self (omega arith) c.partition_point-first.ensures.bound rising are
       (c.begin.ensures.passed next (map (message_at keywords s) es) are.passed) c.begin.ensures.reaches.1 (c.begin.ensures.other next (map (message_at keywords s) es) are.passed)
-      (λ order. IsPartitionPoint-from_clause (λ (e : Entry). ltb e.uid below) _ _ c.partition_point-first.ensures.partitioned (IsPartitionedBy-ltb (λ (e : Entry). e.uid) _ below order) (λ a r q k. search rules));
+      (λ order. IsPartitionPoint-from_clause (λ (e : SurveyEntry). ltb e.uid below) _ _ c.partition_point-first.ensures.partitioned (IsPartitionedBy-ltb (λ (e : SurveyEntry). e.uid) _ below order) (λ a r q k. search rules));
 }
 
 pub loop-entry-preserved : goal.loop-entry-preserved

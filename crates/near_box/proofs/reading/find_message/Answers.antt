@@ -1,5 +1,5 @@
 use Rattle.std.proofs.Common.{ℕ, List, Some, ap, arith, sym, ◌∙◌}
-use Rattle.near_box.specs.declared.survey.Entry.{Entry}
+use Rattle.near_box.specs.declared.survey.SurveyEntry.{SurveyEntry}
 use Rattle.near_box.proofs.ReadLemmas.{bytes_found, bytes_missing, bytes_there}
 use Rattle.near_box.proofs.reading.find_message.Goals as goal
 
@@ -10,7 +10,7 @@ returns-in_ok-read_message-in-Some-clause-bytes g c = λ honest keywords rising 
     let i = c.in-Some.i in
     let entry = c.index-entries-i.result in
     let is = c.index-entries-i.is in
-    let same = ap (λ (e : Entry). e.uid) is ∙ c.in-Some.ensures.found entry in
+    let same = ap (λ (e : SurveyEntry). e.uid) is ∙ c.in-Some.ensures.found entry in
     let here = bytes_there s es i entry (omega (arith, c.in-Some.ensures.within)) is there in
     ap (λ (b : List ℕ). Some b) (c.in_ok-read_message-in-Some.ensures.bytes honest here) ∙ sym here
     ∙ bytes_found keywords s c.args.uid es i entry (omega (arith, c.in-Some.ensures.within)) is rising there same

@@ -8,4 +8,4 @@ returns c =
     let long : left + c.args.next ≡ length c.args.bytes.now.items = search rules in
     c.truncate.ensures.items
     ∙ kept_alone c.args.bytes.now.items c.move_down.new.bytes.items c.move_down-2.new.bytes.items c.args.start c.args.end c.args.next left c.requires.some
-    c.requires.apart long c.move_down.ensures.front c.move_down.ensures.behind c.move_down-2.ensures.front
+    c.requires.apart long c.move_down.ensures.front c.move_down.ensures.following c.move_down-2.ensures.front

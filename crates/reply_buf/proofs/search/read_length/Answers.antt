@@ -1,5 +1,5 @@
 use Rattle.std.proofs.Common.{rules}
-use Rattle.reply_buf.proofs.Faulty.{fault_tells}
+use Rattle.reply_buf.proofs.Faulty.{fault_reports}
 use Rattle.reply_buf.proofs.Searched.{none_partial, none_literal}
 use Rattle.reply_buf.proofs.search.read_length.Goals as goal
 
@@ -17,4 +17,4 @@ pub returns-in-Ok-Partial-clause-looks : goal.returns-in-Ok-Partial-clause-looks
 returns-in-Ok-Partial-clause-looks c = none_partial c.args.bytes.now c.in-Ok-Partial.field-0 c.in-Ok-Partial.field-0-is c.in-Ok-Partial.ensures.takes
 
 pub returns-clause-looks : goal.returns-clause-looks
-returns-clause-looks c = fault_tells c.args.bytes.now c.in-Err.fault c.in-Err.ensures.takes c.in-Err.ensures.waits
+returns-clause-looks c = fault_reports c.args.bytes.now c.in-Err.fault c.in-Err.ensures.takes c.in-Err.ensures.waits

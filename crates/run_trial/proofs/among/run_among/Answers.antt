@@ -6,7 +6,7 @@ use Rattle.outside.specs.Devices.{Device}
 use Rattle.run_pair.specs.Pairs.{seen_of}
 use Rattle.rules.specs.declared.options.Options.{Options}
 use Rattle.rules.specs.World.{World}
-use Rattle.run_trial.specs.declared.arrival.Arrivals.{Arrivals}
+use Rattle.run_trial.specs.declared.arrival.TrialArrivals.{TrialArrivals}
 use Rattle.run_trial.specs.Worlds.{FitsWords, device_of, world_of}
 use Rattle.run_trial.specs.declared.setting.FarSetting.{FarSetting}
 use Rattle.run_trial.specs.Among.{IsOverAmong, LeavesAmong, OthersLeftAmong}
@@ -18,7 +18,7 @@ pub run_visited-requires : goal.run_visited-requires
 run_visited-requires g c =
     let said =
     bear_none g.row.MARKS c.args.trial.course.arrivals.far.items c.in_ok-setting.setting.arrivals.far.items c.in_ok-among.among.arrivals.list.items
-    (ap (λ (a : Arrivals). a.far.items) c.in_ok-setting.ensures.arrivals) c.in_ok-among.ensures.arrivals c.requires.said in
+    (ap (λ (a : TrialArrivals). a.far.items) c.in_ok-setting.ensures.arrivals) c.in_ok-among.ensures.arrivals c.requires.said in
     (omega arith, (omega arith, (omega arith, (c.in_ok-among.ensures.served, (c.in_ok-among.ensures.letters ∙ c.in_ok-setting.ensures.letters ∙ ap (λ (o : Options). o.keywords) (sym c.in_ok-among.ensures.options), said)))))
 
 pub returns-clause-over : goal.returns-clause-over

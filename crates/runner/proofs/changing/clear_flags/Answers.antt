@@ -40,8 +40,8 @@ returns-in-Err-clause-part g c =
     let s1 = g.O.Outside.seen c.remove_flags.new.self in
     rw c.step_fault.ensures (left_step _ _ _ _ _ _ _ _ _ _ c.args.number opened _ c.in-Err.ensures.call (line_of_box _)
     (λ m at a own. rw own (begun_held g.opening opened made m (begun_arrives g.opening opened made _ m a at)))
-    (λ m at a own told. let w = cleared_whole g.opening opened _ c.requires.1.1.1.1 f.direction f.far f.near f.set f.cleared c.requires.1.1.0 _ _ at in (
-      from_box c.in-Err.fault told,
+    (λ m at a own reported. let w = cleared_whole g.opening opened _ c.requires.1.1.1.1 f.direction f.far f.near f.set f.cleared c.requires.1.1.0 _ _ at in (
+      from_box c.in-Err.fault reported,
       left_by (Underway g.opening) _ _ c.in-Err.fault m s1.device own
           (begun_underway g.opening opened made m (begun_arrives g.opening opened made _ m a at))
           (λ part. begun_underway g.opening opened made s1.device (begun_named g.opening opened (step.Flags f.direction f.far f.near f.set f.cleared) (target f.direction) (changed_uid f.direction f.far f.near) c.requires.1.1.0 refl made _ m s1.device a at (rw (c.target-side.ensures, c.changed_uid-uid.ensures) at part)))

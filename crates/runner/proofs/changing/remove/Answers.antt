@@ -27,8 +27,8 @@ returns-in-Err-clause-part g c =
     let s1 = g.O.Outside.seen c.expunge.new.self in
     rw c.step_fault.ensures (left_step _ _ _ _ _ _ _ _ _ _ c.args.number opened _ c.in-Err.ensures.call (line_of_box _)
     (λ m at a own. rw own (ready_held g.opening opened true m (ready_arrives g.opening opened true _ m a at)))
-    (λ m at a own told. (
-      from_box c.in-Err.fault told,
+    (λ m at a own reported. (
+      from_box c.in-Err.fault reported,
       left_by (Underway g.opening) _ _ c.in-Err.fault m s1.device own
           (ready_underway g.opening opened true m (ready_arrives g.opening opened true _ m a at))
           (λ part. ready_underway g.opening opened true s1.device (ready_named g.opening opened (step.Expunge side uid) side uid c.requires.1.1 refl _ m s1.device a at part))

@@ -6,7 +6,7 @@ use Rattle.runner.specs.Going.{AfterCopy, CopiesUnder}
 use Rattle.runner.proofs.StepParts.{step_left_after}
 use Rattle.runner.proofs.PartCalls.{from_box, left_lost, left_step, line_of_box, passed_after, passed_call}
 use Rattle.runner.proofs.Sourced.{made_fit, void_absent, void_unfit}
-use Rattle.runner.proofs.Stages.{carry_left, carry_told, carry_untold, never_absent, never_unfit, ready_arrives, ready_held}
+use Rattle.runner.proofs.Stages.{carry_left, carry_reported, carry_unreported, never_absent, never_unfit, ready_arrives, ready_held}
 use Rattle.runner.proofs.Within.{copy_whole}
 use Rattle.runner.proofs.copying.copy.Goals as goal
 
@@ -27,7 +27,7 @@ returns-in-Err-clause-part g c =
     let s1 = g.O.Outside.seen c.carry.new.self in
     rw c.step_fault.ensures (left_step _ _ _ _ _ _ _ _ _ _ c.args.number opened _ c.in-Err.ensures.call (line_of_box _)
     (λ m at a own. rw own (ready_held g.opening opened false m (ready_arrives g.opening opened false _ m a at)))
-    (λ m at a own told. let w = copy_whole g.opening opened _ c.requires.1.1.1 c.args.direction c.args.uid c.args.flags c.args.mark c.requires.1.1.0 _ at in (from_box c.in-Err.fault told, carry_left g.opening opened c.args.direction c.args.uid c.args.flags c.args.mark c.requires.1.1.0 c.in-Err.fault _ m s1.device a at (rw w at own))))
+    (λ m at a own reported. let w = copy_whole g.opening opened _ c.requires.1.1.1 c.args.direction c.args.uid c.args.flags c.args.mark c.requires.1.1.0 _ at in (from_box c.in-Err.fault reported, carry_left g.opening opened c.args.direction c.args.uid c.args.flags c.args.mark c.requires.1.1.0 c.in-Err.fault _ m s1.device a at (rw w at own))))
 
 pub returns-in-Absent-clause-part : goal.returns-in-Absent-clause-part
 returns-in-Absent-clause-part g c =
@@ -48,7 +48,7 @@ returns-in-Some-clause-part g c =
     let opened = g.O.Outside.opened c.args.outside.now in
     let s1 = g.O.Outside.seen c.carry.new.self in
     passed_call _ _ _ _ _ _ _ _ _ _ _ (rw (c.in-Made.is, c.in-Some.is) at c.in-Ok.ensures.call)
-    (λ m at a own. let w = copy_whole g.opening opened _ c.requires.1.1.1 c.args.direction c.args.uid c.args.flags c.args.mark c.requires.1.1.0 _ at in carry_told g.opening opened c.args.direction c.args.uid c.args.flags c.args.mark c.requires.1.1.0 c.in-Some.copy _ m s1.device a at (rw w at own))
+    (λ m at a own. let w = copy_whole g.opening opened _ c.requires.1.1.1 c.args.direction c.args.uid c.args.flags c.args.mark c.requires.1.1.0 _ at in carry_reported g.opening opened c.args.direction c.args.uid c.args.flags c.args.mark c.requires.1.1.0 c.in-Some.copy _ m s1.device a at (rw w at own))
 
 pub returns-in_err-copy-in-None-clause-part : goal.returns-in_err-copy-in-None-clause-part
 returns-in_err-copy-in-None-clause-part g c =
@@ -58,7 +58,7 @@ returns-in_err-copy-in-None-clause-part g c =
     let rest = rw c.carry.ensures.opened at c.in_err-copy-in-None.ensures.part in
     rw (e.1, e.2) (step_left_after _ opened _ _ _ (AfterCopy g.opening opened) _ 1 _ _ s1 _ c.in_err-copy-in-None.ensures.was_honest
     (passed_call _ _ _ _ _ _ _ _ _ _ _ (rw (c.in-Made.is, c.in-None.is) at c.in-Ok.ensures.call)
-    (λ m at a own. let w = copy_whole g.opening opened _ c.requires.1.1.1 c.args.direction c.args.uid c.args.flags c.args.mark c.requires.1.1.0 _ at in carry_untold g.opening opened c.args.direction c.args.uid c.args.flags c.args.mark c.requires.1.1.0 None _ m s1.device a at (rw w at own)))
+    (λ m at a own. let w = copy_whole g.opening opened _ c.requires.1.1.1 c.args.direction c.args.uid c.args.flags c.args.mark c.requires.1.1.0 _ at in carry_unreported g.opening opened c.args.direction c.args.uid c.args.flags c.args.mark c.requires.1.1.0 None _ m s1.device a at (rw w at own)))
     rest)
 
 pub returns-in-Some-2-clause-part : goal.returns-in-Some-2-clause-part
@@ -68,7 +68,7 @@ returns-in-Some-2-clause-part g c =
     let rest = rw (c.carry.ensures.opened, c.in-Some-2.is) at c.in_ok-copy-in-None.ensures.part in
     passed_after _ _ _ (AfterCopy g.opening opened) _ 1 0 _ s1 _ c.in_ok-copy-in-None.ensures.was_honest
     (passed_call _ _ _ _ _ _ _ _ _ _ _ (rw (c.in-Made.is, c.in-None.is) at c.in-Ok.ensures.call)
-    (λ m at a own. let w = copy_whole g.opening opened _ c.requires.1.1.1 c.args.direction c.args.uid c.args.flags c.args.mark c.requires.1.1.0 _ at in carry_untold g.opening opened c.args.direction c.args.uid c.args.flags c.args.mark c.requires.1.1.0 None _ m s1.device a at (rw w at own)))
+    (λ m at a own. let w = copy_whole g.opening opened _ c.requires.1.1.1 c.args.direction c.args.uid c.args.flags c.args.mark c.requires.1.1.0 _ at in carry_unreported g.opening opened c.args.direction c.args.uid c.args.flags c.args.mark c.requires.1.1.0 None _ m s1.device a at (rw w at own)))
     rest
 
 pub returns-in-None-2-clause-part : goal.returns-in-None-2-clause-part
@@ -81,7 +81,7 @@ returns-in-None-2-clause-part g c =
     left_lost _ _ _ 1 s0 s2 (omega arith)
     (passed_after _ _ _ (AfterCopy g.opening opened) _ 1 0 _ s1 _ c.in_ok-copy-in-None.ensures.was_honest
     (passed_call _ _ _ _ _ _ _ _ _ _ _ (rw (c.in-Made.is, c.in-None.is) at c.in-Ok.ensures.call)
-    (λ m at a own. let w = copy_whole g.opening opened _ c.requires.1.1.1 c.args.direction c.args.uid c.args.flags c.args.mark c.requires.1.1.0 _ at in carry_untold g.opening opened c.args.direction c.args.uid c.args.flags c.args.mark c.requires.1.1.0 None _ m s1.device a at (rw w at own)))
+    (λ m at a own. let w = copy_whole g.opening opened _ c.requires.1.1.1 c.args.direction c.args.uid c.args.flags c.args.mark c.requires.1.1.0 _ at in carry_unreported g.opening opened c.args.direction c.args.uid c.args.flags c.args.mark c.requires.1.1.0 None _ m s1.device a at (rw w at own)))
     rest)
     Far 3 (λ more. record { far = refl; protocol = refl; copied = more })
 

@@ -9,7 +9,7 @@ use Rattle.runner.proofs.Readings.{none_of, some_of}
 use Rattle.runner.proofs.KeptBoxes.{held_same}
 use Rattle.runner.proofs.GivingUp.{goes_nowhere}
 use Rattle.runner.proofs.GivenUpRead.{answer_known, answered, by_files, none_pending, number_held, some_pending}
-use Rattle.runner.proofs.PartCalls.{left_told, part_after, part_told}
+use Rattle.runner.proofs.PartCalls.{left_reported, part_after, part_reported}
 use Rattle.runner.proofs.Validities.{files_changed}
 use Rattle.runner.proofs.give_up.give_up.Goals as goal
 
@@ -60,7 +60,7 @@ returns-else-is_some-clause-answer g c = λ honest s p h.
 pub returns-in_err-read_book-clause-counted : goal.returns-in_err-read_book-clause-counted
 returns-in_err-read_book-clause-counted g c =
     let e = err_from_is_err_and c.from_residual.result c.from_residual.ensures.1 in
-    rw (e.1, e.2) (left_told _ _ _ _ _ _ _ _ (record { changed = λ side n. absurd n; keywords = λ n. n; repeats = λ n. n; beyond = λ n. n; greatest = λ n. n; unread = λ e t. t; refused = λ step n. absurd n }) c.in_err-read_book.ensures.counted)
+    rw (e.1, e.2) (left_reported _ _ _ _ _ _ _ _ (record { changed = λ side n. absurd n; keywords = λ n. n; repeats = λ n. n; beyond = λ n. n; greatest = λ n. n; unread = λ e t. t; refused = λ step n. absurd n }) c.in_err-read_book.ensures.counted)
 
 pub returns-then-is_some-clause-counted : goal.returns-then-is_some-clause-counted
 returns-then-is_some-clause-counted g c =
@@ -70,7 +70,7 @@ returns-then-is_some-clause-counted g c =
     let s1 = g.O.Outside.seen c.read_book.new.outside in
     let s2 = g.O.Outside.seen c.leave_plan.new.outside in
     let before = c.leave_plan.ensures.was_honest in
-    part_after _ _ _ _ _ _ _ _ _ s1 _ _ before c.in_ok-read_book.ensures.counted (part_told _ _ _ _ _ _ _ _ _ _ (record {
+    part_after _ _ _ _ _ _ _ _ _ s1 _ _ before c.in_ok-read_book.ensures.counted (part_reported _ _ _ _ _ _ _ _ _ _ (record {
       changed = λ side t. files_changed alone _ _ opened s0.device s1.device s2.device side before (λ h. let kept = c.read_book.ensures.kept h in held_same opened s1.device s0.device (sym kept.1) (c.in_ok-read_book.ensures.held h)) c.read_book.ensures.same t;
       keywords = λ n. n;
       repeats = λ n. n;

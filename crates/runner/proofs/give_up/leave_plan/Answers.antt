@@ -3,8 +3,8 @@ use Rattle.std.proofs.lemmas.Result.{err_from_is_err_and}
 use Rattle.runner.proofs.KeptBoxes.{boxes_next}
 use Rattle.runner.proofs.GivingUp.{ready_going}
 use Rattle.runner.proofs.GivenUpRead.{read_done, read_left, read_pending, ready_number}
-use Rattle.runner.proofs.PartCalls.{left_after, left_told, passed_after}
-use Rattle.runner.proofs.StepParts.{steps_told, unrefused_told}
+use Rattle.runner.proofs.PartCalls.{left_after, left_reported, passed_after}
+use Rattle.runner.proofs.StepParts.{steps_reported, unrefused_reported}
 use Rattle.runner.proofs.give_up.leave_plan.Goals as goal
 
 pub finish_log-requires : goal.finish_log-requires
@@ -19,7 +19,7 @@ returns-in_err-get_ready-clause-gives_up g c = λ honest held.
 pub returns-in_err-get_ready-clause-counted : goal.returns-in_err-get_ready-clause-counted
 returns-in_err-get_ready-clause-counted g c =
     let e = err_from_is_err_and c.from_residual.result c.from_residual.ensures.1 in
-    rw (e.1, e.2) (left_told _ _ _ _ _ _ _ _ (unrefused_told _ _ (λ step n. n)) c.in_err-get_ready.ensures.counted)
+    rw (e.1, e.2) (left_reported _ _ _ _ _ _ _ _ (unrefused_reported _ _ (λ step n. n)) c.in_err-get_ready.ensures.counted)
 
 pub returns-in-Ok-clause-gives_up : goal.returns-in-Ok-clause-gives_up
 returns-in-Ok-clause-gives_up g c = λ honest held.
@@ -61,4 +61,4 @@ returns-in-Err-clause-counted g c =
     let s1 = g.O.Outside.seen c.get_ready.new.outside in
     let number = ready_number (g.O.Outside.opened c.args.outside.now) in
     left_after _ _ _ _ _ _ _ _ s1 _ c.finish_log.ensures.was_honest c.in_ok-get_ready.ensures.counted
-    (left_told _ _ _ _ _ _ _ _ (steps_told _ _ (λ step k. k ∙ number)) (rw c.in_ok-get_ready.ensures.opened at c.in-Err.ensures.counted))
+    (left_reported _ _ _ _ _ _ _ _ (steps_reported _ _ (λ step k. k ∙ number)) (rw c.in_ok-get_ready.ensures.opened at c.in-Err.ensures.counted))

@@ -10,20 +10,20 @@ pub mend-requires : goal.mend-requires
 mend-requires g c = record { read = plan_read (g.O.Outside.opened c.args.outside.now) c.requires.plan }
 
 pub returns-in-Ok-clause-held : goal.returns-in-Ok-clause-held
-returns-in-Ok-clause-held g c = λ honest h. let w = c.in-Ok.ensures.call in let acts = w.acts in let e = acts.effect honest in rw c.in-Ok.ensures.opened (turned_held mended _ e.mid _ e.behind (held_arrives g.O.Outside.ours g.O.Outside.alone _ _ e.mid e.before h))
+returns-in-Ok-clause-held g c = λ honest h. let w = c.in-Ok.ensures.call in let acts = w.acts in let e = acts.effect honest in rw c.in-Ok.ensures.opened (turned_held mended _ e.mid _ e.following (held_arrives g.O.Outside.ours g.O.Outside.alone _ _ e.mid e.before h))
 
 pub returns-in-Err-clause-left : goal.returns-in-Err-clause-left
 returns-in-Err-clause-left g c = λ honest h. let w = c.in-Err.ensures.call in let acts = w.acts in let l = acts.left honest in
-    still_by mended (λ p. p) _ l.mid _ mended_on (λ w. giving.goes_nowhere w.journal) c.requires.plan (held_arrives g.O.Outside.ours g.O.Outside.alone _ _ l.mid l.before h) (did _ _ _ _ l.mid _ l.behind)
+    still_by mended (λ p. p) _ l.mid _ mended_on (λ w. giving.goes_nowhere w.journal) c.requires.plan (held_arrives g.O.Outside.ours g.O.Outside.alone _ _ l.mid l.before h) (did _ _ _ _ l.mid _ l.following)
 
 pub returns-in-Ok-clause-boxes : goal.returns-in-Ok-clause-boxes
-returns-in-Ok-clause-boxes g c = λ honest. let w = c.in-Ok.ensures.call in let acts = w.acts in let e = acts.effect honest in boxes_booked g.O.Outside.ours g.O.Outside.alone _ _ _ e.mid _ e.before e.behind
+returns-in-Ok-clause-boxes g c = λ honest. let w = c.in-Ok.ensures.call in let acts = w.acts in let e = acts.effect honest in boxes_booked g.O.Outside.ours g.O.Outside.alone _ _ _ e.mid _ e.before e.following
 
 pub returns-in-Err-clause-boxes : goal.returns-in-Err-clause-boxes
-returns-in-Err-clause-boxes g c = λ honest. let w = c.in-Err.ensures.call in let acts = w.acts in let l = acts.left honest in boxes_left g.O.Outside.ours g.O.Outside.alone _ _ _ _ _ l.mid _ l.before l.behind
+returns-in-Err-clause-boxes g c = λ honest. let w = c.in-Err.ensures.call in let acts = w.acts in let l = acts.left honest in boxes_left g.O.Outside.ours g.O.Outside.alone _ _ _ _ _ l.mid _ l.before l.following
 
 pub returns-in-Ok-clause-counted : goal.returns-in-Ok-clause-counted
 returns-in-Ok-clause-counted g c = passed_call _ _ _ _ _ _ _ _ _ _ _ c.in-Ok.ensures.call (λ m at a own. at)
 
 pub returns-in-Err-clause-counted : goal.returns-in-Err-clause-counted
-returns-in-Err-clause-counted g c = rw c.call_fault.ensures (left_call _ _ _ _ _ _ _ _ _ _ _ (book_unrefused _) c.in-Err.ensures.call (line_of_book _) (λ m at a own told. absurd at))
+returns-in-Err-clause-counted g c = rw c.call_fault.ensures (left_call _ _ _ _ _ _ _ _ _ _ _ (book_unrefused _) c.in-Err.ensures.call (line_of_book _) (λ m at a own reported. absurd at))

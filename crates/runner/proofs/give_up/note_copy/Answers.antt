@@ -3,8 +3,8 @@ use Rattle.runner.proofs.Finding.{same_none}
 use Rattle.runner.specs.GivingUp.{InLook, Nowhere}
 use Rattle.runner.specs.Going.{number_at}
 use Rattle.runner.proofs.GivingUp.{notes_none}
-use Rattle.runner.proofs.PartCalls.{part_told, passed_none}
-use Rattle.runner.proofs.StepParts.{steps_told}
+use Rattle.runner.proofs.PartCalls.{part_reported, passed_none}
+use Rattle.runner.proofs.StepParts.{steps_reported}
 use Rattle.runner.proofs.give_up.note_copy.Goals as goal
 
 pub returns-in-None-clause-notes : goal.returns-in-None-clause-notes
@@ -18,4 +18,4 @@ returns-in-None-clause-counted g c = passed_none _ Nowhere Nowhere _ c.requires.
 pub returns-in-Some-clause-counted : goal.returns-in-Some-clause-counted
 returns-in-Some-clause-counted g c =
     let n = number_at (g.O.Outside.opened c.args.outside.now) in
-    part_told _ _ _ _ _ _ _ _ _ _ (steps_told _ (InLook n) (λ step k. k ∙ c.in-Some.ensures.0)) c.note_step.ensures.counted
+    part_reported _ _ _ _ _ _ _ _ _ _ (steps_reported _ (InLook n) (λ step k. k ∙ c.in-Some.ensures.0)) c.note_step.ensures.counted

@@ -11,23 +11,23 @@ recorded_validity-recorded-requires g c = record { read = plan_read (g.O.Outside
 
 pub returns-then-before-validity-clause-same : goal.returns-then-before-validity-clause-same
 returns-then-before-validity-clause-same g c = λ honest. let w = c.in-Ok.ensures.call in let acts = w.acts in let e = acts.effect honest in
-    same_read g.O.Outside.ours g.O.Outside.alone (g.O.Outside.opened c.args.outside.now) c.args.side _ e.mid _ c.in-Some.before c.in-Ok.validity (sym c.recorded_validity-recorded.ensures ∙ c.in-Some.is) e.before e.behind.0 e.behind.1 c.if-before-validity.true
+    same_read g.O.Outside.ours g.O.Outside.alone (g.O.Outside.opened c.args.outside.now) c.args.side _ e.mid _ c.in-Some.before c.in-Ok.validity (sym c.recorded_validity-recorded.ensures ∙ c.in-Some.is) e.before e.following.0 e.following.1 c.if-before-validity.true
 
 pub returns-in-None-clause-same : goal.returns-in-None-clause-same
 returns-in-None-clause-same g c = λ honest. let w = c.in-Ok.ensures.call in let acts = w.acts in let e = acts.effect honest in
-    any_read g.O.Outside.ours g.O.Outside.alone (g.O.Outside.opened c.args.outside.now) c.args.side _ e.mid _ (sym c.recorded_validity-recorded.ensures ∙ c.in-None.is) e.before e.behind.0
+    any_read g.O.Outside.ours g.O.Outside.alone (g.O.Outside.opened c.args.outside.now) c.args.side _ e.mid _ (sym c.recorded_validity-recorded.ensures ∙ c.in-None.is) e.before e.following.0
 
 pub returns-then-before-validity-clause-kept : goal.returns-then-before-validity-clause-kept
-returns-then-before-validity-clause-kept g c = λ honest. let w = c.in-Ok.ensures.call in let acts = w.acts in let e = acts.effect honest in all_read g.O.Outside.ours g.O.Outside.alone _ e.mid _ e.before e.behind.0
+returns-then-before-validity-clause-kept g c = λ honest. let w = c.in-Ok.ensures.call in let acts = w.acts in let e = acts.effect honest in all_read g.O.Outside.ours g.O.Outside.alone _ e.mid _ e.before e.following.0
 
 pub returns-else-before-validity-clause-kept : goal.returns-else-before-validity-clause-kept
-returns-else-before-validity-clause-kept g c = λ honest. let w = c.in-Ok.ensures.call in let acts = w.acts in let e = acts.effect honest in all_read g.O.Outside.ours g.O.Outside.alone _ e.mid _ e.before e.behind.0
+returns-else-before-validity-clause-kept g c = λ honest. let w = c.in-Ok.ensures.call in let acts = w.acts in let e = acts.effect honest in all_read g.O.Outside.ours g.O.Outside.alone _ e.mid _ e.before e.following.0
 
 pub returns-in-None-clause-kept : goal.returns-in-None-clause-kept
-returns-in-None-clause-kept g c = λ honest. let w = c.in-Ok.ensures.call in let acts = w.acts in let e = acts.effect honest in all_read g.O.Outside.ours g.O.Outside.alone _ e.mid _ e.before e.behind.0
+returns-in-None-clause-kept g c = λ honest. let w = c.in-Ok.ensures.call in let acts = w.acts in let e = acts.effect honest in all_read g.O.Outside.ours g.O.Outside.alone _ e.mid _ e.before e.following.0
 
 pub returns-in-Err-clause-kept : goal.returns-in-Err-clause-kept
-returns-in-Err-clause-kept g c = λ honest. let w = c.in-Err.ensures.call in let acts = w.acts in let l = acts.left honest in all_read g.O.Outside.ours g.O.Outside.alone _ l.mid _ l.before l.behind
+returns-in-Err-clause-kept g c = λ honest. let w = c.in-Err.ensures.call in let acts = w.acts in let l = acts.left honest in all_read g.O.Outside.ours g.O.Outside.alone _ l.mid _ l.before l.following
 
 pub returns-then-before-validity-clause-counted : goal.returns-then-before-validity-clause-counted
 returns-then-before-validity-clause-counted g c = passed_call _ _ _ _ _ _ _ _ _ _ _ c.in-Ok.ensures.call (λ m at a own. at)
@@ -39,8 +39,8 @@ pub returns-else-before-validity-clause-counted : goal.returns-else-before-valid
 returns-else-before-validity-clause-counted g c =
     let opened = g.O.Outside.opened c.args.outside.now in
     left_here _ _ Nowhere _ _ _ _ _ (passed_call _ _ _ _ _ _ _ _ _ _ _ c.in-Ok.ensures.call (λ m at a own. at))
-    (refl, λ honest. let w = c.in-Ok.ensures.call in let acts = w.acts in let e = acts.effect honest in other_read g.O.Outside.ours g.O.Outside.alone opened c.args.side _ e.mid _ c.in-Some.before c.in-Ok.validity (sym c.recorded_validity-recorded.ensures ∙ c.in-Some.is) e.before e.behind.0 e.behind.1 c.if-before-validity.false)
+    (refl, λ honest. let w = c.in-Ok.ensures.call in let acts = w.acts in let e = acts.effect honest in other_read g.O.Outside.ours g.O.Outside.alone opened c.args.side _ e.mid _ c.in-Some.before c.in-Ok.validity (sym c.recorded_validity-recorded.ensures ∙ c.in-Some.is) e.before e.following.0 e.following.1 c.if-before-validity.false)
     (λ k. absurd k)
 
 pub returns-in-Err-clause-counted : goal.returns-in-Err-clause-counted
-returns-in-Err-clause-counted g c = rw c.call_fault.ensures (left_call _ _ _ _ _ _ _ _ _ _ _ (opening_unrefused _) c.in-Err.ensures.call (line_of_opening _) (λ m at a own told. absurd at))
+returns-in-Err-clause-counted g c = rw c.call_fault.ensures (left_call _ _ _ _ _ _ _ _ _ _ _ (opening_unrefused _) c.in-Err.ensures.call (line_of_opening _) (λ m at a own reported. absurd at))

@@ -7,19 +7,19 @@ use Rattle.runner.proofs.KeptBoxes.{all_read, held_same}
 use Rattle.runner.proofs.give_up.read_book.Goals as goal
 
 pub returns-in-Ok-clause-held : goal.returns-in-Ok-clause-held
-returns-in-Ok-clause-held g c = λ honest. let w = c.in-Ok.ensures.call in let acts = w.acts in let e = acts.effect honest in held_same _ e.mid _ (ap (λ (x : Device). x.files) e.behind.0) e.behind.1
+returns-in-Ok-clause-held g c = λ honest. let w = c.in-Ok.ensures.call in let acts = w.acts in let e = acts.effect honest in held_same _ e.mid _ (ap (λ (x : Device). x.files) e.following.0) e.following.1
 
 pub returns-in-Ok-clause-kept : goal.returns-in-Ok-clause-kept
-returns-in-Ok-clause-kept g c = λ honest. let w = c.in-Ok.ensures.call in let acts = w.acts in let e = acts.effect honest in all_read g.O.Outside.ours g.O.Outside.alone _ e.mid _ e.before e.behind.0
+returns-in-Ok-clause-kept g c = λ honest. let w = c.in-Ok.ensures.call in let acts = w.acts in let e = acts.effect honest in all_read g.O.Outside.ours g.O.Outside.alone _ e.mid _ e.before e.following.0
 
 pub returns-in-Err-clause-kept : goal.returns-in-Err-clause-kept
-returns-in-Err-clause-kept g c = λ honest. let w = c.in-Err.ensures.call in let acts = w.acts in let l = acts.left honest in all_read g.O.Outside.ours g.O.Outside.alone _ l.mid _ l.before l.behind.0
+returns-in-Err-clause-kept g c = λ honest. let w = c.in-Err.ensures.call in let acts = w.acts in let l = acts.left honest in all_read g.O.Outside.ours g.O.Outside.alone _ l.mid _ l.before l.following.0
 
 pub returns-in-Ok-clause-same : goal.returns-in-Ok-clause-same
-returns-in-Ok-clause-same g c = λ honest. let w = c.in-Ok.ensures.call in let acts = w.acts in let e = acts.effect honest in kept_read g.O.Outside.ours g.O.Outside.alone _ e.mid _ e.before e.behind.0
+returns-in-Ok-clause-same g c = λ honest. let w = c.in-Ok.ensures.call in let acts = w.acts in let e = acts.effect honest in kept_read g.O.Outside.ours g.O.Outside.alone _ e.mid _ e.before e.following.0
 
 pub returns-in-Err-clause-same : goal.returns-in-Err-clause-same
-returns-in-Err-clause-same g c = λ honest. let w = c.in-Err.ensures.call in let acts = w.acts in let l = acts.left honest in kept_read g.O.Outside.ours g.O.Outside.alone _ l.mid _ l.before l.behind.0
+returns-in-Err-clause-same g c = λ honest. let w = c.in-Err.ensures.call in let acts = w.acts in let l = acts.left honest in kept_read g.O.Outside.ours g.O.Outside.alone _ l.mid _ l.before l.following.0
 
 pub returns-in-Ok-clause-stuck : goal.returns-in-Ok-clause-stuck
 returns-in-Ok-clause-stuck g c = λ b. absurd (whole_call _ _ _ _ _ _ _ _ _ c.in-Ok.ensures.call b)
@@ -34,5 +34,5 @@ pub returns-in-Err-clause-counted : goal.returns-in-Err-clause-counted
 returns-in-Err-clause-counted g c =
     let s1 = g.O.Outside.seen c.open_book.new.self in
     rw c.call_fault.ensures (left_call _ _ _ _ _ _ _ _ _ _ _ (shelf_unrefused _) c.in-Err.ensures.call
-    (λ told. line_of_shelf _ (λ honest. let w = c.in-Err.ensures.call in let acts = w.acts in let l = acts.left honest in unread_files c.in-Err.fault l.mid s1.device l.behind.0 l.behind.1))
-    (λ m at a own told. absurd at))
+    (λ reported. line_of_shelf _ (λ honest. let w = c.in-Err.ensures.call in let acts = w.acts in let l = acts.left honest in unread_files c.in-Err.fault l.mid s1.device l.following.0 l.following.1))
+    (λ m at a own reported. absurd at))

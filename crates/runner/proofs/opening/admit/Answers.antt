@@ -15,8 +15,8 @@ pub returns-in-Err-clause-part : goal.returns-in-Err-clause-part
 returns-in-Err-clause-part g c =
     let opened = g.O.Outside.opened c.args.outside.now in
     let s1 = g.O.Outside.seen c.admit.new.self in
-    rw c.call_fault.ensures (left_call _ _ _ _ _ _ _ _ _ _ _ (opening_unrefused _) c.in-Err.ensures.call (line_of_opening _) (λ m at a own told. (
-      from_opening c.in-Err.fault told,
+    rw c.call_fault.ensures (left_call _ _ _ _ _ _ _ _ _ _ _ (opening_unrefused _) c.in-Err.ensures.call (line_of_opening _) (λ m at a own reported. (
+      from_opening c.in-Err.fault reported,
       left_by (Underway g.opening) _ _ c.in-Err.fault m s1.device own
           (clear_underway g.opening opened false m (clear_arrives g.opening opened false _ m a at))
           (λ k. clear_underway g.opening opened false s1.device (admitted_part g.opening opened _ m s1.device a at k))
@@ -24,4 +24,4 @@ returns-in-Err-clause-part g c =
     )))
 
 pub returns-in-Ok-clause-validities : goal.returns-in-Ok-clause-validities
-returns-in-Ok-clause-validities g c = λ honest. let w = c.in-Ok.ensures.call in let acts = w.acts in let e = acts.effect honest in admitted_validities g.O.Outside.ours g.O.Outside.alone _ _ e.mid _ e.before e.behind
+returns-in-Ok-clause-validities g c = λ honest. let w = c.in-Ok.ensures.call in let acts = w.acts in let e = acts.effect honest in admitted_validities g.O.Outside.ours g.O.Outside.alone _ _ e.mid _ e.before e.following

@@ -21,8 +21,8 @@ pub returns-in-Err-clause-part : goal.returns-in-Err-clause-part
 returns-in-Err-clause-part g c =
     let opened = g.O.Outside.opened c.args.outside.now in
     let s1 = g.O.Outside.seen c.discard.new.self in
-    rw c.call_fault.ensures (left_call _ _ _ _ _ _ _ _ _ _ _ (book_unrefused _) c.in-Err.ensures.call (line_of_book _) (λ m at a own told. (
-      from_book c.in-Err.fault told,
+    rw c.call_fault.ensures (left_call _ _ _ _ _ _ _ _ _ _ _ (book_unrefused _) c.in-Err.ensures.call (line_of_book _) (λ m at a own reported. (
+      from_book c.in-Err.fault reported,
       left_by (Underway g.opening) _ _ c.in-Err.fault m s1.device own
           (let k = known_arrives g.opening opened _ m a (none_known g.opening opened _ at) in k.underway)
           (half_forgot g.opening opened _ m s1.device c.requires.1 a (none_known g.opening opened _ at))
@@ -30,4 +30,4 @@ returns-in-Err-clause-part g c =
     )))
 
 pub returns-in-Ok-clause-validities : goal.returns-in-Ok-clause-validities
-returns-in-Ok-clause-validities g c = λ honest. let w = c.in-Ok.ensures.call in let acts = w.acts in let e = acts.effect honest in emptied_validities g.O.Outside.ours g.O.Outside.alone _ _ e.mid _ c.requires.1 e.before e.behind
+returns-in-Ok-clause-validities g c = λ honest. let w = c.in-Ok.ensures.call in let acts = w.acts in let e = acts.effect honest in emptied_validities g.O.Outside.ours g.O.Outside.alone _ _ e.mid _ c.requires.1 e.before e.following

@@ -36,8 +36,8 @@ returns-in-Err-clause-part g c =
     let opened = g.O.Outside.opened c.args.outside.now in
     let i : is_some c.pending.result ≡ false = grind (arith, common_steps) in
     let none : HasNoPlan opened = has_none opened c.requires.1.0 (none_of _ c.pending.result _ c.pending.ensures i) in
-    rw c.call_fault.ensures (left_call _ _ _ _ _ _ _ _ _ _ _ (book_unrefused _) c.in-Err.ensures.call (line_of_book _) (λ m at a own told. (
-      from_book c.in-Err.fault told,
+    rw c.call_fault.ensures (left_call _ _ _ _ _ _ _ _ _ _ _ (book_unrefused _) c.in-Err.ensures.call (line_of_book _) (λ m at a own reported. (
+      from_book c.in-Err.fault reported,
       left_by (Underway g.opening) _ _ c.in-Err.fault m s1.device own
           (underway_arrives g.opening _ m a at.underway)
           (half_forgot g.opening opened _ m s1.device none a at)
@@ -48,7 +48,7 @@ pub returns-then-is_some-clause-part : goal.returns-then-is_some-clause-part
 returns-then-is_some-clause-part g c = passed_none _ _ _ _ c.requires.1.1 (λ k. k)
 
 pub returns-in-Ok-clause-stores : goal.returns-in-Ok-clause-stores
-returns-in-Ok-clause-stores g c = λ honest. let w = c.in-Ok.ensures.call in let acts = w.acts in let e = acts.effect honest in stores_kept g.opening _ _ e.mid _ c.requires.1.0 e.before e.behind
+returns-in-Ok-clause-stores g c = λ honest. let w = c.in-Ok.ensures.call in let acts = w.acts in let e = acts.effect honest in stores_kept g.opening _ _ e.mid _ c.requires.1.0 e.before e.following
 
 pub returns-then-is_some-clause-gone : goal.returns-then-is_some-clause-gone
 returns-then-is_some-clause-gone g c = λ none.
@@ -72,4 +72,4 @@ returns-in-Ok-clause-emptied g c = λ honest held.
     let w = c.in-Ok.ensures.call in
     let acts = w.acts in
     let e = acts.effect honest in
-    forgot_held g.opening (g.O.Outside.opened c.args.outside.now) (g.O.Outside.seen c.args.outside.now).device e.mid (g.O.Outside.seen c.discard.new.self).device c.requires.1.0 e.before held e.behind
+    forgot_held g.opening (g.O.Outside.opened c.args.outside.now) (g.O.Outside.seen c.args.outside.now).device e.mid (g.O.Outside.seen c.discard.new.self).device c.requires.1.0 e.before held e.following

@@ -2,7 +2,7 @@ use Rattle.std.proofs.Common.{true, List, sym, subst}
 use Rattle.mailcore.specs.declared.keywords.Keyword.{Keyword}
 use Rattle.mailbox.specs.Operations.{ListsWithin}
 use Rattle.mailcore.specs.declared.side.Side.TheVariants.{Far}
-use Rattle.runner.proofs.PartCalls.{from_opening, left_call, line_of_opening, opening_unrefused, passed_told}
+use Rattle.runner.proofs.PartCalls.{from_opening, left_call, line_of_opening, opening_unrefused, passed_reported}
 use Rattle.runner.proofs.Begun.{clear_arrives, clear_underway, far_listed}
 use Rattle.runner.proofs.Validities.{read_validities}
 use Rattle.runner.proofs.opening.list_far.Goals as goal
@@ -13,15 +13,15 @@ list_far-requires g c = record { is_open = c.requires.1.0 Far }
 pub returns-in-Ok-clause-part : goal.returns-in-Ok-clause-part
 returns-in-Ok-clause-part g c =
     let s1 = g.O.Outside.seen c.list_far.new.self in
-    rw c.in-Ok.ensures.opened (passed_told _ _ _ _ _ _ _ _ _ _ _ c.in-Ok.ensures.call (λ h m at a own. far_listed g.opening _ _ _ m s1.device (subst (λ (ks : List Keyword). ListsWithin ks c.in-Ok.far) (sym c.requires.1.1) (c.in-Ok.ensures.within h)) a at own.0 own.1))
+    rw c.in-Ok.ensures.opened (passed_reported _ _ _ _ _ _ _ _ _ _ _ c.in-Ok.ensures.call (λ h m at a own. far_listed g.opening _ _ _ m s1.device (subst (λ (ks : List Keyword). ListsWithin ks c.in-Ok.far) (sym c.requires.1.1) (c.in-Ok.ensures.within h)) a at own.0 own.1))
 
 pub returns-in-Err-clause-part : goal.returns-in-Err-clause-part
 returns-in-Err-clause-part g c =
     let opened = g.O.Outside.opened c.args.outside.now in
-    rw c.call_fault.ensures (left_call _ _ _ _ _ _ _ _ _ _ _ (opening_unrefused _) c.in-Err.ensures.call (line_of_opening _) (λ m at a own told. (from_opening c.in-Err.fault told, rw own (clear_underway g.opening opened true m (clear_arrives g.opening opened true _ m a at)))))
+    rw c.call_fault.ensures (left_call _ _ _ _ _ _ _ _ _ _ _ (opening_unrefused _) c.in-Err.ensures.call (line_of_opening _) (λ m at a own reported. (from_opening c.in-Err.fault reported, rw own (clear_underway g.opening opened true m (clear_arrives g.opening opened true _ m a at)))))
 
 pub returns-in-Ok-clause-validities : goal.returns-in-Ok-clause-validities
-returns-in-Ok-clause-validities g c = λ honest. let w = c.in-Ok.ensures.call in let acts = w.acts in let e = acts.effect honest in read_validities g.O.Outside.ours g.O.Outside.alone _ e.mid _ e.before e.behind.0
+returns-in-Ok-clause-validities g c = λ honest. let w = c.in-Ok.ensures.call in let acts = w.acts in let e = acts.effect honest in read_validities g.O.Outside.ours g.O.Outside.alone _ e.mid _ e.before e.following.0
 
 pub returns-in-Ok-clause-validity : goal.returns-in-Ok-clause-validity
-returns-in-Ok-clause-validity g c = λ honest. let w = c.in-Ok.ensures.call in let acts = w.acts in let e = acts.effect honest in let l = e.behind.1 in rw e.behind.0 l.shows.validity
+returns-in-Ok-clause-validity g c = λ honest. let w = c.in-Ok.ensures.call in let acts = w.acts in let e = acts.effect honest in let l = e.following.1 in rw e.following.0 l.shows.validity

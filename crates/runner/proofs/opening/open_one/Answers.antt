@@ -20,20 +20,20 @@ returns-in-None-clause-part g c =
 pub returns-else-before-validity-clause-part : goal.returns-else-before-validity-clause-part
 returns-else-before-validity-clause-part g c =
     let opened = g.O.Outside.opened c.args.outside.now in
-    left_here _ _ (ReadUnderway g.opening opened) _ _ _ _ _ (passed_call _ _ _ _ _ _ _ _ _ _ _ c.in-Ok.ensures.call (λ m at a own. rw own.0 (known_arrives g.opening opened _ m a at))) ((refl, λ honest. let w = c.in-Ok.ensures.call in let acts = w.acts in let e = acts.effect honest in other_read g.O.Outside.ours g.O.Outside.alone opened c.args.side _ e.mid _ c.in-Some.before c.in-Ok.validity (sym c.recorded_validity-recorded.ensures ∙ c.in-Some.is) e.before e.behind.0 e.behind.1 c.if-before-validity.false), compared_here c.args.side opened _ c.in-Some.before c.in-Ok.ensures.opened (sym c.recorded_validity-recorded.ensures ∙ c.in-Some.is)) (λ k. k.underway)
+    left_here _ _ (ReadUnderway g.opening opened) _ _ _ _ _ (passed_call _ _ _ _ _ _ _ _ _ _ _ c.in-Ok.ensures.call (λ m at a own. rw own.0 (known_arrives g.opening opened _ m a at))) ((refl, λ honest. let w = c.in-Ok.ensures.call in let acts = w.acts in let e = acts.effect honest in other_read g.O.Outside.ours g.O.Outside.alone opened c.args.side _ e.mid _ c.in-Some.before c.in-Ok.validity (sym c.recorded_validity-recorded.ensures ∙ c.in-Some.is) e.before e.following.0 e.following.1 c.if-before-validity.false), compared_here c.args.side opened _ c.in-Some.before c.in-Ok.ensures.opened (sym c.recorded_validity-recorded.ensures ∙ c.in-Some.is)) (λ k. k.underway)
 
 pub returns-in-Err-clause-part : goal.returns-in-Err-clause-part
 returns-in-Err-clause-part g c =
-    rw c.call_fault.ensures (left_call _ _ _ _ _ _ _ _ _ _ _ (opening_unrefused _) c.in-Err.ensures.call (line_of_opening _) (λ m at a own told. (from_opening c.in-Err.fault told, rw own (underway_arrives g.opening _ m a at.underway))))
+    rw c.call_fault.ensures (left_call _ _ _ _ _ _ _ _ _ _ _ (opening_unrefused _) c.in-Err.ensures.call (line_of_opening _) (λ m at a own reported. (from_opening c.in-Err.fault reported, rw own (underway_arrives g.opening _ m a at.underway))))
 
 pub returns-then-before-validity-clause-kept : goal.returns-then-before-validity-clause-kept
-returns-then-before-validity-clause-kept g c = λ honest. let w = c.in-Ok.ensures.call in let acts = w.acts in let e = acts.effect honest in same_read g.O.Outside.ours g.O.Outside.alone (g.O.Outside.opened c.args.outside.now) c.args.side _ e.mid _ c.in-Some.before c.in-Ok.validity (sym c.recorded_validity-recorded.ensures ∙ c.in-Some.is) e.before e.behind.0 e.behind.1 c.if-before-validity.true
+returns-then-before-validity-clause-kept g c = λ honest. let w = c.in-Ok.ensures.call in let acts = w.acts in let e = acts.effect honest in same_read g.O.Outside.ours g.O.Outside.alone (g.O.Outside.opened c.args.outside.now) c.args.side _ e.mid _ c.in-Some.before c.in-Ok.validity (sym c.recorded_validity-recorded.ensures ∙ c.in-Some.is) e.before e.following.0 e.following.1 c.if-before-validity.true
 
 pub returns-in-None-clause-kept : goal.returns-in-None-clause-kept
-returns-in-None-clause-kept g c = λ honest. let w = c.in-Ok.ensures.call in let acts = w.acts in let e = acts.effect honest in any_read g.O.Outside.ours g.O.Outside.alone (g.O.Outside.opened c.args.outside.now) c.args.side _ e.mid _ (sym c.recorded_validity-recorded.ensures ∙ c.in-None.is) e.before e.behind.0
+returns-in-None-clause-kept g c = λ honest. let w = c.in-Ok.ensures.call in let acts = w.acts in let e = acts.effect honest in any_read g.O.Outside.ours g.O.Outside.alone (g.O.Outside.opened c.args.outside.now) c.args.side _ e.mid _ (sym c.recorded_validity-recorded.ensures ∙ c.in-None.is) e.before e.following.0
 
 pub returns-then-before-validity-clause-same : goal.returns-then-before-validity-clause-same
-returns-then-before-validity-clause-same g c = λ honest. let w = c.in-Ok.ensures.call in let acts = w.acts in let e = acts.effect honest in copies_read g.O.Outside.ours g.O.Outside.alone _ e.mid _ e.before (e.behind).0
+returns-then-before-validity-clause-same g c = λ honest. let w = c.in-Ok.ensures.call in let acts = w.acts in let e = acts.effect honest in copies_read g.O.Outside.ours g.O.Outside.alone _ e.mid _ e.before (e.following).0
 
 pub returns-in-None-clause-same : goal.returns-in-None-clause-same
-returns-in-None-clause-same g c = λ honest. let w = c.in-Ok.ensures.call in let acts = w.acts in let e = acts.effect honest in copies_read g.O.Outside.ours g.O.Outside.alone _ e.mid _ e.before (e.behind).0
+returns-in-None-clause-same g c = λ honest. let w = c.in-Ok.ensures.call in let acts = w.acts in let e = acts.effect honest in copies_read g.O.Outside.ours g.O.Outside.alone _ e.mid _ e.before (e.following).0

@@ -20,8 +20,8 @@ returns-in-Err-clause-part g c =
     let opened = g.O.Outside.opened c.args.outside.now in
     let plan = c.args.plan in
     let s1 = g.O.Outside.seen c.begin.new.self in
-    rw c.call_fault.ensures (left_call _ _ _ _ _ _ _ _ _ _ _ (book_unrefused _) c.in-Err.ensures.call (line_of_book _) (λ m at a own told. (
-      from_book c.in-Err.fault told,
+    rw c.call_fault.ensures (left_call _ _ _ _ _ _ _ _ _ _ _ (book_unrefused _) c.in-Err.ensures.call (line_of_book _) (λ m at a own reported. (
+      from_book c.in-Err.fault reported,
       left_by (Underway g.opening) _ _ c.in-Err.fault m s1.device own
           (let p = made_arrives g.opening opened plan _ m a at in clear_underway g.opening opened true m p.clear)
           (half_written g.opening opened plan _ m s1.device a at)

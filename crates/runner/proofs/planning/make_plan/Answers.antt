@@ -3,7 +3,7 @@ use Rattle.std.proofs.lemmas.Result.{err_from_is_err_and}
 use Rattle.planner.specs.Listed.{marks_of}
 use Rattle.runner.specs.Answers.{AreDrawn}
 use Rattle.runner.proofs.PlanFacts.{drawn_in, in_range, plan_run, planned_by, repeats_in, same_state, takes_plan}
-use Rattle.runner.proofs.Validities.{side_told}
+use Rattle.runner.proofs.Validities.{side_reported}
 use Rattle.runner.proofs.planning.make_plan.Goals as goal
 
 pub returns-in-Ok-clause-takes : goal.returns-in-Ok-clause-takes
@@ -43,6 +43,6 @@ returns-in_err-marks-clause-repeats g c =
 pub returns-clause-changed : goal.returns-clause-changed
 returns-clause-changed g c = λ side is.
     let both = c.args.both.now in
-    let told = c.in-Err-ValidityChanged.side in
-    let one = c.in-Err-ValidityChanged.ensures.changed told in
-    side_told (g.O.Outside.opened c.args.outside.now) c.state-state.result.now both.far both.near told side is c.state-state.ensures.state (one.0 (rw c.in-Err-ValidityChanged.field-0-is refl))
+    let reported = c.in-Err-ValidityChanged.side in
+    let one = c.in-Err-ValidityChanged.ensures.changed reported in
+    side_reported (g.O.Outside.opened c.args.outside.now) c.state-state.result.now both.far both.near reported side is c.state-state.ensures.state (one.0 (rw c.in-Err-ValidityChanged.field-0-is refl))

@@ -15,11 +15,11 @@ use Rattle.runner.specs.Answers.{IsRun, PlanStart, RunEnd}
 use Rattle.runner.specs.Before.{IsShown, world_shown}
 use Rattle.runner.specs.Going.{BeforeStep, log_at, logs_of, made, plan_at}
 use Rattle.runner.specs.Results.{EndsBy}
-use Rattle.runner.proofs.StepParts.{left_never, refused_from, steps_told, unrefused_told}
+use Rattle.runner.proofs.StepParts.{left_never, refused_from, steps_reported, unrefused_reported}
 use Rattle.runner.proofs.Listings.{committed_listed, is_shown_by, same_shown}
-use Rattle.runner.proofs.PartCalls.{left_after, left_knowing, left_told, passed_after, passed_knowing, passed_weaker}
+use Rattle.runner.proofs.PartCalls.{left_after, left_knowing, left_reported, passed_after, passed_knowing, passed_weaker}
 use Rattle.runner.proofs.Passes.{none_few, ran_answers, takes_commit, whole_steps}
-use Rattle.runner.proofs.Told.{named_last, told, told_whole}
+use Rattle.runner.proofs.Reported.{named_last, reported, reported_whole}
 use Rattle.runner.proofs.Finding.{all_new, same_none}
 use Rattle.runner.proofs.StageLemmas.{drawn_left, frame_of, frame_then}
 use Rattle.runner.proofs.run.begin.Goals as goal
@@ -44,7 +44,7 @@ conclude-requires g c κs within =
 pub returns-in_err-unfit : goal.returns-in_err-unfit
 returns-in_err-unfit g c =
     let e = err_from_is_err_and c.from_residual.result c.from_residual.ensures.1 in
-    rw (e.1, e.2) (record { stage = drawn_left g.O.Outside g.opening _ _ _ _ _ _ _ _ _ _ c.in_err-unfit.ensures.frame c.in_err-unfit.ensures.moved (left_told _ _ _ _ _ _ _ _ (unrefused_told _ _ (λ step n. n)) c.in_err-unfit.ensures.part) })
+    rw (e.1, e.2) (record { stage = drawn_left g.O.Outside g.opening _ _ _ _ _ _ _ _ _ _ c.in_err-unfit.ensures.frame c.in_err-unfit.ensures.moved (left_reported _ _ _ _ _ _ _ _ (unrefused_reported _ _ (λ step n. n)) c.in_err-unfit.ensures.part) })
 
 -- the run is underway for some world, if it is for the one that was listed
 anyhow : {ours : List ℕ → Bool} {alone : Bool} (opening : Opening ours alone) (opened : Option Opened) (options : Options) (stream : Stream) (listed : World) (d0 : Device) → PlanStart opening opened options stream d0 → (d : Device) → Underway (once_listed opening listed) d → Underway opening d
@@ -58,7 +58,7 @@ returns-in_err-performed g c =
     let proposed = c.in_ok-unfit.ensures.part in
     let listed = world_shown (g.O.Outside.opened c.propose.new.outside) in
     let frame = frame_then g.O.Outside _ _ _ c.in_ok-unfit.ensures.frame (frame_of g.O.Outside _ _ honest c.in_err-performed.ensures.keywords) in
-    rw (e.1, e.2) (record { stage = drawn_left g.O.Outside g.opening _ _ _ _ _ _ _ _ _ _ frame c.in_ok-unfit.ensures.moved (left_knowing _ _ _ _ _ _ _ (anyhow g.opening _ _ _ listed _) (left_after _ _ _ _ (Underway (once_listed g.opening listed)) _ _ _ s1 _ honest proposed (left_told _ _ _ _ _ _ _ _ (steps_told _ _ (refused_from _ _ _ _ _ (λ h at. proposed.reaches (honest h) at))) c.in_err-performed.ensures.part))) })
+    rw (e.1, e.2) (record { stage = drawn_left g.O.Outside g.opening _ _ _ _ _ _ _ _ _ _ frame c.in_ok-unfit.ensures.moved (left_knowing _ _ _ _ _ _ _ (anyhow g.opening _ _ _ listed _) (left_after _ _ _ _ (Underway (once_listed g.opening listed)) _ _ _ s1 _ honest proposed (left_reported _ _ _ _ _ _ _ _ (steps_reported _ _ (refused_from _ _ _ _ _ (λ h at. proposed.reaches (honest h) at))) c.in_err-performed.ensures.part))) })
 
 pub returns-in_err-conclude : goal.returns-in_err-conclude
 returns-in_err-conclude g c =
@@ -114,8 +114,8 @@ returns g c =
           frame = frame_then g.O.Outside _ _ _ (frame_then g.O.Outside _ _ _ c.in_ok-unfit.ensures.frame (frame_of g.O.Outside _ _ carried.was_honest carried.keywords)) last;
           answer = record {
             by_files = ran_answers old performed unfit may.none;
-            results = λ h. told ready done new performed.items _ carried.opened carried.steps carried.fits concluded.committed (concluded.held h);
-            told = λ h k. told_whole g.opening ready done new performed.items unfit.items _ proposed.log carried.opened carried.steps (over h k)
+            results = λ h. reported ready done new performed.items _ carried.opened carried.steps carried.fits concluded.committed (concluded.held h);
+            reported = λ h k. reported_whole g.opening ready done new performed.items unfit.items _ proposed.log carried.opened carried.steps (over h k)
                 (is_shown_by ready new _ (committed_listed done new concluded.committed ∙ logged.listed) (subst (IsShown ready) (sym (is h k)) proposed.shown))
                 (subst (λ (w : World). unfit.items ≡ all_unfit (scene_of w g.opening.options)) (sym (is h k)) (proposed.skipped (carried.was_honest (last.was_honest h)) k));
             found = λ h k d to.

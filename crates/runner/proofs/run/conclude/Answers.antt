@@ -6,7 +6,7 @@ use Rattle.runner.specs.Results.{EndsBy}
 use Rattle.runner.proofs.Passes.{end_underway, ended_at, half_ended_at}
 use Rattle.runner.proofs.PartCalls.{book_unrefused, from_book, left_call, line_of_book, passed_call}
 use Rattle.runner.proofs.Stages.{left_by, ready_arrives, ready_underway}
-use Rattle.runner.proofs.Told.{ends_by}
+use Rattle.runner.proofs.Reported.{ends_by}
 use Rattle.runner.proofs.run.conclude.Goals as goal
 
 pub returns-in-Ok-clause-part : goal.returns-in-Ok-clause-part
@@ -19,8 +19,8 @@ returns-in-Err-clause-part g c =
     let opened = g.O.Outside.opened c.args.outside.now in
     let seek = c.args.is_resumed in
     let s1 = g.O.Outside.seen c.commit.new.self in
-    rw c.call_fault.ensures (left_call _ _ _ _ _ _ _ _ _ _ _ (book_unrefused _) c.in-Err.ensures.call (line_of_book _) (λ m at a own told. (
-      from_book c.in-Err.fault told,
+    rw c.call_fault.ensures (left_call _ _ _ _ _ _ _ _ _ _ _ (book_unrefused _) c.in-Err.ensures.call (line_of_book _) (λ m at a own reported. (
+      from_book c.in-Err.fault reported,
       left_by (Underway g.opening) _ _ c.in-Err.fault m s1.device own
           (ready_underway g.opening opened seek m (ready_arrives g.opening opened seek _ m a at))
           (half_ended_at g.opening opened seek _ m s1.device c.requires.1.0 c.requires.1.1.1 a at)

@@ -1,13 +1,13 @@
 use Rattle.std.proofs.Common.{◌≤◌, ◌+◌, ◌∙◌, refl, rules}
 use Rattle.std.proofs.lemmas.Result.{err_from_is_err_and}
 use Rattle.runner.specs.Answers.{Inputs, PassStart, ReadPassStart}
-use Rattle.runner.proofs.PartCalls.{left_told, left_weaker, part_after, part_told, passed_weaker, passed_with}
-use Rattle.runner.proofs.PassTells.{answers_so, made_so, tells_so}
+use Rattle.runner.proofs.PartCalls.{left_reported, left_weaker, part_after, part_reported, passed_weaker, passed_with}
+use Rattle.runner.proofs.PassReports.{answers_so, made_so, reports_so}
 use Rattle.runner.proofs.Passes.{answers_held, beyond_held, beyond_read, emptied_held, pass_alike, pass_others, runs_held, stores_joined}
 use Rattle.runner.proofs.PlanFacts.{moved_none}
 use Rattle.runner.proofs.StepParts.{refused_from, repeats_from}
 use Rattle.runner.proofs.Validities.{files_changed, files_map}
-use Rattle.runner.proofs.Told.{told_from}
+use Rattle.runner.proofs.Reported.{reported_from}
 use Rattle.runner.proofs.Finding.{finds_held}
 use Rattle.runner.proofs.Naming.{names_held}
 use Rattle.runner.proofs.StageLemmas.{by_files_in, copies_in, emptied_in, names_in, report_in, results_in, stores_in}
@@ -21,7 +21,7 @@ make_or_resume-requires g c κs within =
 pub returns-in_err-recall-clause-part : goal.returns-in_err-recall-clause-part
 returns-in_err-recall-clause-part g c =
     let e = err_from_is_err_and c.from_residual.result c.from_residual.ensures.1 in
-    rw (e.1, e.2) (left_told _ _ _ _ _ _ _ _ (record { changed = λ side n. absurd n; keywords = λ n. absurd n; repeats = λ n. absurd n; beyond = λ n. absurd n; greatest = λ n. absurd n; unread = λ e t. t; refused = λ step n. absurd n }) (left_weaker _ _ _ _ _ _ _ (λ d k. k.underway) c.in_err-recall.ensures.part))
+    rw (e.1, e.2) (left_reported _ _ _ _ _ _ _ _ (record { changed = λ side n. absurd n; keywords = λ n. absurd n; repeats = λ n. absurd n; beyond = λ n. absurd n; greatest = λ n. absurd n; unread = λ e t. t; refused = λ step n. absurd n }) (left_weaker _ _ _ _ _ _ _ (λ d k. k.underway) c.in_err-recall.ensures.part))
 
 pub returns-clause-answers : goal.returns-clause-answers
 returns-clause-answers g c =
@@ -78,7 +78,7 @@ returns-clause-part g c =
     let stream = g.R.Rng.stream c.args.rng.now in
     let with = passed_with ((run ≤ g.opening.world.state.run + 1) × Inputs g.opening options stream) _ _ _ _ _ _ c.in_ok-recall.ensures.part in
     let ready = passed_weaker _ _ (PassStart g.opening run options stream) _ (ReadPassStart g.opening opened run options stream) _ 0 _ s1 refl (λ d k. ((k.most, k.asked), k.underway)) (λ d k. record { most = k.0.0; asked = k.0.1; known = k.1 }) with in
-    part_after _ _ _ _ _ _ _ _ _ s1 _ _ frame.was_honest ready (part_told _ _ _ _ _ _ _ _ _ _ (record { changed = λ side t. (files_changed alone _ _ opened s0.device s1.device s2.device side frame.was_honest c.in_ok-recall.ensures.held c.in_ok-recall.ensures.kept t.0, t.1); keywords = λ t. files_map alone _ _ options.keywords opened _ s0.device s1.device s2.device frame.was_honest c.in_ok-recall.ensures.held c.in_ok-recall.ensures.kept t; repeats = λ k. repeats_from g.opening _ _ _ _ options stream (λ h at. ready.reaches (frame.was_honest h) at) k; beyond = λ n. (n.1, λ h. beyond_read opened s0.device run (c.in_ok-recall.ensures.held (frame.was_honest h)) n.0); greatest = λ n. n; unread = λ e n. absurd n; refused = refused_from _ _ _ _ _ (λ h at. ready.reaches (frame.was_honest h) at) }) stage.part)
+    part_after _ _ _ _ _ _ _ _ _ s1 _ _ frame.was_honest ready (part_reported _ _ _ _ _ _ _ _ _ _ (record { changed = λ side t. (files_changed alone _ _ opened s0.device s1.device s2.device side frame.was_honest c.in_ok-recall.ensures.held c.in_ok-recall.ensures.kept t.0, t.1); keywords = λ t. files_map alone _ _ options.keywords opened _ s0.device s1.device s2.device frame.was_honest c.in_ok-recall.ensures.held c.in_ok-recall.ensures.kept t; repeats = λ k. repeats_from g.opening _ _ _ _ options stream (λ h at. ready.reaches (frame.was_honest h) at) k; beyond = λ n. (n.1, λ h. beyond_read opened s0.device run (c.in_ok-recall.ensures.held (frame.was_honest h)) n.0); greatest = λ n. n; unread = λ e n. absurd n; refused = refused_from _ _ _ _ _ (λ h at. ready.reaches (frame.was_honest h) at) }) stage.part)
 
 pub returns-in_err-recall-clause-moved : goal.returns-in_err-recall-clause-moved
 returns-in_err-recall-clause-moved g c = moved_none _
@@ -91,8 +91,8 @@ returns-in_err-recall-clause-stuck g c = λ b.
 pub returns-clause-stuck : goal.returns-clause-stuck
 returns-clause-stuck g c = λ b. absurd ((c.in_ok-recall.ensures.stuck b).0)
 
-pub returns-clause-told : goal.returns-clause-told
-returns-clause-told g c =
+pub returns-clause-reported : goal.returns-clause-reported
+returns-clause-reported g c =
     let after = c.make_or_resume.ensures in
     let drawn = after.stage in
     let stage = drawn.stage in
@@ -108,8 +108,8 @@ returns-clause-told g c =
     let d1 = (g.O.Outside.seen c.recall.new.outside).device in
     let leads : g.O.Outside.honest c.make_or_resume.new.outside → PassStart g.opening run options stream d0 → ReadPassStart g.opening opened run options stream d1
     = (λ h k. record { most = k.most; asked = k.asked; known = part.reaches (before h) k.underway }) in
-    tells_so g.opening run _ _ _ d0 _ c.make_or_resume.result
-    (told_from c.make_or_resume.result _ _ _ _ leads (report_in g.O.Outside g.opening _ _ _ _ c.make_or_resume.result stage.answer))
+    reports_so g.opening run _ _ _ d0 _ c.make_or_resume.result
+    (reported_from c.make_or_resume.result _ _ _ _ leads (report_in g.O.Outside g.opening _ _ _ _ c.make_or_resume.result stage.answer))
     (finds_held ours opened d0 d1 c.make_or_resume.result _ _ _ _ before leads c.in_ok-recall.ensures.same c.in_ok-recall.ensures.held (copies_in g.O.Outside g.opening _ _ _ _ c.make_or_resume.result stage.answer))
     (names_held g.opening opened d0 d1 _ c.make_or_resume.result _ _ _ _ before leads (λ h. c.in_ok-recall.ensures.kept h) c.in_ok-recall.ensures.held (names_in g.O.Outside g.opening _ _ _ _ c.make_or_resume.result stage.answer))
     (pass_alike _ _ g.opening run options stream (g.O.Outside.seen c.args.outside.now) (g.O.Outside.seen c.make_or_resume.new.outside) c.make_or_resume.result (returns-clause-part g c))

@@ -11,7 +11,7 @@ use Rattle.runner.specs.Answers.{HasRepeats, Inputs, PlanStart}
 use Rattle.runner.specs.Before.{IsMade, IsShown, world_shown}
 use Rattle.runner.specs.Faults.{because}
 use Rattle.runner.specs.Going.{AreOpen, IsGoing, log_at, plan_at}
-use Rattle.runner.specs.Validities.{IsCompared, ListsChanged, TellsUnlessSame}
+use Rattle.runner.specs.Validities.{IsCompared, ListsChanged, ReportsUnlessSame}
 use Rattle.runner.proofs.StepParts.{left_never}
 use Rattle.runner.proofs.PartCalls.{left_after, left_here, left_weaker, passed_after, passed_weaker, passed_with}
 use Rattle.runner.proofs.Begun.{clear_underway}
@@ -38,8 +38,8 @@ make_plan-requires g c =
       near_numbers = c.in_ok-both.ensures.near_numbers;
     }
 
-pub passed_over-requires : goal.passed_over-requires
-passed_over-requires g c =
+pub all_skipped-requires : goal.all_skipped-requires
+all_skipped-requires g c =
     let old = g.O.Outside.opened c.args.outside.now in
     let listed = c.in_ok-both.ensures.opened in
     record { read = rw (listed.2, c.in_ok-clear.ensures.opened) (listed_read _ _ (listed_read _ _ (turned_read (λ _. Missing) old (none_read old c.requires.1.1.none)))) }
@@ -71,7 +71,7 @@ returns-in_err-plan-clause-part g c =
     let shown = subst (λ (x : Option Opened). IsShown x (world_shown x)) (sym emptied) (two_shown listed.1 listed.0 cleared (turned_read (λ _. Missing) old (none_read old c.requires.1.1.none))) in
     let opens : AreOpen (g.O.Outside.opened c.list_both.new.outside) = subst AreOpen (sym emptied) (listed_open _ _ (listed_open _ _ (turned_open (λ _. Missing) old c.requires.1.1.boxes))) in
     let s2 = g.O.Outside.seen c.list_both.new.outside in
-    let reasons = because (λ side. TellsUnlessSame (g.O.Outside.honest c.list_both.new.outside) old (g.O.Outside.seen c.args.outside.now).device side × IsCompared (g.O.Outside.opened c.list_both.new.outside) side) (HasRepeats g.opening (g.O.Outside.opened c.list_both.new.outside) (g.O.Outside.honest c.list_both.new.outside) (PlanStart g.opening old c.args.options.now (g.R.Rng.stream c.args.rng.now) (g.O.Outside.seen c.args.outside.now).device) c.args.options.now (g.R.Rng.stream c.args.rng.now)) in
+    let reasons = because (λ side. ReportsUnlessSame (g.O.Outside.honest c.list_both.new.outside) old (g.O.Outside.seen c.args.outside.now).device side × IsCompared (g.O.Outside.opened c.list_both.new.outside) side) (HasRepeats g.opening (g.O.Outside.opened c.list_both.new.outside) (g.O.Outside.honest c.list_both.new.outside) (PlanStart g.opening old c.args.options.now (g.R.Rng.stream c.args.rng.now) (g.O.Outside.seen c.args.outside.now).device) c.args.options.now (g.R.Rng.stream c.args.rng.now)) in
     rw (e.1, e.2) (left_weaker _ _ _ _ _ _ _ (λ d k. k.none) (left_here _ _ _ _ _ _ _ _ so_far (caused_plan reasons _ s2 s2 c.in_err-plan.ensures.fault (λ side is. let lists = c.in_err-plan.ensures.changed side is in let before : ListsChanged cleared both.far both.near side = lists_changed listed.0 cleared both.far both.near side (lists_changed listed.1 (with_listing listed.0 cleared) both.far both.near side (subst (λ (x : Option Opened). ListsChanged x both.far both.near side) emptied lists)) in (unless_same _ _ old cleared both.far both.near side _ s1.device refl c.requires.1.1.none c.in_ok-both.ensures.was_honest c.in_ok-clear.ensures.validities c.in_ok-both.ensures.validities before, compared_listed _ both.far both.near side opens lists)) (λ is. repeats_since g.opening (g.O.Outside.opened c.list_both.new.outside) c.args.options.now (g.R.Rng.stream c.args.rng.now) both.far both.near _ _ s2.device shown (c.in_err-plan.ensures.repeats is) (λ h (k : PlanStart g.opening old c.args.options.now (g.R.Rng.stream c.args.rng.now) (g.O.Outside.seen c.args.outside.now).device). so_far.reaches h k.none))) (λ k. after_plan (Underway g.opening) _ _ _ c.in_err-plan.ensures.fault (clear_underway g.opening _ _ _ k.clear))))
 
 pub returns-in_err-unfit-clause-part : goal.returns-in_err-unfit-clause-part
@@ -81,7 +81,7 @@ returns-in_err-unfit-clause-part g c =
     let so_far = passed_after _ _ _ _ _ _ _ _ s1 _ c.in_ok-both.ensures.was_honest c.in_ok-clear.ensures.part c.in_ok-both.ensures.part in
     let old = g.O.Outside.opened c.args.outside.now in
     let s2 = g.O.Outside.seen c.list_both.new.outside in
-    let reasons = because (λ side. TellsUnlessSame (g.O.Outside.honest c.list_both.new.outside) old (g.O.Outside.seen c.args.outside.now).device side × IsCompared (g.O.Outside.opened c.list_both.new.outside) side) (HasRepeats g.opening (g.O.Outside.opened c.list_both.new.outside) (g.O.Outside.honest c.list_both.new.outside) (PlanStart g.opening old c.args.options.now (g.R.Rng.stream c.args.rng.now) (g.O.Outside.seen c.args.outside.now).device) c.args.options.now (g.R.Rng.stream c.args.rng.now)) in
+    let reasons = because (λ side. ReportsUnlessSame (g.O.Outside.honest c.list_both.new.outside) old (g.O.Outside.seen c.args.outside.now).device side × IsCompared (g.O.Outside.opened c.list_both.new.outside) side) (HasRepeats g.opening (g.O.Outside.opened c.list_both.new.outside) (g.O.Outside.honest c.list_both.new.outside) (PlanStart g.opening old c.args.options.now (g.R.Rng.stream c.args.rng.now) (g.O.Outside.seen c.args.outside.now).device) c.args.options.now (g.R.Rng.stream c.args.rng.now)) in
     rw (e.1, e.2) (left_weaker _ _ _ _ _ _ _ (λ d k. k.none) (left_here _ _ _ _ _ _ _ _ so_far (caused_memory reasons _ s2 s2 c.in_err-unfit.ensures.fault) (λ k. after_plan (Underway g.opening) _ _ _ (memory_plan _ c.in_err-unfit.ensures.fault) (clear_underway g.opening _ _ _ k.clear))))
 
 pub returns-in_err-write_plan-clause-part : goal.returns-in_err-write_plan-clause-part

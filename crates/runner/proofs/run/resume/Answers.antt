@@ -8,10 +8,10 @@ use Rattle.runner.specs.Results.{EndsBy}
 use Rattle.std.proofs.lemmas.Result.{err_from_is_err_and}
 use Rattle.book.specs.Books.{mended}
 use Rattle.outside.specs.Opened.{turned}
-use Rattle.runner.proofs.StepParts.{left_never, refused_from, steps_told}
-use Rattle.runner.proofs.PartCalls.{left_after, left_told, passed_after, passed_weaker}
+use Rattle.runner.proofs.StepParts.{left_never, refused_from, steps_reported}
+use Rattle.runner.proofs.PartCalls.{left_after, left_reported, passed_after, passed_weaker}
 use Rattle.runner.proofs.Passes.{book_few, finished_answers, mended_book, mended_going, mended_rest, takes_commit}
-use Rattle.runner.proofs.Told.{named_last, told, told_rest}
+use Rattle.runner.proofs.Reported.{named_last, reported, reported_rest}
 use Rattle.runner.proofs.Finding.{mended_plan, same_then}
 use Rattle.runner.proofs.StageLemmas.{frame_of, frame_then, stage_left}
 use Rattle.runner.proofs.run.resume.Goals as goal
@@ -47,7 +47,7 @@ returns-in_err-performed g c =
     let untorn = c.in_ok-untear.ensures in
     let part = untorn.part in
     let frame = frame_then g.O.Outside _ _ _ (frame_of g.O.Outside _ _ untorn.was_honest untorn.keywords) (frame_of g.O.Outside _ _ honest c.in_err-performed.ensures.keywords) in
-    rw (e.1, e.2) (record { stage = stage_left g.O.Outside g.opening _ _ _ _ _ _ _ frame (left_after _ _ _ _ _ _ _ _ s1 _ honest part (left_told _ _ _ _ _ _ _ _ (steps_told _ _ (refused_from _ _ _ _ _ (λ h at. part.reaches (honest h) at))) c.in_err-performed.ensures.part)) })
+    rw (e.1, e.2) (record { stage = stage_left g.O.Outside g.opening _ _ _ _ _ _ _ frame (left_after _ _ _ _ _ _ _ _ s1 _ honest part (left_reported _ _ _ _ _ _ _ _ (steps_reported _ _ (refused_from _ _ _ _ _ (λ h at. part.reaches (honest h) at))) c.in_err-performed.ensures.part)) })
 
 pub returns-in_err-conclude : goal.returns-in_err-conclude
 returns-in_err-conclude g c =
@@ -86,8 +86,8 @@ returns g c =
         frame = frame_then g.O.Outside _ _ _ (frame_then g.O.Outside _ _ _ (frame_of g.O.Outside _ _ untorn.was_honest untorn.keywords) (frame_of g.O.Outside _ _ carried.was_honest carried.keywords)) last;
         answer = record {
           by_files = finished_answers old performed (mended_rest old performed.items c.requires.1.1.1.0 (rw (← untorn.opened) carried.steps));
-          results = λ h. told ready done new performed.items _ carried.opened carried.steps carried.fits concluded.committed (concluded.held h);
-          told = λ h k. told_rest g.opening ready done performed.items _ carried.opened carried.steps (over h k);
+          results = λ h. reported ready done new performed.items _ carried.opened carried.steps carried.fits concluded.committed (concluded.held h);
+          reported = λ h k. reported_rest g.opening ready done performed.items _ carried.opened carried.steps (over h k);
           found = λ h k d to.
               let before = carried.was_honest (last.was_honest h) in
               subst (λ (p : Plan). AreFoundSo p d performed.items) same (carried.found (last.was_honest h) (part.reaches before k) d (same_then g.O.Outside.ours d d0 s1.device to (untorn.same before)));

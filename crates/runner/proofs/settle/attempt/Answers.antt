@@ -4,12 +4,12 @@ use Rattle.run_states.specs.Conditions.{IsOver}
 use Rattle.runner.specs.Answers.{Inputs, PassStart}
 use Rattle.runner.specs.Attempts.{AttemptStart}
 use Rattle.runner.proofs.Attempts.{asked_later, attempt_answers, attempt_changed, attempt_map, fixed_on, fixed_tried, never_beyond, none_reached, tried_fixed}
-use Rattle.runner.proofs.PartCalls.{goes_on, left_mapped, left_told, left_with, part_after, part_mapped, part_told, part_with, passed_weaker, passed_with}
+use Rattle.runner.proofs.PartCalls.{goes_on, left_mapped, left_reported, left_with, part_after, part_mapped, part_reported, part_with, passed_weaker, passed_with}
 use Rattle.runner.proofs.Passes.{beyond_is_read}
 use Rattle.runner.proofs.PlanFacts.{moved_none}
 use Rattle.runner.proofs.StepParts.{refused_from, repeats_from}
-use Rattle.runner.proofs.PassTells.{found_in, named_in, told_in}
-use Rattle.runner.proofs.Told.{told_from}
+use Rattle.runner.proofs.PassReports.{found_in, named_in, reported_in}
+use Rattle.runner.proofs.Reported.{reported_from}
 use Rattle.runner.proofs.Finding.{finds_tried}
 use Rattle.runner.proofs.Naming.{names_tried}
 use Rattle.runner.proofs.AttemptLemmas.{attempt_answer}
@@ -32,7 +32,7 @@ returns-in_err-number g c =
         };
         moved = moved_none _;
         stuck = fixed.stuck;
-        part = left_told _ _ _ _ _ _ _ _ (record { changed = λ side n. absurd n; keywords = λ n. absurd n; repeats = λ n. absurd n; beyond = λ n. absurd n; greatest = λ n. n; unread = λ e t. t; refused = λ step n. absurd n }) (left_mapped _ _ _ _ _ _ _ _ (λ d k. (k.asked, k.tried)) (λ d k. record { asked = k.0; tried = k.1 }) (left_with (Inputs g.opening c.args.options.now (g.R.Rng.stream c.args.rng.now)) _ _ _ _ _ _ fixed.part));
+        part = left_reported _ _ _ _ _ _ _ _ (record { changed = λ side n. absurd n; keywords = λ n. absurd n; repeats = λ n. absurd n; beyond = λ n. absurd n; greatest = λ n. n; unread = λ e t. t; refused = λ step n. absurd n }) (left_mapped _ _ _ _ _ _ _ _ (λ d k. (k.asked, k.tried)) (λ d k. record { asked = k.0; tried = k.1 }) (left_with (Inputs g.opening c.args.options.now (g.R.Rng.stream c.args.rng.now)) _ _ _ _ _ _ fixed.part));
       };
     })
 
@@ -65,9 +65,9 @@ returns g c =
         answer = attempt_answer g.O.Outside g.opening options old c.args.run.now c.args.outside.now c.pass.new.outside result
             (attempt_answers g.opening _ _ options _ run n s0.device s1.device c.args.run.now result fixed honest number.kept part.reaches passed.answers)
             passed.results
-            (told_from result _ _ _ _ leads (told_in g.opening _ _ _ _ _ _ result passed.told))
-            (finds_tried ours s0.device s1.device result _ _ _ _ honest leads (λ h. let k = number.kept h in k.files) number.same (found_in g.opening _ _ _ _ _ _ result passed.told))
-            (names_tried g.opening s0.device s1.device s2.device result _ _ _ _ honest leads number.kept (named_in g.opening _ _ _ _ _ _ result passed.told));
+            (reported_from result _ _ _ _ leads (reported_in g.opening _ _ _ _ _ _ result passed.reported))
+            (finds_tried ours s0.device s1.device result _ _ _ _ honest leads (λ h. let k = number.kept h in k.files) number.same (found_in g.opening _ _ _ _ _ _ result passed.reported))
+            (names_tried g.opening s0.device s1.device s2.device result _ _ _ _ honest leads number.kept (named_in g.opening _ _ _ _ _ _ result passed.reported));
         number = record {
           reached = λ h at. fixed_on run n _ _ fixed (goes_on _ _ _ _ _ _ _ _ result passed.part h).files (number.number (honest h) at);
           greatest = λ none h s p held is. absurd ((number.greatest none (honest h) s p held is).0);
@@ -79,7 +79,7 @@ returns g c =
             (part_mapped _ _ _ _ _ (AttemptStart g.opening options new run) _ _ (λ x d. IsOver g.opening d) _ _ _ (λ d k. k)
             (λ d k. record { asked = asked_later g.opening options old new passed.moved k.0.0; tried = fixed_tried g.opening run n d fixed (k.0.1, k.1) })
             (λ x d k. let r = k.1 in let e = k.0.1 in r.done (omega (arith, e)))
-            (part_with _ p _ _ _ _ _ _ _ _ (part_told _ _ _ _ _ _ _ _ _ _ (record {
+            (part_with _ p _ _ _ _ _ _ _ _ (part_reported _ _ _ _ _ _ _ _ _ _ (record {
               changed = λ side t. (attempt_changed alone _ _ s0.device s1.device s2.device side honest number.kept t.0, t.1);
               keywords = λ t. attempt_map (g.O.Outside.opened c.pass.new.outside) alone _ _ options.keywords s0.device s1.device s2.device honest number.kept t;
               repeats = λ k. repeats_from g.opening _ _ _ _ options old leads k;

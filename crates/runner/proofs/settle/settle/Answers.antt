@@ -20,7 +20,7 @@ loop-tried-init g c = record {
   keywords = refl;
   moved = moved_none _;
   stops = omega arith;
-  told = more_none _ _ refl;
+  reported = more_none _ _ refl;
   appends = omega arith;
   reopened = attempted_none _ _ 0 _ refl;
   first = λ z. refl;
@@ -54,7 +54,7 @@ loop-tried-preserved g c =
       keywords = c.attempt.ensures.attempt.frame.keywords ∙ c.again.ensures.frame.keywords ∙ i.keywords;
       moved = moved_twice _ _ _ i.moved c.attempt.ensures.attempt.moved;
       stops = stops_more _ _ _ tried s0 now s1 s2 _ i.stops i.first e c.attempt.ensures.attempt.stuck part;
-      told = more_after s0 s1 s2 (more_found tried s0 now s1 i.told e) n.told;
+      reported = more_after s0 s1 s2 (more_found tried s0 now s1 i.reported e) n.reported;
       appends = let k = i.appends in let m = n.appends in omega (arith, k, appends, m);
       reopened = attempted_more g.opening _ _ tried run s0 now s1 s2 (λ f. (c.again.ensures.frame.was_honest (c.attempt.ensures.attempt.frame.was_honest f.0), f.1, f.2)) i.first e i.reopened (λ f. (i.left f.0 f.1 f.2).tried) (λ f. part.goes_on f.0) n.reopened;
       first = λ z. absurd (omega (arith, z));
@@ -89,7 +89,7 @@ returns-in-Ok-clause-done g c = λ h asked at.
     let t = i.left before asked at in
     let here = subst (AttemptStart g.opening c.args.options.now drawn c.loop-tried.run) (sym (found_device tried now s1 c.again.ensures.seen)) t in
     let began = began_at g.opening _ tried c.loop-tried.run s0 now s1 s2 stream drawn i.first i.undrawn i.moved c.again.ensures.seen i.reopened (before, asked, at) t.tried (part.goes_on h) part.reopened in
-    settled_so g.opening s0 s1 s2 stream drawn (g.O.Outside.opened c.attempt.new.outside) c.args.options.now (record { stops = tried; last = c.in-Ok.last }) at began (part.reaches h here) (said.by_files h here.tried) (said.told h here) (said.found h here) (said.named h here)
+    settled_so g.opening s0 s1 s2 stream drawn (g.O.Outside.opened c.attempt.new.outside) c.args.options.now (record { stops = tried; last = c.in-Ok.last }) at began (part.reaches h here) (said.by_files h here.tried) (said.reported h here) (said.found h here) (said.named h here)
 
 pub returns-in-Ok-clause-greatest : goal.returns-in-Ok-clause-greatest
 returns-in-Ok-clause-greatest g c = λ h s p held is.
@@ -154,10 +154,10 @@ returns-in-Err-clause-left g c = λ h asked at.
     let kept = part.no_less.reopened in
     let began = began_at g.opening _ tried c.loop-tried.run s0 now s1 s2 stream drawn i.first i.undrawn i.moved e i.reopened (before, asked, at) t.tried (part.goes_on h) kept in
     record {
-      left = leaves_after (Underway g.opening) fault s0 s1 s2 (more_found tried s0 now s1 i.told e)
+      left = leaves_after (Underway g.opening) fault s0 s1 s2 (more_found tried s0 now s1 i.reported e)
           (leaves_map after (Underway g.opening) fault s1 s2 (λ k. tried_underway g.opening c.attempt.new.run s2.device k.tried) (part.left h here));
-      changed = λ side is. changed_last g.opening s0 s1 s2 stream drawn _ _ _ tried c.args.tries side fault began (omega arith) is h part (λ told. told.0);
-      keywords = λ is. kept_last g.opening s0 s1 s2 stream drawn _ _ _ tried c.args.tries _ options.keywords fault began (omega arith) is h part (λ told. told);
+      changed = λ side is. changed_last g.opening s0 s1 s2 stream drawn _ _ _ tried c.args.tries side fault began (omega arith) is h part (λ reported. reported.0);
+      keywords = λ is. kept_last g.opening s0 s1 s2 stream drawn _ _ _ tried c.args.tries _ options.keywords fault began (omega arith) is h part (λ reported. reported);
       refused = λ step is. (refused_for _ _ _ fault s1 s2 step is part).1 h here;
     }
 
@@ -174,7 +174,7 @@ returns-in-Err-clause-caused g c = λ other.
     let before = AttemptStart g.opening c.args.options.now (g.R.Rng.stream c.loop-tried.rng) c.loop-tried.run in
     let device = found_device c.loop-tried.tried now s1 e in
     caused_since (settle_reasons (g.O.Outside.opened c.attempt.new.outside) (g.O.Outside.honest c.attempt.new.outside) g.opening c.args.options.now start (g.R.Rng.stream c.attempt.new.rng) s0.device s2.device) _ _ _ c.in-Err.fault s0 s1 s2
-    (more_found c.loop-tried.tried s0 now s1 i.told e) appends other c.in-Err.ensures.attempt.part (record {
+    (more_found c.loop-tried.tried s0 now s1 i.reported e) appends other c.in-Err.ensures.attempt.part (record {
       changed = λ side t. t.1;
       keywords = λ t. (t.0, λ h. (t.1 h).0);
       repeats = λ k. record { drawn = g.R.Rng.stream c.loop-tried.rng; moved = i.moved; on = c.attempt.ensures.attempt.moved; count = k.count; repeats = k.repeats; wanted = λ h asked at. k.wanted h (subst before (sym device) (i.left (c.again.ensures.frame.was_honest (c.attempt.ensures.attempt.frame.was_honest h)) asked at)) };

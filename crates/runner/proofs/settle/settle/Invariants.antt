@@ -4,7 +4,7 @@ use Rattle.book.specs.Books.{Holds}
 use Rattle.rules.specs.declared.state.SyncState.{SyncState}
 use Rattle.runner.specs.Answers.{Inputs, Moves}
 use Rattle.runner.specs.Attempts.{AtOpening, IsReached, AttemptStart, MetStops}
-use Rattle.runner.specs.Parts.{TellsMore}
+use Rattle.runner.specs.Parts.{ReportsMore}
 use Rattle.runner.specs.Validities.{IsKept}
 use Rattle.runner.proofs.Reopening.{Attempted}
 use Rattle.runner.proofs.settle.settle.Given as goal
@@ -22,7 +22,7 @@ invariant-loop-tried g l =
       keywords : g.O.Outside.keywords l.outside ≡ g.O.Outside.keywords l.fn.outside;
       moved : Moves (g.R.Rng.stream l.fn.rng) (g.R.Rng.stream l.rng);
       stops : MetStops l.tried start now;
-      told : TellsMore start now;
+      reported : ReportsMore start now;
       appends : start.appends ≤ now.appends;
       reopened : Attempted g.opening (g.O.Outside.honest l.outside × Inputs g.opening l.options (g.R.Rng.stream l.fn.rng) × AtOpening g.opening start.device) (l.tried - 1) start now;
       first : l.tried ≡ 0 → now ≡ start;

@@ -4,12 +4,12 @@ use Rattle.std.proofs.lemmas.Result.{err_from_is_err_and}
 use Rattle.rules.specs.declared.plan.Step.{Step}
 use Rattle.run_states.proofs.NextSteps.{drop_none}
 use Rattle.runner.specs.Going.{log_at, next_at, plan_at, steps_of}
-use Rattle.runner.proofs.StepParts.{refused_from, steps_told}
-use Rattle.runner.proofs.PartCalls.{left_after, left_here, passed_after, passed_weaker, left_told}
+use Rattle.runner.proofs.StepParts.{refused_from, steps_reported}
+use Rattle.runner.proofs.PartCalls.{left_after, left_here, passed_after, passed_weaker, left_reported}
 use Rattle.runner.proofs.Stages.{either_ready, ready_underway}
 use Rattle.runner.proofs.Finding.{found_next, not_none}
 use Rattle.runner.proofs.LoopLemmas.{made_more, logged_on, steps_on, less_left}
-use Rattle.runner.proofs.Told.{IsFitting}
+use Rattle.runner.proofs.Reported.{IsFitting}
 use Rattle.runner.proofs.steps.carry_out.Goals as goal
 
 pub returns-in_default-try_reserve-clause-part : goal.returns-in_default-try_reserve-clause-part
@@ -22,7 +22,7 @@ returns-in_err-one-clause-part g c =
     let s1 = g.O.Outside.seen c.loop-number.outside in
     let i = c.loop-number.invariant in
     rw (e.1, e.2) (left_after _ _ _ _ _ _ _ _ s1 _ c.in_err-one.ensures.was_honest i.part
-    (left_told _ _ _ _ _ _ _ _ (steps_told _ _ (refused_from _ _ _ _ _ (λ h at. let before = i.part in before.reaches (c.in_err-one.ensures.was_honest h) at))) c.in_err-one.ensures.part))
+    (left_reported _ _ _ _ _ _ _ _ (steps_reported _ _ (refused_from _ _ _ _ _ (λ h at. let before = i.part in before.reaches (c.in_err-one.ensures.was_honest h) at))) c.in_err-one.ensures.part))
 
 pub loop-number-smaller : goal.loop-number-smaller
 loop-number-smaller g c =

@@ -1,7 +1,7 @@
 use Rattle.std.proofs.Common.{◌≡◌, ◌-◌, ◌++◌, [], All, false, length, drop}
 use Rattle.runner.specs.Finding.{AreFoundSo, OfSame}
 use Rattle.runner.specs.Parts.{Passed}
-use Rattle.runner.proofs.Told.{IsFitting}
+use Rattle.runner.proofs.Reported.{IsFitting}
 use Rattle.runner.specs.Going.{BeforeStep, HasLogged, log_at, logs_of, made, plan_at, steps_of}
 use Rattle.runner.proofs.steps.carry_out.Given as goal
 

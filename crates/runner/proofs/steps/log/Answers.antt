@@ -30,4 +30,4 @@ returns-in-Err-clause-part g c =
     let s1 = g.O.Outside.seen c.write.new.outside in
     let logged = logged_of c.args.became.now in
     rw c.step_fault.ensures (left_unrefused _ _ _ _ _ _ _ _ _ _ c.args.number _ (rw c.logged_as.ensures at c.in-Err.ensures.call) (line_of_log opened logged _) (never_refused opened logged _)
-    (λ m at a own told. log_left g.opening opened logged c.in-Err.fault _ m s1.device c.requires.1.0 a at told own))
+    (λ m at a own reported. log_left g.opening opened logged c.in-Err.fault _ m s1.device c.requires.1.0 a at reported own))

@@ -1,22 +1,22 @@
 use Rattle.runner.proofs.StepParts.{step_weaker}
-use Rattle.runner.proofs.Stages.{taken_up}
+use Rattle.runner.proofs.Stages.{as_resumed}
 use Rattle.runner.proofs.Finding.{plain_so}
 use Rattle.runner.proofs.steps.perform.Goals as goal
 
 pub returns-in-Gone-clause-part : goal.returns-in-Gone-clause-part
 returns-in-Gone-clause-part g c =
     let opened = g.O.Outside.opened c.args.outside.now in
-    step_weaker _ opened _ _ _ _ _ _ _ _ _ _ (taken_up g.opening opened c.args.is_resumed) (λ x d k. k) c.mark_deleted.ensures.part
+    step_weaker _ opened _ _ _ _ _ _ _ _ _ _ (as_resumed g.opening opened c.args.is_resumed) (λ x d k. k) c.mark_deleted.ensures.part
 
 pub returns-in-Flags-clause-part : goal.returns-in-Flags-clause-part
 returns-in-Flags-clause-part g c =
     let opened = g.O.Outside.opened c.args.outside.now in
-    step_weaker _ opened _ _ _ _ _ _ _ _ _ _ (taken_up g.opening opened c.args.is_resumed) (λ x d k. k) c.carry_flags.ensures.part
+    step_weaker _ opened _ _ _ _ _ _ _ _ _ _ (as_resumed g.opening opened c.args.is_resumed) (λ x d k. k) c.carry_flags.ensures.part
 
 pub returns-in-Expunge-clause-part : goal.returns-in-Expunge-clause-part
 returns-in-Expunge-clause-part g c =
     let opened = g.O.Outside.opened c.args.outside.now in
-    step_weaker _ opened _ _ _ _ _ _ _ _ _ _ (taken_up g.opening opened c.args.is_resumed) (λ x d k. k) c.remove.ensures.part
+    step_weaker _ opened _ _ _ _ _ _ _ _ _ _ (as_resumed g.opening opened c.args.is_resumed) (λ x d k. k) c.remove.ensures.part
 
 pub returns-in-Gone-clause-found : goal.returns-in-Gone-clause-found
 returns-in-Gone-clause-found g c = rw c.in-Gone.is (plain_so g.O.Outside.ours c.mark_deleted.result _ _ (g.O.Outside.seen c.args.outside.now).device c.mark_deleted.ensures.fits)

@@ -4,14 +4,14 @@ use Rattle.serve.proofs.stream.answer_next.Goals as goal
 -- src/stream.rt:95:23
 pub returns-in-Err-clause-ok : goal.returns-in-Err-clause-ok
 returns-in-Err-clause-ok g c =
-    on_ok c.behind_fault.result
+    on_ok c.after_fault.result
     (converses_none c.args.server.now (g.R.Read.remaining c.args.input.now) (g.R.Read.remaining c.read.new.self) (g.W.Write.contents c.args.output.now) c.requires
     (consumes_kept (g.R.Read.remaining c.args.input.now) (g.R.Read.remaining c.read.new.self) c.in-Err.ensures.bytes))
 
 -- src/stream.rt:95:23
 pub returns-in-Err-clause-err : goal.returns-in-Err-clause-err
 returns-in-Err-clause-err g c =
-    on_err c.behind_fault.result
+    on_err c.after_fault.result
     (breaks_none c.args.server.now (g.R.Read.remaining c.args.input.now) (g.R.Read.remaining c.read.new.self) c.requires
     (consumes_kept (g.R.Read.remaining c.args.input.now) (g.R.Read.remaining c.read.new.self) c.in-Err.ensures.bytes))
 

@@ -12,6 +12,6 @@ loop-item-preserved g c =
     let x = c.item-item.result in
     let within : i < length items = search rules in
     let below : is_below (place_at c.loop-item.last) (place_at c.place-place.result) ≡ true = sym c.is_below.ensures ∙ c.if-not-is_below.false in (
-      c.loop-item.invariant.0 ∙ rises_past g.A.Item.place items i x (place_at c.loop-item.last) (place_at c.place-place.result) within c.item-item.is c.place-place.ensures.place below,
-      λ rest. c.loop-item.invariant.1 (fit_with (g.A.Item.fits Two) items i x within c.item-item.is c.place-place.ensures.fits rest),
+      c.loop-item.invariant.0 ∙ rises_past g.A.PlanItem.place items i x (place_at c.loop-item.last) (place_at c.place-place.result) within c.item-item.is c.place-place.ensures.place below,
+      λ rest. c.loop-item.invariant.1 (fit_with (g.A.PlanItem.fits Two) items i x within c.item-item.is c.place-place.ensures.fits rest),
     )

@@ -6,5 +6,5 @@ use Rattle.sync_state.proofs.has_text.are_in_order.Given as goal
 
 abbrev pub invariant-loop-item : goal.invariant-loop-item
 invariant-loop-item g l =
-    (rises bottom (map g.A.Item.place l.items) ≡ rises (place_at l.last) (map g.A.Item.place (drop l.item-index l.items)))
-    × (All (g.A.Item.fits Two) (drop l.item-index l.items) → All (g.A.Item.fits Two) l.items)
+    (rises bottom (map g.A.PlanItem.place l.items) ≡ rises (place_at l.last) (map g.A.PlanItem.place (drop l.item-index l.items)))
+    × (All (g.A.PlanItem.fits Two) (drop l.item-index l.items) → All (g.A.PlanItem.fits Two) l.items)

@@ -1,6 +1,6 @@
 use Rattle.std.proofs.Common.{◌≡◌, ◌≢◌, rules}
 use Rattle.sync_state.specs.JournalText.{go_line}
-use Rattle.sync_state.proofs.GoLemmas.{go_here, go_behind, go_later, no_go}
+use Rattle.sync_state.proofs.GoLemmas.{go_here, go_after, go_later, no_go}
 use Rattle.sync_state.proofs.journal_read.has_go.Goals as goal
 
 pub returns-then-eq : goal.returns-then-eq
@@ -14,7 +14,7 @@ loop-line-preserved c =
     let some = c.in-Some.ensures.some in
     let old = c.loop-line.lines.rest.now in
     let new = c.next_line.new.self.rest.now in (
-      λ g. c.loop-line.invariant.0 (go_behind old c.in-Some.line.text.now new some.0 some.1 g),
+      λ g. c.loop-line.invariant.0 (go_after old c.in-Some.line.text.now new some.0 some.1 g),
       λ g. go_later old c.in-Some.line.text.now new some.0 some.1 other (c.loop-line.invariant.1 g),
     )
 

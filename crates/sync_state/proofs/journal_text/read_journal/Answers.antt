@@ -6,7 +6,7 @@ use Rattle.rules.specs.declared.plan.Note.{Note}
 use Rattle.sync_state.specs.declared.journal.Logged.{Logged}
 use Rattle.texts.specs.declared.lines.Lines.{Lines}
 use Rattle.sync_state.specs.JournalText.{step_line, note_line, step_place, note_place, HasGo, JournalText}
-use Rattle.sync_state.specs.JournalReading.{IsStepIn, IsNoteIn, PlanHeadRead, TellsItem, TellsLog, LogRead}
+use Rattle.sync_state.specs.JournalReading.{IsStepIn, IsNoteIn, PlanHeadRead, ReportsItem, ReportsLog, LogRead}
 use Rattle.sync_state.proofs.JournalLemmas.{journal_of}
 use Rattle.sync_state.proofs.JournalEnds.{head_length}
 use Rattle.sync_state.proofs.JournalTails.{bad_go, stops_in_steps, stops_in_notes, stops_in_log, journal_is}
@@ -21,9 +21,9 @@ returns-in_err-steps-clause-refused c =
     let v = h.numbers.version in
     let fault = c.in_err-steps.field-0.0 in
     let hr = subst (λ (x : List ℕ). PlanHeadRead h x t1) c.new-lines.ensures.1 c.in_ok-head.ensures.ok in
-    let told = subst (λ (n : ℕ). TellsItem (IsStepIn v) step_line step_place n t1 fault) c.in_ok-head.ensures.taken c.in_err-steps.ensures.refused in
+    let reported = subst (λ (n : ℕ). ReportsItem (IsStepIn v) step_line step_place n t1 fault) c.in_ok-head.ensures.taken c.in_err-steps.ensures.refused in
     let p = err_from_is_err_and c.from_residual-in_err-steps.result c.from_residual-in_err-steps.ensures.1 in
-    rw (p.1, p.2) (stops_in_steps h text t1 fault go hr told)
+    rw (p.1, p.2) (stops_in_steps h text t1 fault go hr reported)
 
 pub returns-in_err-notes-clause-refused : goal.returns-in_err-notes-clause-refused
 returns-in_err-notes-clause-refused c =
@@ -37,9 +37,9 @@ returns-in_err-notes-clause-refused c =
     let fault = c.in_err-notes.field-0.0 in
     let hr = subst (λ (x : List ℕ). PlanHeadRead h x t1) c.new-lines.ensures.1 c.in_ok-head.ensures.ok in
     let taken : c.read_items.new.lines.taken ≡ head_length h + length steps = c.in_ok-steps.ensures.taken ∙ ap (λ (n : ℕ). n + length steps) c.in_ok-head.ensures.taken in
-    let told = subst (λ (n : ℕ). TellsItem (IsNoteIn v) note_line note_place n t2 fault) taken c.in_err-notes.ensures.refused in
+    let reported = subst (λ (n : ℕ). ReportsItem (IsNoteIn v) note_line note_place n t2 fault) taken c.in_err-notes.ensures.refused in
     let p = err_from_is_err_and c.from_residual-in_err-notes.result c.from_residual-in_err-notes.ensures.1 in
-    rw (p.1, p.2) (stops_in_notes h steps text t1 t2 fault go hr c.in_ok-steps.ensures.ok told)
+    rw (p.1, p.2) (stops_in_notes h steps text t1 t2 fault go hr c.in_ok-steps.ensures.ok reported)
 
 pub returns-in_default-clause-refused : goal.returns-in_default-clause-refused
 returns-in_default-clause-refused c =
@@ -79,9 +79,9 @@ returns-in_err-log-clause-refused c =
     let d = c.in_ok-notes.ensures.taken in
     let e = c.in-Some.ensures.taken in
     let taken : c.take.new.lines.taken ≡ head_length h + length steps + length notes + 1 = omega arith in
-    let told = subst (λ (n : ℕ). TellsLog steps n t4 fault) taken (subst (λ (s : List Step). TellsLog s c.take.new.lines.taken t4 fault) c.deref.ensures.value c.in_err-log.ensures.refused) in
+    let reported = subst (λ (n : ℕ). ReportsLog steps n t4 fault) taken (subst (λ (s : List Step). ReportsLog s c.take.new.lines.taken t4 fault) c.deref.ensures.value c.in_err-log.ensures.refused) in
     let p = err_from_is_err_and c.from_residual-in_err-log.result c.from_residual-in_err-log.ensures.1 in
-    rw (p.1, p.2) (stops_in_log h steps notes text t1 t2 t3 t4 fault go hr c.in_ok-steps.ensures.ok c.in_ok-notes.ensures.ok c.in-Some.ensures.some.parts told)
+    rw (p.1, p.2) (stops_in_log h steps notes text t1 t2 t3 t4 fault go hr c.in_ok-steps.ensures.ok c.in_ok-notes.ensures.ok c.in-Some.ensures.some.parts reported)
 
 pub returns-clause-read : goal.returns-clause-read
 returns-clause-read c =

@@ -23,14 +23,14 @@ pub returns-in_default-fault : goal.returns-in_default-fault
 returns-in_default-fault c =
     let parts = c.in-Some.ensures.sides in
     let k : Keyword = record { letter = c.in-Some-keyword_of.letter; name = c.in-Some-keyword_of.name.now } in
-    let told = c.in-Err.ensures.refused in
-    elim told.1 [
+    let reported = c.in-Err.ensures.refused in
+    elim reported.1 [
       | inl memory ↦ absurd (c.in_default-fault.not-NoMemory memory.0)
       | inr refused ↦ (
         no_such_line c.args.keywords.now c.args.lines.now.rest.now c.in-Some.line.now c.in-Some.rest.now parts.0 parts.1
             (not_added c.args.keywords.now k c.in-Some.line.now c.in-Err.fault c.in-Some-keyword_of.ensures.some refused),
         refl,
-        told.0,
+        reported.0,
       )
     ]
 

@@ -5,7 +5,7 @@ use Rattle.texts.proofs.number.read_u32.Goals as goal
 pub returns-in_err-number-clause-value : goal.returns-in_err-number-clause-value
 returns-in_err-number-clause-value c =
     c.from_residual.ensures
-    ∙ sym (number_of-None c.args.limit c.args.bytes.now (λ n within e. let told = c.in_err-number.ensures.each n (omega arith) e in cc))
+    ∙ sym (number_of-None c.args.limit c.args.bytes.now (λ n within e. let reported = c.in_err-number.ensures.each n (omega arith) e in cc))
 
 pub returns-clause-value : goal.returns-clause-value
 returns-clause-value c =

@@ -4,4 +4,4 @@ use Rattle.wire_strings.specs.Quotes.{raw_step, raw_rest}
 use Rattle.wire_strings.proofs.quoted.raw_rest.Given as goal
 
 abbrev pub invariant-loop-i : goal.invariant-loop-i
-invariant-loop-i l = scan raw_step (take l.i l.bytes, l.behind_slash) (drop l.i l.bytes) ≡ raw_rest l.bytes
+invariant-loop-i l = scan raw_step (take l.i l.bytes, l.after_slash) (drop l.i l.bytes) ≡ raw_rest l.bytes

@@ -3,4 +3,4 @@ use Rattle.wire_strings.specs.Quotes.{unescaped_from, unescaped}
 use Rattle.wire_strings.proofs.quoted.unescaped.Given as goal
 
 abbrev pub invariant-loop-b : goal.invariant-loop-b
-invariant-loop-b l = l.value.items ++ unescaped_from l.behind_slash (drop l.b-index l.raw) ≡ unescaped l.raw
+invariant-loop-b l = l.value.items ++ unescaped_from l.after_slash (drop l.b-index l.raw) ≡ unescaped l.raw

@@ -9,6 +9,6 @@ loop-line-preserved c =
     record {
       is_map = added.is_map;
       given = given_more c.loop-line.keywords c.add_keyword.new.keywords c.in-Some.line.text.now c.take_if.new.self.rest.now c.loop-line.lines.rest.now c.args.lines.now.rest.now c.loop-line.invariant.given c.in-Some.ensures.line added;
-      taken = grind (arith, common_steps, added.behind);
+      taken = grind (arith, common_steps, added.following);
       count = omega arith;
     }

@@ -13,7 +13,7 @@ use Rattle.book.specs.Agreement.{Copy, copies_of}
 use Rattle.book.specs.TakenUids.{KnowsTaken, copies_one}
 use Rattle.book.proofs.AgreementLemmas.{no_copies}
 use Rattle.book.proofs.BookLemmas.{journal_put}
-use Rattle.book.proofs.BeginLemmas.{plan_behind_nothing, begun_or_not, begun_fits}
+use Rattle.book.proofs.BeginLemmas.{plan_after_nothing, begun_or_not, begun_fits}
 use Rattle.book.proofs.TurnLemmas.{turned, turned_or_half}
 use Rattle.book.proofs.book.Book.begin.Goals as goal
 
@@ -47,7 +47,7 @@ invariant_of-self-2 g c =
           let held : Holds old book.state Missing = subst (λ (p : Pending). Holds old book.state p) c.requires.missing (book.holds ready honest) in
           subst (λ (p : Pending). Holds new book.state p) (sym now)
           (journal_put _ old new book.state Missing (begun plan) (c.in_ok-append.ensures.effect honest)
-          (plan_behind_nothing book.state old.journal plan c.deref.result.now c.requires.has_text c.requires.next c.requires.agrees text) held);
+          (plan_after_nothing book.state old.journal plan c.deref.result.now c.requires.has_text c.requires.next c.requires.agrees text) held);
       knows = λ _ some.
           let some_as_read = subst (λ (s : List Step). list_any copies_one s ≡ true) (sym c.as_slice.ensures) some in
           let entries = subst (λ (es : List Entry). KnowsTaken es c.as_slice.result.now [] c.in_ok-taken.taken) c.as_slice-entries.ensures.all (c.in_ok-taken.ensures some_as_read) in
@@ -68,4 +68,4 @@ returns-clause-leaves g c = λ honest.
     let held : Holds old book.state Missing = subst (λ (p : Pending). Holds old book.state p) c.requires.missing (book.holds ready honest) in
     turned old new book.state Missing (begun plan) held
     (journal_put _ old new book.state Missing (begun plan) (c.in_ok-append.ensures.effect honest)
-    (plan_behind_nothing book.state old.journal plan c.deref.result.now c.requires.has_text c.requires.next c.requires.agrees text) held)
+    (plan_after_nothing book.state old.journal plan c.deref.result.now c.requires.has_text c.requires.next c.requires.agrees text) held)

@@ -4,7 +4,7 @@ use Rattle.book.specs.declared.book.Pending.{Pending}
 use Rattle.book.specs.Books.{Holds, Fits, torn}
 use Rattle.book.specs.BookLogs.{logged_more}
 use Rattle.book.proofs.BookLemmas.{journal_put}
-use Rattle.book.proofs.LoggedLemmas.{logged_or_not, more_behind, more_fits}
+use Rattle.book.proofs.LoggedLemmas.{logged_or_not, more_after, more_fits}
 use Rattle.book.specs.TakenUids.{Knows}
 use Rattle.book.proofs.TurnLemmas.{turned, turned_or_half}
 use Rattle.book.proofs.book.Book.log.Goals as goal
@@ -29,7 +29,7 @@ returns-in_err-add_next-clause-leaves g c = λ honest.
     let new = (g.S.Shelf.seen c.append.new.self).stored in
     rw (e.1) (inl (turned old new book.state book.pending (logged_more book.pending c.args.logged) (book.holds ready honest)
     (journal_put _ old new book.state book.pending (logged_more book.pending c.args.logged) (c.in_ok-append.ensures.effect honest)
-    (more_behind book.state old.journal book.pending c.args.step c.args.logged c.deref.result.now c.requires.next (c.requires.free ready) c.ranges.step.fits (c.deref.ensures.value ∙ c.in_ok-line.ensures))
+    (more_after book.state old.journal book.pending c.args.step c.args.logged c.deref.result.now c.requires.next (c.requires.free ready) c.ranges.step.fits (c.deref.ensures.value ∙ c.in_ok-line.ensures))
     (book.holds ready honest))))
 
 pub returns-in_err-log_pending-clause-leaves : goal.returns-in_err-log_pending-clause-leaves
@@ -41,7 +41,7 @@ returns-in_err-log_pending-clause-leaves g c = λ honest.
     let new = (g.S.Shelf.seen c.append.new.self).stored in
     rw (e.1) (inl (turned old new book.state book.pending (logged_more book.pending c.args.logged) (book.holds ready honest)
     (journal_put _ old new book.state book.pending (logged_more book.pending c.args.logged) (c.in_ok-append.ensures.effect honest)
-    (more_behind book.state old.journal book.pending c.args.step c.args.logged c.deref.result.now c.requires.next (c.requires.free ready) c.ranges.step.fits (c.deref.ensures.value ∙ c.in_ok-line.ensures))
+    (more_after book.state old.journal book.pending c.args.step c.args.logged c.deref.result.now c.requires.next (c.requires.free ready) c.ranges.step.fits (c.deref.ensures.value ∙ c.in_ok-line.ensures))
     (book.holds ready honest))))
 
 pub invariant_of-self-2 : goal.invariant_of-self-2
@@ -55,7 +55,7 @@ invariant_of-self-2 g c =
       is_whole = λ _. c.in_ok-append.ensures.is_whole;
       holds = λ _ honest. subst (λ (p : Pending). Holds new book.state p) (sym c.in_ok-log_pending.ensures.ok)
           (journal_put _ old new book.state book.pending (logged_more book.pending c.args.logged) (c.in_ok-append.ensures.effect honest)
-          (more_behind book.state old.journal book.pending c.args.step c.args.logged c.deref.result.now c.requires.next (c.requires.free ready) c.ranges.step.fits (c.deref.ensures.value ∙ c.in_ok-line.ensures))
+          (more_after book.state old.journal book.pending c.args.step c.args.logged c.deref.result.now c.requires.next (c.requires.free ready) c.ranges.step.fits (c.deref.ensures.value ∙ c.in_ok-line.ensures))
           (book.holds ready honest));
       knows = λ _. subst (λ (p : Pending). Knows book.state.entries p c.add_next.new.self) (sym c.in_ok-log_pending.ensures.ok) (c.in_ok-add_next.ensures book.state.entries (book.knows ready));
       fits = subst (λ (p : Pending). Fits book.state p) (sym c.in_ok-log_pending.ensures.ok)
@@ -70,5 +70,5 @@ returns-clause-leaves g c = λ honest.
     let new = (g.S.Shelf.seen c.append.new.self).stored in
     turned old new book.state book.pending (logged_more book.pending c.args.logged) (book.holds ready honest)
     (journal_put _ old new book.state book.pending (logged_more book.pending c.args.logged) (c.in_ok-append.ensures.effect honest)
-    (more_behind book.state old.journal book.pending c.args.step c.args.logged c.deref.result.now c.requires.next (c.requires.free ready) c.ranges.step.fits (c.deref.ensures.value ∙ c.in_ok-line.ensures))
+    (more_after book.state old.journal book.pending c.args.step c.args.logged c.deref.result.now c.requires.next (c.requires.free ready) c.ranges.step.fits (c.deref.ensures.value ∙ c.in_ok-line.ensures))
     (book.holds ready honest))

@@ -15,6 +15,6 @@ returns c =
     let steps = c.in-Planned.written.journal.plan.steps in
     let known : list_any copies_one plan ≡ true → KnowsTaken entries plan (copies_of plan log) c.add_copies.new.self =
     λ some. c.in_ok-add_copies.ensures entries plan (c.in_ok-taken.ensures some) in
-    let behind = subst (λ (s : List Step). list_any copies_one s ≡ true → KnowsTaken entries s (copies_of s log) c.add_copies.new.self) c.as_slice-steps.ensures known in
+    let following = subst (λ (s : List Step). list_any copies_one s ≡ true → KnowsTaken entries s (copies_of s log) c.add_copies.new.self) c.as_slice-steps.ensures known in
     subst (λ (p : Pending). Knows entries p c.add_copies.new.self) (sym c.in-Planned.is)
-    (λ some. subst (λ (l : List Logged). KnowsTaken entries steps (copies_of steps l) c.add_copies.new.self) c.as_slice.ensures (behind some))
+    (λ some. subst (λ (l : List Logged). KnowsTaken entries steps (copies_of steps l) c.add_copies.new.self) c.as_slice.ensures (following some))

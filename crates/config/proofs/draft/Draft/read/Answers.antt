@@ -1,6 +1,6 @@
 use Rattle.std.specs.Prelude.{Option, None}
 use Rattle.std.proofs.Common.{◌≡◌, ◌∙◌, ap, subst}
-use Rattle.config_words.specs.declared.keyword.Place.{Place}
+use Rattle.config_words.specs.declared.keyword.LinePlace.{LinePlace}
 use Rattle.config.specs.Drafts.{IsTaken, place_of, standing_of}
 use Rattle.config_words.specs.Keywords.{meant_at, opened_by, section_of}
 use Rattle.config_words.specs.Places.{is_section}
@@ -30,17 +30,17 @@ returns-clause-standing c =
     let word = c.args.keyword.now in
     let text = c.args.arguments.now in
     let new = standing_of c.read_arguments.new.self in
-    let met = subst (λ (p : Place). opened_by p meant ≡ opened_by p read) c.place.ensures c.at-keyword.ensures.opened in
+    let met = subst (λ (p : LinePlace). opened_by p meant ≡ opened_by p read) c.place.ensures c.at-keyword.ensures.opened in
     let opens = opens_same at read meant word met c.in-Some.ensures.section in
     let same : said meant (arguments_of text).list ≡ line_said at (word, text) =
-    line_at at read meant word text c.in-Some.ensures.named (c.at-keyword.ensures.meant ∙ ap (λ (p : Place). meant_at p read) c.place.ensures) in
+    line_at at read meant word text c.in-Some.ensures.named (c.at-keyword.ensures.meant ∙ ap (λ (p : LinePlace). meant_at p read) c.place.ensures) in
     let gives = keyword_from (said meant (arguments_of text).list) text in
     let taken =
     placed (is_section at) meant (section_of meant) c.in_ok-misplaced.misplaced gives text old (standing_of c.meet.new.self) new c.read_arguments.result
     c.in_ok-misplaced.ensures.standing (section_gives meant text) (λ fault is. misplaced_stays at meant fault text old is) c.read_arguments.ensures.standing in
     subst (λ (k : Option mail.Keyword). IsTaken (begins_again (opened at word) k text old) (begun (opened at word) k text old) new c.read_arguments.result)
     (ap (λ (s : Option Said). keyword_from s text) same)
-    (subst (λ (s : Option Place). IsTaken (begins_again s gives text old) (begun s gives text old) new c.read_arguments.result) opens taken)
+    (subst (λ (s : Option LinePlace). IsTaken (begins_again s gives text old) (begun s gives text old) new c.read_arguments.result) opens taken)
 
 pub returns-clause-view : goal.returns-clause-view
 returns-clause-view c =
@@ -50,8 +50,8 @@ returns-clause-view c =
     let word = c.args.keyword.now in
     let text = c.args.arguments.now in
     let same : said meant (arguments_of text).list ≡ line_said at (word, text) =
-    line_at at read meant word text c.in-Some.ensures.named (c.at-keyword.ensures.meant ∙ ap (λ (p : Place). meant_at p read) c.place.ensures) in
-    let opens = opens_same at read meant word (subst (λ (p : Place). opened_by p meant ≡ opened_by p read) c.place.ensures c.at-keyword.ensures.opened)
+    line_at at read meant word text c.in-Some.ensures.named (c.at-keyword.ensures.meant ∙ ap (λ (p : LinePlace). meant_at p read) c.place.ensures) in
+    let opens = opens_same at read meant word (subst (λ (p : LinePlace). opened_by p meant ≡ opened_by p read) c.place.ensures c.at-keyword.ensures.opened)
     c.in-Some.ensures.section in
     let begins : c.in_ok-misplaced.misplaced ≡ None → section_of meant ≡ opened at word =
     λ none. begins_so (is_section at) meant (section_of meant) c.in_ok-misplaced.misplaced (standing_of c.args.self.now) (standing_of c.meet.new.self)
@@ -68,8 +68,8 @@ returns-clause-titled c =
     let word = c.args.keyword.now in
     let text = c.args.arguments.now in
     let same : said meant (arguments_of text).list ≡ line_said at (word, text) =
-    line_at at read meant word text c.in-Some.ensures.named (c.at-keyword.ensures.meant ∙ ap (λ (p : Place). meant_at p read) c.place.ensures) in
-    let opens = opens_same at read meant word (subst (λ (p : Place). opened_by p meant ≡ opened_by p read) c.place.ensures c.at-keyword.ensures.opened)
+    line_at at read meant word text c.in-Some.ensures.named (c.at-keyword.ensures.meant ∙ ap (λ (p : LinePlace). meant_at p read) c.place.ensures) in
+    let opens = opens_same at read meant word (subst (λ (p : LinePlace). opened_by p meant ≡ opened_by p read) c.place.ensures c.at-keyword.ensures.opened)
     c.in-Some.ensures.section in
     let begins : c.in_ok-misplaced.misplaced ≡ None → section_of meant ≡ opened at word =
     λ none. begins_so (is_section at) meant (section_of meant) c.in_ok-misplaced.misplaced (standing_of c.args.self.now) (standing_of c.meet.new.self)
@@ -88,5 +88,5 @@ returns-clause-accepted c =
     let at = place_of c.args.self.now.section in
     let read = c.in-Some.keyword in
     read_accepted c.read_arguments.result c.in_ok-misplaced.misplaced at read c.at-keyword.result c.args.keyword.now c.args.arguments.now c.in-Some.ensures.named
-    (c.at-keyword.ensures.meant ∙ ap (λ (p : Place). meant_at p read) c.place.ensures) c.in_ok-misplaced.ensures.fits c.read_arguments.ensures.placed
+    (c.at-keyword.ensures.meant ∙ ap (λ (p : LinePlace). meant_at p read) c.place.ensures) c.in_ok-misplaced.ensures.fits c.read_arguments.ensures.placed
     c.read_arguments.ensures.clear c.read_arguments.ensures.plain c.read_arguments.ensures.closed

@@ -3,10 +3,10 @@ use Rattle.std.specs.Prelude.{Option, IfSome, None}
 use Rattle.config_words.specs.declared.fault.ConfigFault.{ConfigFault}
 use Rattle.config_words.specs.declared.fault.FaultKind.TheVariants.{KeywordMissing}
 use Rattle.config.specs.declared.reading.Reading.{Reading}
-use Rattle.config.specs.Outlines.{Tells}
+use Rattle.config.specs.Outlines.{Reports}
 use Rattle.config.specs.Readings.{IsLine, IsRead}
 use Rattle.config.specs.Views.{view}
-use Rattle.config.proofs.OutlineLemmas.{tells_other}
+use Rattle.config.proofs.OutlineLemmas.{reports_other}
 use Rattle.config.proofs.PartedLemmas.{ended_meant, kept_so, outside_so, some_first}
 use Rattle.config.proofs.reading.Reading.end_section.Goals as goal
 use Rattle.config.proofs.reading.Reading.end_section.Goals.{then-lacks, else-lacks}
@@ -47,10 +47,10 @@ returns-after-lacks-clause-none c = elim c.if-lacks.branch [
   | else-lacks w ↦ λ none. sym (ap (λ (r : Reading). r.first) w.self-is) ∙ none
 ]
 
-pub returns-after-lacks-clause-told : goal.returns-after-lacks-clause-told
-returns-after-lacks-clause-told c = λ again told. elim c.if-lacks.branch [
+pub returns-after-lacks-clause-reported : goal.returns-after-lacks-clause-reported
+returns-after-lacks-clause-reported c = λ again reported. elim c.if-lacks.branch [
   | then-lacks w ↦
-      subst (λ (f : Option ConfigFault). Tells again f) (sym (ap (λ (r : Reading). r.first) w.self-is ∙ w.note.ensures.first))
-      (tells_other again c.args.self.now.first (record { line = c.in-Some.line; kind = KeywordMissing }) told refl (λ is. cc))
-  | else-lacks w ↦ subst (λ (f : Option ConfigFault). Tells again f) (sym (ap (λ (r : Reading). r.first) w.self-is)) told
+      subst (λ (f : Option ConfigFault). Reports again f) (sym (ap (λ (r : Reading). r.first) w.self-is ∙ w.note.ensures.first))
+      (reports_other again c.args.self.now.first (record { line = c.in-Some.line; kind = KeywordMissing }) reported refl (λ is. cc))
+  | else-lacks w ↦ subst (λ (f : Option ConfigFault). Reports again f) (sym (ap (λ (r : Reading). r.first) w.self-is)) reported
 ]

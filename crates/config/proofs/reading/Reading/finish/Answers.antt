@@ -2,17 +2,17 @@ use Rattle.std.proofs.Common.{subst}
 use Rattle.std.specs.Prelude.{Option}
 use Rattle.config_words.specs.declared.fault.ConfigFault.{ConfigFault}
 use Rattle.config.specs.Configurations.{ended}
-use Rattle.config.specs.Outlines.{Tells}
+use Rattle.config.specs.Outlines.{Reports}
 use Rattle.config.proofs.PartedLemmas.{means_so, not_open}
 use Rattle.config.proofs.reading.Reading.finish.Goals as goal
 
 pub returns-in-Some-clause-again : goal.returns-in-Some-clause-again
-returns-in-Some-clause-again c = λ again told.
-    (subst (λ (first : Option ConfigFault). Tells again first) c.in-Some.is (c.in_ok-config.ensures.again again (c.end_section.ensures.told again told))).0
+returns-in-Some-clause-again c = λ again reported.
+    (subst (λ (first : Option ConfigFault). Reports again first) c.in-Some.is (c.in_ok-config.ensures.again again (c.end_section.ensures.reported again reported))).0
 
 pub returns-in-None-clause-again : goal.returns-in-None-clause-again
-returns-in-None-clause-again c = λ again told.
-    subst (λ (first : Option ConfigFault). Tells again first) c.in-None.is (c.in_ok-config.ensures.again again (c.end_section.ensures.told again told))
+returns-in-None-clause-again c = λ again reported.
+    subst (λ (first : Option ConfigFault). Reports again first) c.in-None.is (c.in_ok-config.ensures.again again (c.end_section.ensures.reported again reported))
 
 pub returns-in-None-clause-means : goal.returns-in-None-clause-means
 returns-in-None-clause-means c = λ p knows.

@@ -1,8 +1,8 @@
 use Rattle.std.proofs.Common.{◌≡◌, ◌∙◌, ℕ, List, true, false, subst, sym}
-use Rattle.config_words.specs.declared.keyword.Place.{Place}
+use Rattle.config_words.specs.declared.keyword.LinePlace.{LinePlace}
 use Rattle.config.specs.Accepted.{AcceptsWords, IsAccepted}
 use Rattle.config.specs.Drafts.{standing_of}
-use Rattle.config.specs.Outlines.{IsBehindWords, IsOutlined}
+use Rattle.config.specs.Outlines.{IsAfterWords, IsOutlined}
 use Rattle.config.specs.Standing.{outlined}
 use Rattle.config.specs.Configurations.{ended, parted, parted_words}
 use Rattle.config.specs.Meant.{Knows, Took, TookLine}
@@ -16,7 +16,7 @@ pub returns-in-Empty-clause-outlined : goal.returns-in-Empty-clause-outlined
 returns-in-Empty-clause-outlined c = λ o is counted.
     on_ok c.end_section.result (IsOutlined (outlined o c.args.line.text.now) c.end_section.new.self)
     (blank_line o c.args.line.text.now c.args.self.now c.end_section.new.self c.in-Empty.ensures is c.end_section.ensures.standing
-    (c.end_section.ensures.told o.again is.told))
+    (c.end_section.ensures.reported o.again is.reported))
 
 pub returns-in-Comment-clause-outlined : goal.returns-in-Comment-clause-outlined
 returns-in-Comment-clause-outlined c = λ o is counted.
@@ -25,7 +25,7 @@ returns-in-Comment-clause-outlined c = λ o is counted.
 pub returns-in-Words-clause-outlined : goal.returns-in-Words-clause-outlined
 returns-in-Words-clause-outlined c = λ o is counted.
     let words : List ℕ × List ℕ = (c.in-Words.keyword.now, c.in-Words.arguments.now) in
-    on_ok_so c.read_words.result (IsBehindWords o words c.args.line.number c.read_words.new.self)
+    on_ok_so c.read_words.result (IsAfterWords o words c.args.line.number c.read_words.new.self)
     (IsOutlined (outlined o c.args.line.text.now) c.read_words.new.self)
     (words_line o c.args.line.text.now words c.args.line.number c.read_words.new.self c.in-Words.ensures.0 c.in-Words.ensures.1 counted)
     (c.read_words.ensures.outlined o is)
@@ -71,6 +71,6 @@ returns-in-Words-clause-took c = λ p knows.
       here.0,
       λ some.
           subst (λ (w : Option (List ℕ × List ℕ)). AcceptsWords p.current.kind w) (sym c.in-Words.ensures.1)
-          (subst (λ (at : Place). IsAccepted at words) (at_drawn p old.draft (knows here.0).draft) here.1),
+          (subst (λ (at : LinePlace). IsAccepted at words) (at_drawn p old.draft (knows here.0).draft) here.1),
     ))
     c.read_words.ensures.took

@@ -9,7 +9,7 @@ use Rattle.imap_client.specs.Sessions.{server_of, state_of}
 use Rattle.far_side.specs.Chosen.{IsChosen, KeepsMailboxes, ListsAll, store_at}
 use Rattle.far_side.specs.FarSides.{honest_of}
 use Rattle.far_side.specs.FarStops.{Ends}
-use Rattle.far_side.proofs.Endings.{ends_behind, ends_of}
+use Rattle.far_side.proofs.Endings.{ends_after, ends_of}
 use Rattle.far_side.proofs.Joined.{err_so, handed, listed, within_of}
 use Rattle.far_side.proofs.Visited.{found_then, next_then, range_then, stocked, store_then, visits_between}
 use Rattle.far_side.proofs.Mailboxes.{selected_is, sound_there, store_is}
@@ -28,7 +28,7 @@ returns-clause-ends g c =
     let mid = state_of c.refresh.new.self.far.session in
     let new = state_of c.list.new.self.session in
     let went = c.in_ok-refresh.ensures.ends in
-    ends_behind old mid new c.list.result went.1 (ends_of 1 mid new c.list.result went.0 c.list.ensures.counts c.list.ensures.ends)
+    ends_after old mid new c.list.result went.1 (ends_of 1 mid new c.list.result went.0 c.list.ensures.counts c.list.ensures.ends)
 
 pub returns-in_err-refresh-clause-outcome : goal.returns-in_err-refresh-clause-outcome
 returns-in_err-refresh-clause-outcome g c h =

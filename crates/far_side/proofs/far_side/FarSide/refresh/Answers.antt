@@ -3,7 +3,7 @@ use Rattle.imap_client.specs.Sessions.{server_of, state_of}
 use Rattle.imap_link.specs.Outcomes.{Outcome, Never}
 use Rattle.imap_session.specs.Visits.{Among}
 use Rattle.law_session.proofs.Visiting.{nobody_visits}
-use Rattle.far_side.specs.Chosen.{KeepsMailboxes, Misses, TellsValidity}
+use Rattle.far_side.specs.Chosen.{KeepsMailboxes, Misses, ReportsValidity}
 use Rattle.far_side.specs.FarStops.{Ends}
 use Rattle.far_side.proofs.Joined.{err_so, handed}
 use Rattle.far_side.proofs.OpenCalls.{chosen_in, reached_open, ready_reached, selected_open}
@@ -33,7 +33,7 @@ returns-in_err-select-clause-outcome g c h =
       visits = a.visits;
       then =
           err_so (Misses name) Never KeepsMailboxes a.mid a.mid new refl (λ k. k) (λ m. absurd (still_there g.L.Link.visitors name old a.mid a.visits chosen m.0))
-          ℕ (Unit {0}) (TellsValidity name) (λ _. KeepsMailboxes) e a.then;
+          ℕ (Unit {0}) (ReportsValidity name) (λ _. KeepsMailboxes) e a.then;
     })
 
 pub returns-then-self-clause-outcome : goal.returns-then-self-clause-outcome

@@ -47,6 +47,6 @@ returns-clause-call g c =
       still = said.same.3;
       counts = said.counts;
     } in
-    rw c.told_by.ensures (turns k g.met.L.Link.sound 1 (stored modes.Add (kept s.far.keywords c.args.flags) (one_uid c.args.uid)) (flags_changed modes.Add c.args.uid (kept s.far.keywords c.args.flags)) c.add_flags.result said.ends
+    rw c.reported_by.ensures (turns k g.met.L.Link.sound 1 (stored modes.Add (kept s.far.keywords c.args.flags) (one_uid c.args.uid)) (flags_changed modes.Add c.args.uid (kept s.far.keywords c.args.flags)) c.add_flags.result said.ends
     (λ x. stored_same s.account.mailbox.items x modes.Add c.args.uid (kept s.far.keywords c.args.flags)) (flags_added_seen s.far.keywords c.args.uid c.args.flags)
     (λ h. said.outcome h (had_map k h)))

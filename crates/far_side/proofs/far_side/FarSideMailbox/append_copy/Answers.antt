@@ -43,7 +43,7 @@ returns-clause-call g c =
       still = said.same.2;
       counts = said.counts;
     } in
-    rw c.told_by.ensures (appends k g.met.L.Link.sound (text_left c.args.copy) c.args.flags c.append_copy.result said.ends said.outcome)
+    rw c.reported_by.ensures (appends k g.met.L.Link.sound (text_left c.args.copy) c.args.flags c.append_copy.result said.ends said.outcome)
 
 pub append_copy-requires : goal.append_copy-requires
 append_copy-requires g c = sent_as (text_left c.args.copy) c.requires.copy

@@ -47,5 +47,5 @@ returns-clause-call g c =
       still = said.same.3;
       counts = said.counts;
     } in
-    rw c.told_by.ensures (turns k g.met.L.Link.sound 1 (swept (each_one (c.args.uid ∷ []))) (removed c.args.uid) c.expunge.result said.ends
+    rw c.reported_by.ensures (turns k g.met.L.Link.sound 1 (swept (each_one (c.args.uid ∷ []))) (removed c.args.uid) c.expunge.result said.ends
     (λ x. swept_same s.account.mailbox.items x c.args.uid) (removed_seen s.far.keywords c.args.uid) said.outcome)

@@ -45,4 +45,4 @@ returns-clause-call g c =
       still = said.same.3;
       counts = said.counts;
     } in
-    rw c.told_by.ensures (reads k g.met.L.Link.sound (Finds c.args.mark c.args.from) (λ found s. Finds c.args.mark c.args.from found (settled s)) (λ found x is. is ∙ sym (marked_seen s.far.keywords c.args.mark c.args.from x)) c.find_mark.result said.ends said.outcome)
+    rw c.reported_by.ensures (reads k g.met.L.Link.sound (Finds c.args.mark c.args.from) (λ found s. Finds c.args.mark c.args.from found (settled s)) (λ found x is. is ∙ sym (marked_seen s.far.keywords c.args.mark c.args.from x)) c.find_mark.result said.ends said.outcome)

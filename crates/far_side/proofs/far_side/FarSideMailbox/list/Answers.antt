@@ -6,4 +6,4 @@ use Rattle.far_side.proofs.far_side.FarSideMailbox.list.Goals as goal
 pub returns-clause-call : goal.returns-clause-call
 returns-clause-call g c =
     let said = c.list_anew.ensures in
-    rw c.told_by.ensures (lists c.args.self.now c.list_anew.new.self said.mailbox said.keywords c.requires.whole (seen_of c.args.self.now).stored.store.next (spares c.args._spared.now) c.list_anew.result said.selected said.ends said.outcome)
+    rw c.reported_by.ensures (lists c.args.self.now c.list_anew.new.self said.mailbox said.keywords c.requires.whole (seen_of c.args.self.now).stored.store.next (spares c.args._spared.now) c.list_anew.result said.selected said.ends said.outcome)

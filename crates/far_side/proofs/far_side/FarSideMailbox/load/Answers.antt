@@ -46,4 +46,4 @@ returns-clause-call g c =
       still = said.same.3;
       counts = said.counts;
     } in
-    rw c.told_by.ensures (reads k g.met.L.Link.sound (Loads c.args.uid (body_of new)) (λ is_there s. (if is_there then Some (body_of new) else None) ≡ bytes_of c.args.uid s) (loaded s.far.keywords c.args.uid (body_of new)) c.load.result said.ends said.outcome)
+    rw c.reported_by.ensures (reads k g.met.L.Link.sound (Loads c.args.uid (body_of new)) (λ is_there s. (if is_there then Some (body_of new) else None) ≡ bytes_of c.args.uid s) (loaded s.far.keywords c.args.uid (body_of new)) c.load.result said.ends said.outcome)

@@ -1,5 +1,5 @@
 use Rattle.std.proofs.Common.{◌≡◌, ℕ, true, sym, ◌∙◌, subst, refl}
-use Rattle.imap_session.specs.Lines.{told_server}
+use Rattle.imap_session.specs.Lines.{reported_server}
 use Rattle.imap_session.specs.NamedMessages.{swept}
 use Rattle.imap_client.specs.Calls.{each_one}
 use Rattle.imap_client.specs.States.{EndsSo}
@@ -12,7 +12,7 @@ use Rattle.imap_client.proofs.far_box.FarBox.expunge.Goals as goal
 
 pub returns-then-is_empty-clause-outcome : goal.returns-then-is_empty-clause-outcome
 returns-then-is_empty-clause-outcome g c honest =
-    let old = (told_server (g.L.Link.line c.args.self.now.session.wire.link)) in
+    let old = (reported_server (g.L.Link.line c.args.self.now.session.wire.link)) in
     at_once g.L.Link.visitors _ old old (λ m is. rests c.args.uids.now old c.rest.result (none_rest c.args.uids.now (sym c.is_empty.ensures ∙ c.if-is_empty.true)) c.rest.ensures.err)
 
 pub returns-then-is_empty-clause-ends : goal.returns-then-is_empty-clause-ends
@@ -39,8 +39,8 @@ invariant_of-self g c =
     let it = c.args.self.now in
     let was = it.session in
     let now = c.change.new.self in
-    let before = told_server (g.L.Link.line was.wire.link) in
-    let new = told_server (g.L.Link.line now.wire.link) in
+    let before = reported_server (g.L.Link.line was.wire.link) in
+    let new = reported_server (g.L.Link.line now.wire.link) in
     let change = swept (each_one c.args.uids.now) in
     let done : it.is_selected ≡ true → now.is_ready ≡ true → (honest : g.L.Link.honest now.wire.link)
     → Became change it.name.items it.validity it.next (state_of_parts was.is_ready was.tags (g.L.Link.stops was.wire.link) was.wire.heard.read) (c.change.ensures.outcome honest).mid new = λ is_selected ready honest.

@@ -1,10 +1,10 @@
 use Rattle.std.proofs.Common.{◌≡◌, ℕ, true, max, Option, arith}
 use Rattle.mailcore.specs.Operations.{marked_from}
 use Rattle.imap_session.specs.Servers.{selected}
-use Rattle.imap_session.specs.Lines.{told_server}
+use Rattle.imap_session.specs.Lines.{reported_server}
 use Rattle.imap_client.specs.Boxes.{IsSelected, Passes}
 use Rattle.imap_client.proofs.Changed.{state_of_parts}
-use Rattle.imap_client.proofs.Passing.{found_from, known_then, marked_behind, passes_then, search_passes}
+use Rattle.imap_client.proofs.Passing.{found_from, known_then, marked_after, passes_then, search_passes}
 use Rattle.imap_client.proofs.Staying.{keeps, stays}
 use Rattle.imap_client.proofs.Visited.{selected_then}
 use Rattle.imap_client.proofs.far_box.FarBox.find_mark.Goals as goal
@@ -19,8 +19,8 @@ invariant_of-self g c =
     let now = c.mark.new.self in
     let old = state_of_parts was.is_ready was.tags (g.L.Link.stops was.wire.link) was.wire.heard.read in
     let end = state_of_parts now.is_ready now.tags (g.L.Link.stops now.wire.link) now.wire.heard.read in
-    let before = told_server (g.L.Link.line was.wire.link) in
-    let new = told_server (g.L.Link.line now.wire.link) in
+    let before = reported_server (g.L.Link.line was.wire.link) in
+    let new = reported_server (g.L.Link.line now.wire.link) in
     record {
       named = it.named;
       selected = λ is_selected ready honest.
@@ -49,8 +49,8 @@ returns-clause-outcome g c honest =
     let it = c.args.self.now in
     let was = it.session in
     let now = c.mark.new.self in
-    let before = told_server (g.L.Link.line was.wire.link) in
-    let new = told_server (g.L.Link.line now.wire.link) in
+    let before = reported_server (g.L.Link.line was.wire.link) in
+    let new = reported_server (g.L.Link.line now.wire.link) in
     let a = c.mark.ensures.outcome honest in
     record {
       mid = a.mid;
@@ -62,7 +62,7 @@ returns-clause-outcome g c honest =
           found_from (state_of_parts was.is_ready was.tags (g.L.Link.stops was.wire.link) was.wire.heard.read) (state_of_parts now.is_ready now.tags (g.L.Link.stops now.wire.link) now.wire.heard.read) a.mid new
           (marked_from c.args.mark below m.store) (marked_from c.args.mark c.args.from m.store)
           (λ was_ready.
-          marked_behind c.args.mark c.args.from below (omega (arith, low, first)) m.store.messages range.uids
+          marked_after c.args.mark c.args.from below (omega (arith, low, first)) m.store.messages range.uids
           (λ k d within up under.
           c.begin.ensures.other m.store.next m.store.messages
           (c.keep_if.ensures.passed m.store.next m.store.messages

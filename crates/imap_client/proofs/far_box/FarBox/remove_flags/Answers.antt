@@ -1,6 +1,6 @@
 use Rattle.std.proofs.Common.{◌≡◌, ℕ, true, refl, subst}
 use Rattle.imap_commands.specs.declared.command.StoreMode.TheVariants as modes
-use Rattle.imap_session.specs.Lines.{told_server}
+use Rattle.imap_session.specs.Lines.{reported_server}
 use Rattle.imap_session.specs.NamedMessages.{stored}
 use Rattle.imap_session.specs.Servers.{Server}
 use Rattle.imap_link.specs.Outcomes.{Never, Outcome}
@@ -17,8 +17,8 @@ invariant_of-self g c =
     let it = c.args.self.now in
     let was = it.session in
     let now = c.change.new.self in
-    let before = told_server (g.L.Link.line was.wire.link) in
-    let new = told_server (g.L.Link.line now.wire.link) in
+    let before = reported_server (g.L.Link.line was.wire.link) in
+    let new = reported_server (g.L.Link.line now.wire.link) in
     let flags = λ (s : Server). flags_sent it.keywords c.args.flags s in
     let change = λ (s : Server). stored modes.Remove (flags s) (one_uid c.args.uid) in
     let done : it.is_selected ≡ true → now.is_ready ≡ true → (honest : g.L.Link.honest now.wire.link)
@@ -46,7 +46,7 @@ pub returns-clause-outcome : goal.returns-clause-outcome
 returns-clause-outcome g c honest has =
     let a = c.change.ensures.outcome honest in
     let it = c.args.self.now in
-    let new = told_server (g.L.Link.line c.change.new.self.wire.link) in
+    let new = reported_server (g.L.Link.line c.change.new.self.wire.link) in
     record {
       mid = a.mid;
       visits = a.visits;

@@ -1,7 +1,7 @@
 use Rattle.std.proofs.Common.{◌≡◌, inr, ℕ, ◌+◌, List, ◌++◌, ◌∷◌, [], true, false, sym, ◌∙◌, ap, subst, Result, Ok, Err}
 use Rattle.std.proofs.lemmas.Result.{err_from_is_err_and}
 use Rattle.imap_session.specs.Answering.{done}
-use Rattle.imap_session.specs.Lines.{told_server}
+use Rattle.imap_session.specs.Lines.{reported_server}
 use Rattle.imap_link.specs.declared.fault.FarFault.{FarFault}
 use Rattle.imap_link.specs.UsedReplies.{abilities_read}
 use Rattle.imap_link.specs.Outcomes.{Outcome, Never}
@@ -30,7 +30,7 @@ pub returns-then-not-speaks-clause-heard : goal.returns-then-not-speaks-clause-h
 returns-then-not-speaks-clause-heard g c =
     let n = c.args.self.now.tags + 1 in
     says_so n c.ask.new.self.wire.heard.read c.args.self.now.transcript c.ask.new.self.transcript c.in_ok-ask.ensures.heard LacksRev2
-    (λ rs are. sym (c.in_ok-speaks.ensures.told rs are) ∙ c.if-not-speaks.true)
+    (λ rs are. sym (c.in_ok-speaks.ensures.reported rs are) ∙ c.if-not-speaks.true)
 
 pub returns-in_err-speaks-clause-heard : goal.returns-in_err-speaks-clause-heard
 returns-in_err-speaks-clause-heard g c =
@@ -47,7 +47,7 @@ returns-clause-heard g c =
     let old = c.args.self.now.transcript in
     subst (λ (t : List (List ℕ)). Hears (Says n statuses.Ok NamesRev2) old t) (sym c.done.ensures.transcript)
     (says_so n c.ask.new.self.wire.heard.read old c.ask.new.self.transcript c.in_ok-ask.ensures.heard NamesRev2
-    (λ rs are. sym (c.in_ok-speaks.ensures.told rs are) ∙ c.if-not-speaks.false))
+    (λ rs are. sym (c.in_ok-speaks.ensures.reported rs are) ∙ c.if-not-speaks.false))
 
 pub returns-in_err-ask-clause-outcome : goal.returns-in_err-ask-clause-outcome
 returns-in_err-ask-clause-outcome g c honest =
@@ -59,7 +59,7 @@ returns-in_err-ask-clause-outcome g c honest =
           let p = err_from_is_err_and c.from_residual.result c.from_residual.ensures.1 in
           let f = c.in_err-ask.field-0.0 in
           let old = a.mid in
-          let new = (told_server (g.L.Link.line c.ask.new.self.wire.link)) in
+          let new = (reported_server (g.L.Link.line c.ask.new.self.wire.link)) in
           let n = c.args.self.now.tags + 1 in
           let heard = c.ask.new.self.wire.heard.read in
           subst (λ (r : Result (Unit {0}) FarFault). Outcome (λ x. Remains) Never Remains r old new) (sym (p.1 ∙ ap Err p.2))
@@ -75,11 +75,11 @@ returns-then-not-speaks-clause-outcome g c honest =
       visits = a.visits;
       then =
           let old = a.mid in
-          let new = (told_server (g.L.Link.line c.ask.new.self.wire.link)) in
+          let new = (reported_server (g.L.Link.line c.ask.new.self.wire.link)) in
           let n = c.args.self.now.tags + 1 in
           let done_so = ability_exchanged n old (Ok tt) c.ask.new.self.wire.heard.read new a.then in
-          let told = named_so old.keywords (tag_text n) _ c.in_ok-speaks.speaks done_so.0 c.in_ok-speaks.ensures.told in
-          let both : false ≡ true = sym c.if-not-speaks.true ∙ told in
+          let reported = named_so old.keywords (tag_text n) _ c.in_ok-speaks.speaks done_so.0 c.in_ok-speaks.ensures.reported in
+          let both : false ≡ true = sym c.if-not-speaks.true ∙ reported in
           cc;
     }
 
@@ -92,20 +92,20 @@ returns-in_err-speaks-clause-outcome g c honest =
       then =
           let p = err_from_is_err_and c.from_residual-in_err-speaks.result c.from_residual-in_err-speaks.ensures.1 in
           let old = a.mid in
-          let new = (told_server (g.L.Link.line c.ask.new.self.wire.link)) in
+          let new = (reported_server (g.L.Link.line c.ask.new.self.wire.link)) in
           subst (λ (r : Result (Unit {0}) FarFault). Outcome (λ x. Remains) Never Remains r old new) (sym (p.1 ∙ ap Err (p.2 ∙ c.in_err-speaks.ensures.err)))
           (inr (ability_exchanged (c.args.self.now.tags + 1) old (Ok tt) c.ask.new.self.wire.heard.read new a.then).1);
     }
 
 pub returns-clause-outcome : goal.returns-clause-outcome
 returns-clause-outcome g c =
-    let old = (told_server (g.L.Link.line c.args.self.now.wire.link)) in
-    subst (λ w. g.L.Link.honest w.link → Among g.L.Link.visitors (λ old new. Remains old new) old (told_server (g.L.Link.line w.link))) (sym c.done.ensures.wire)
+    let old = (reported_server (g.L.Link.line c.args.self.now.wire.link)) in
+    subst (λ w. g.L.Link.honest w.link → Among g.L.Link.visitors (λ old new. Remains old new) old (reported_server (g.L.Link.line w.link))) (sym c.done.ensures.wire)
     (λ honest.
     let a = c.in_ok-ask.ensures.outcome honest in
     record {
       mid = a.mid;
       visits = a.visits;
       then =
-          (ability_exchanged (c.args.self.now.tags + 1) a.mid (Ok tt) c.ask.new.self.wire.heard.read (told_server (g.L.Link.line c.ask.new.self.wire.link)) a.then).1;
+          (ability_exchanged (c.args.self.now.tags + 1) a.mid (Ok tt) c.ask.new.self.wire.heard.read (reported_server (g.L.Link.line c.ask.new.self.wire.link)) a.then).1;
     })

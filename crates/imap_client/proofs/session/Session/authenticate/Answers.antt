@@ -1,7 +1,7 @@
 use Rattle.std.proofs.Common.{◌≡◌, ℕ, ◌+◌, List, true, sym, ◌∙◌, ap, subst, Result, Ok, Err}
 use Rattle.std.proofs.lemmas.Result.{err_from_is_err_and}
 use Rattle.imap_session.specs.Servers.{is_before_login}
-use Rattle.imap_session.specs.Lines.{told_server}
+use Rattle.imap_session.specs.Lines.{reported_server}
 use Rattle.imap_link.specs.declared.fault.FarFault.{FarFault}
 use Rattle.imap_link.specs.Outcomes.{Outcome}
 use Rattle.imap_client.specs.Logins.{Authenticates, Rejects}
@@ -43,7 +43,7 @@ returns-in_err-ask-clause-outcome g c honest before =
           let user = c.args.user.now in
           let password = c.args.password.now in
           let old = a.mid in
-          let new = (told_server (g.L.Link.line c.ask.new.self.wire.link)) in
+          let new = (reported_server (g.L.Link.line c.ask.new.self.wire.link)) in
           subst (λ (r : Result (Unit {0}) FarFault). Outcome (λ x. Authenticates user password) (Rejects user password) (Authenticates user password) r old new) (sym (p.1 ∙ ap Err p.2))
           (outcome_err (Unit {0}) (Unit {0}) (λ _. Authenticates user password) (λ x. Authenticates user password) (Rejects user password) (Authenticates user password) old new f
           (login_exchanged (c.args.self.now.tags + 1) user password old still (Err f) c.ask.new.self.wire.heard.read new a.then));
@@ -53,8 +53,8 @@ pub returns-clause-outcome : goal.returns-clause-outcome
 returns-clause-outcome g c =
     let user = c.args.user.now in
     let password = c.args.password.now in
-    let old = (told_server (g.L.Link.line c.args.self.now.wire.link)) in
-    subst (λ w. g.L.Link.honest w.link → is_before_login old.condition ≡ true → Among g.L.Link.visitors (Authenticates user password) old (told_server (g.L.Link.line w.link))) (sym c.done.ensures.wire)
+    let old = (reported_server (g.L.Link.line c.args.self.now.wire.link)) in
+    subst (λ w. g.L.Link.honest w.link → is_before_login old.condition ≡ true → Among g.L.Link.visitors (Authenticates user password) old (reported_server (g.L.Link.line w.link))) (sym c.done.ensures.wire)
     (λ honest before.
     let a = c.in_ok-ask.ensures.outcome honest in
     let still = ap (λ (c : Condition). is_before_login c) a.visits.condition ∙ before in
@@ -62,5 +62,5 @@ returns-clause-outcome g c =
       mid = a.mid;
       visits = a.visits;
       then =
-          login_exchanged (c.args.self.now.tags + 1) user password a.mid still (Ok tt) c.ask.new.self.wire.heard.read (told_server (g.L.Link.line c.ask.new.self.wire.link)) a.then;
+          login_exchanged (c.args.self.now.tags + 1) user password a.mid still (Ok tt) c.ask.new.self.wire.heard.read (reported_server (g.L.Link.line c.ask.new.self.wire.link)) a.then;
     })

@@ -8,26 +8,26 @@ use Rattle.imap_replies.specs.declared.word.Status.TheVariants as statuses
 use Rattle.imap_session.specs.Heard.{AreReplies}
 use Rattle.imap_session.specs.Mailboxes.{FarMailbox}
 use Rattle.imap_session.specs.Servers.{selected}
-use Rattle.imap_session.specs.Lines.{told_server}
+use Rattle.imap_session.specs.Lines.{reported_server}
 use Rattle.imap_session.specs.Visits.{Among}
 use Rattle.imap_link.specs.declared.fault.FarFault.{FarFault}
 use Rattle.imap_link.specs.Outcomes.{Outcome, Never}
 use Rattle.imap_link.specs.Sinks.{any_replies}
 use Rattle.imap_answers.specs.declared.bodies.FoundBody.{FoundBody}
-use Rattle.imap_answers.specs.Bodies.{body_told, found_at}
-use Rattle.imap_answers.specs.Readings.{ReadsAs, Tells}
+use Rattle.imap_answers.specs.Bodies.{body_reported, found_at}
+use Rattle.imap_answers.specs.Readings.{ReadsAs, Reports}
 use Rattle.imap_answers.specs.Spoken.{Speaks}
 use Rattle.imap_client.specs.Boxes.{one_uid}
 use Rattle.imap_client.specs.Logins.{Remains}
 use Rattle.imap_client.specs.Tags.{tag_text}
-use Rattle.imap_client.proofs.BodyTold.{tells_body}
+use Rattle.imap_client.proofs.BodyReported.{reports_body}
 use Rattle.imap_client.proofs.Changed.{outcome_err}
-use Rattle.imap_client.proofs.Fetched.{replies_for, FetchTells, fetch_exchanged, fetch_unchanged, bodies_read, reads_so, reads_err}
+use Rattle.imap_client.proofs.Fetched.{replies_for, FetchReports, fetch_exchanged, fetch_unchanged, bodies_read, reads_so, reads_err}
 use Rattle.imap_client.proofs.Selecting.{speaks_of}
 use Rattle.imap_client.proofs.session.Session.body.Goals as goal
 
-pub body_told-requires : goal.body_told-requires
-body_told-requires g c = subst Speaks (sym c.read_part.ensures) (speaks_of (tag_text c.ask.new.self.tags) statuses.Ok _ c.in_ok-ask.ensures.answer)
+pub body_reported-requires : goal.body_reported-requires
+body_reported-requires g c = subst Speaks (sym c.read_part.ensures) (speaks_of (tag_text c.ask.new.self.tags) statuses.Ok _ c.in_ok-ask.ensures.answer)
 
 pub returns-in_err-ask-clause-outcome : goal.returns-in_err-ask-clause-outcome
 returns-in_err-ask-clause-outcome g c honest =
@@ -41,10 +41,10 @@ returns-in_err-ask-clause-outcome g c honest =
           let n = c.args.self.now.tags + 1 in
           let read = c.ask.new.self.wire.heard.read in
           let old = a.mid in
-          let new = (told_server (g.L.Link.line c.ask.new.self.wire.link)) in
+          let new = (reported_server (g.L.Link.line c.ask.new.self.wire.link)) in
           let so = λ (found : Option FoundBody). found_at read found ≡ bytes_of c.args.uid m.store in
-          subst (λ (r : Result (Option FoundBody) FarFault). Outcome (Tells so) Never Remains r old new) (sym (p.1 ∙ ap Err p.2))
-          (outcome_err (Unit {0}) (Option FoundBody) (λ x. Tells (λ _. FetchTells n old.keywords m (one_uid c.args.uid) wanted.Body any_replies read) x) (Tells so) Never Remains old new f
+          subst (λ (r : Result (Option FoundBody) FarFault). Outcome (Reports so) Never Remains r old new) (sym (p.1 ∙ ap Err p.2))
+          (outcome_err (Unit {0}) (Option FoundBody) (λ x. Reports (λ _. FetchReports n old.keywords m (one_uid c.args.uid) wanted.Body any_replies read) x) (Reports so) Never Remains old new f
           (fetch_exchanged n old m is (one_uid c.args.uid) wanted.Body any_replies tt (Err f) read new a.then));
     }
 
@@ -60,37 +60,37 @@ returns-in_err-body-clause-outcome g c honest =
           let n = c.args.self.now.tags + 1 in
           let read = c.ask.new.self.wire.heard.read in
           let old = a.mid in
-          let new = (told_server (g.L.Link.line c.ask.new.self.wire.link)) in
+          let new = (reported_server (g.L.Link.line c.ask.new.self.wire.link)) in
           let so = λ (found : Option FoundBody). found_at read found ≡ bytes_of c.args.uid m.store in
           let rs = replies_for a.mid.keywords m (one_uid c.args.uid) wanted.Body (tag_text n) in
-          let told = fetch_exchanged n old m is (one_uid c.args.uid) wanted.Body any_replies tt (Ok tt) read new a.then in
-          let are = bodies_read n a.mid.keywords m (one_uid c.args.uid) any_replies read told.0 in
-          let reads = c.in_err-body.ensures.told rs (subst (AreReplies rs) (sym c.read_part.ensures) are) in
-          subst (λ (r : Result (Option FoundBody) FarFault). Outcome (Tells so) Never Remains r old new) (sym (p.1 ∙ ap Err p.2))
-          (reads_err (Option FoundBody) (Option (List ℕ)) (found_at read) (body_told c.args.uid rs) (bytes_of c.args.uid m.store) (tells_body a.mid.keywords c.args.uid m (tag_text n) store range) old new told.1 f
-          (subst (λ (bytes : List ℕ). ReadsAs {T = Option FoundBody} (found_at bytes) (Err f) (body_told c.args.uid rs)) c.read_part.ensures reads));
+          let reported = fetch_exchanged n old m is (one_uid c.args.uid) wanted.Body any_replies tt (Ok tt) read new a.then in
+          let are = bodies_read n a.mid.keywords m (one_uid c.args.uid) any_replies read reported.0 in
+          let reads = c.in_err-body.ensures.reported rs (subst (AreReplies rs) (sym c.read_part.ensures) are) in
+          subst (λ (r : Result (Option FoundBody) FarFault). Outcome (Reports so) Never Remains r old new) (sym (p.1 ∙ ap Err p.2))
+          (reads_err (Option FoundBody) (Option (List ℕ)) (found_at read) (body_reported c.args.uid rs) (bytes_of c.args.uid m.store) (reports_body a.mid.keywords c.args.uid m (tag_text n) store range) old new reported.1 f
+          (subst (λ (bytes : List ℕ). ReadsAs {T = Option FoundBody} (found_at bytes) (Err f) (body_reported c.args.uid rs)) c.read_part.ensures reads));
     }
 
 pub returns-clause-outcome : goal.returns-clause-outcome
 returns-clause-outcome g c =
     let n = c.args.self.now.tags + 1 in
     let read = c.ask.new.self.wire.heard.read in
-    let old = (told_server (g.L.Link.line c.args.self.now.wire.link)) in
+    let old = (reported_server (g.L.Link.line c.args.self.now.wire.link)) in
     subst (λ w. g.L.Link.honest w.link → Among g.L.Link.visitors (λ old new. (m : FarMailbox) → selected old ≡ Some m → IsStore m.store → AreInRange m.store.messages
-    → Tells (λ (found : Option FoundBody). found_at w.heard.read found ≡ bytes_of c.args.uid m.store) c.in_ok-body.body old new) old (told_server (g.L.Link.line w.link))) (sym c.done.ensures.wire)
+    → Reports (λ (found : Option FoundBody). found_at w.heard.read found ≡ bytes_of c.args.uid m.store) c.in_ok-body.body old new) old (reported_server (g.L.Link.line w.link))) (sym c.done.ensures.wire)
     (λ honest.
     let a = c.in_ok-ask.ensures.outcome honest in
     record {
       mid = a.mid;
       visits = a.visits;
       then = λ m is store range.
-          let new = (told_server (g.L.Link.line c.ask.new.self.wire.link)) in
+          let new = (reported_server (g.L.Link.line c.ask.new.self.wire.link)) in
           let rs = replies_for a.mid.keywords m (one_uid c.args.uid) wanted.Body (tag_text n) in
-          let told = fetch_exchanged n a.mid m is (one_uid c.args.uid) wanted.Body any_replies tt (Ok tt) read new a.then in
-          let are = bodies_read n a.mid.keywords m (one_uid c.args.uid) any_replies read told.0 in
-          let reads = c.in_ok-body.ensures.told rs (subst (AreReplies rs) (sym c.read_part.ensures) are) in
-          reads_so (Option FoundBody) (Option (List ℕ)) (found_at read) (body_told c.args.uid rs) (bytes_of c.args.uid m.store) (tells_body a.mid.keywords c.args.uid m (tag_text n) store range) a.mid new told.1 c.in_ok-body.body
-          (subst (λ (bytes : List ℕ). ReadsAs (found_at bytes) (Ok c.in_ok-body.body) (body_told c.args.uid rs)) c.read_part.ensures reads);
+          let reported = fetch_exchanged n a.mid m is (one_uid c.args.uid) wanted.Body any_replies tt (Ok tt) read new a.then in
+          let are = bodies_read n a.mid.keywords m (one_uid c.args.uid) any_replies read reported.0 in
+          let reads = c.in_ok-body.ensures.reported rs (subst (AreReplies rs) (sym c.read_part.ensures) are) in
+          reads_so (Option FoundBody) (Option (List ℕ)) (found_at read) (body_reported c.args.uid rs) (bytes_of c.args.uid m.store) (reports_body a.mid.keywords c.args.uid m (tag_text n) store range) a.mid new reported.1 c.in_ok-body.body
+          (subst (λ (bytes : List ℕ). ReadsAs (found_at bytes) (Ok c.in_ok-body.body) (body_reported c.args.uid rs)) c.read_part.ensures reads);
     })
 
 pub returns-in_err-ask-clause-remains : goal.returns-in_err-ask-clause-remains
@@ -101,7 +101,7 @@ returns-in_err-ask-clause-remains g c honest =
       visits = a.visits;
       then = λ m is.
           fetch_unchanged (c.args.self.now.tags + 1) a.mid m is (one_uid c.args.uid) wanted.Body any_replies (Err c.in_err-ask.field-0.0) c.ask.new.self.wire.heard.read
-          (told_server (g.L.Link.line c.ask.new.self.wire.link)) a.then;
+          (reported_server (g.L.Link.line c.ask.new.self.wire.link)) a.then;
     }
 
 pub returns-in_err-body-clause-remains : goal.returns-in_err-body-clause-remains
@@ -112,13 +112,13 @@ returns-in_err-body-clause-remains g c honest =
       visits = a.visits;
       then = λ m is.
           fetch_unchanged (c.args.self.now.tags + 1) a.mid m is (one_uid c.args.uid) wanted.Body any_replies (Ok tt) c.ask.new.self.wire.heard.read
-          (told_server (g.L.Link.line c.ask.new.self.wire.link)) a.then;
+          (reported_server (g.L.Link.line c.ask.new.self.wire.link)) a.then;
     }
 
 pub returns-clause-remains : goal.returns-clause-remains
 returns-clause-remains g c =
-    let old = (told_server (g.L.Link.line c.args.self.now.wire.link)) in
-    subst (λ w. g.L.Link.honest w.link → Among g.L.Link.visitors (λ old new. (m : FarMailbox) → selected old ≡ Some m → Remains old new) old (told_server (g.L.Link.line w.link))) (sym c.done.ensures.wire)
+    let old = (reported_server (g.L.Link.line c.args.self.now.wire.link)) in
+    subst (λ w. g.L.Link.honest w.link → Among g.L.Link.visitors (λ old new. (m : FarMailbox) → selected old ≡ Some m → Remains old new) old (reported_server (g.L.Link.line w.link))) (sym c.done.ensures.wire)
     (λ honest.
     let a = c.in_ok-ask.ensures.outcome honest in
     record {
@@ -126,5 +126,5 @@ returns-clause-remains g c =
       visits = a.visits;
       then = λ m is.
           fetch_unchanged (c.args.self.now.tags + 1) a.mid m is (one_uid c.args.uid) wanted.Body any_replies (Ok tt) c.ask.new.self.wire.heard.read
-          (told_server (g.L.Link.line c.ask.new.self.wire.link)) a.then;
+          (reported_server (g.L.Link.line c.ask.new.self.wire.link)) a.then;
     })

@@ -1,7 +1,7 @@
 use Rattle.std.proofs.Common.{◌≡◌, ◌+◌, true, sym, ◌∙◌, ap, subst, Result, Ok, Err}
 use Rattle.std.proofs.lemmas.Result.{err_from_is_err_and}
 use Rattle.imap_session.specs.Servers.{is_logged_in}
-use Rattle.imap_session.specs.Lines.{told_server}
+use Rattle.imap_session.specs.Lines.{reported_server}
 use Rattle.imap_link.specs.declared.fault.FarFault.{FarFault}
 use Rattle.imap_link.specs.Outcomes.{Outcome}
 use Rattle.imap_client.specs.Creations.{Makes, CannotMake}
@@ -23,7 +23,7 @@ returns-in_err-ask-clause-outcome g c honest logged =
           let f = c.in_err-ask.field-0.0 in
           let name = c.args.name.now in
           let old = a.mid in
-          let new = (told_server (g.L.Link.line c.ask.new.self.wire.link)) in
+          let new = (reported_server (g.L.Link.line c.ask.new.self.wire.link)) in
           subst (λ (r : Result (Unit {0}) FarFault). Outcome (λ x. Makes name) (CannotMake name) (Makes name) r old new) (sym (p.1 ∙ ap Err p.2))
           (outcome_err (Unit {0}) (Unit {0}) (λ _. Makes name) (λ x. Makes name) (CannotMake name) (Makes name) old new f
           (create_exchanged (c.args.self.now.tags + 1) name old still (Err f) c.ask.new.self.wire.heard.read new a.then));
@@ -32,8 +32,8 @@ returns-in_err-ask-clause-outcome g c honest logged =
 pub returns-clause-outcome : goal.returns-clause-outcome
 returns-clause-outcome g c =
     let name = c.args.name.now in
-    let old = (told_server (g.L.Link.line c.args.self.now.wire.link)) in
-    subst (λ w. g.L.Link.honest w.link → is_logged_in old.condition ≡ true → Among g.L.Link.visitors (Makes name) old (told_server (g.L.Link.line w.link))) (sym c.done.ensures.wire)
+    let old = (reported_server (g.L.Link.line c.args.self.now.wire.link)) in
+    subst (λ w. g.L.Link.honest w.link → is_logged_in old.condition ≡ true → Among g.L.Link.visitors (Makes name) old (reported_server (g.L.Link.line w.link))) (sym c.done.ensures.wire)
     (λ honest logged.
     let a = c.in_ok-ask.ensures.outcome honest in
     let still = ap (λ (c : Condition). is_logged_in c) a.visits.condition ∙ logged in
@@ -41,5 +41,5 @@ returns-clause-outcome g c =
       mid = a.mid;
       visits = a.visits;
       then =
-          create_exchanged (c.args.self.now.tags + 1) name a.mid still (Ok tt) c.ask.new.self.wire.heard.read (told_server (g.L.Link.line c.ask.new.self.wire.link)) a.then;
+          create_exchanged (c.args.self.now.tags + 1) name a.mid still (Ok tt) c.ask.new.self.wire.heard.read (reported_server (g.L.Link.line c.ask.new.self.wire.link)) a.then;
     })

@@ -3,7 +3,7 @@ use Rattle.std.proofs.lemmas.Result.{err_from_is_err_and}
 use Rattle.mailcore.specs.CopyPieces.{text_left}
 use Rattle.wire_reader.specs.Spelling.{crlf}
 use Rattle.imap_commands.specs.declared.command.Command.{Command}
-use Rattle.imap_session.specs.Lines.{told_server}
+use Rattle.imap_session.specs.Lines.{reported_server}
 use Rattle.imap_session.specs.Ends.{ends_of}
 use Rattle.imap_link.specs.declared.fault.FarFault.{FarFault}
 use Rattle.imap_replies.specs.declared.word.Status.{Status}
@@ -17,9 +17,9 @@ use Rattle.imap_client.proofs.Changed.{outcome_err}
 use Rattle.imap_client.proofs.Exchanging.{exchanged_err, exchanged_of, judged_ok, on_ok_always}
 use Rattle.imap_client.proofs.Offering.{completes}
 use Rattle.imap_client.proofs.Still.{still_of}
-use Rattle.imap_session.specs.Servers.{told}
+use Rattle.imap_session.specs.Servers.{reported}
 use Rattle.imap_session.specs.Visits.{Among}
-use Rattle.imap_link.proofs.Visited.{at_then, both_told}
+use Rattle.imap_link.proofs.Visited.{at_then, both_reported}
 use Rattle.imap_client.proofs.Visited.{two_visits}
 use Rattle.imap_link.specs.Sinks.{any_replies}
 use Rattle.imap_client.proofs.session.Session.deliver.Goals as goal
@@ -28,13 +28,13 @@ pub returns-in_err-offer-clause-outcome : goal.returns-in_err-offer-clause-outco
 returns-in_err-offer-clause-outcome g c honest command is =
     let p = err_from_is_err_and c.from_residual.result c.from_residual.ensures.1 in
     let f = c.in_err-offer.field-0.0 in
-    let new = (told_server (g.L.Link.line c.offer.new.self.wire.link)) in
+    let new = (reported_server (g.L.Link.line c.offer.new.self.wire.link)) in
     let heard = c.offer.new.self.wire.heard.read in
     let a = c.in_err-offer.ensures.outcome honest in
-    let old = told a.mid in
+    let old = reported a.mid in
     record {
       mid = old;
-      visits = both_told g.L.Link.visitors (g.L.Link.line c.args.self.now.wire.link).end.server a.mid a.visits;
+      visits = both_reported g.L.Link.visitors (g.L.Link.line c.args.self.now.wire.link).end.server a.mid a.visits;
       then =
           subst (λ (r : Result (Unit {0}) FarFault). Exchanged command any_replies r heard old new) (sym (p.1 ∙ ap Err p.2))
           (exchanged_err any_replies command (λ a. Never) f heard old new
@@ -47,12 +47,12 @@ returns-in_err-status-clause-outcome g c honest command is =
     let f = c.in_err-status.field-0.0 in
     let begin = g.L.Link.line c.args.self.now.wire.link in
     let offered = g.L.Link.line c.offer.new.self.wire.link in
-    let new = (told_server (g.L.Link.line c.finish_copy.new.self.link)) in
+    let new = (reported_server (g.L.Link.line c.finish_copy.new.self.link)) in
     let heard = c.finish_copy.new.self.heard.read in
     let first = c.in_ok-offer.ensures.outcome (c.in_err-status.ensures.was_honest honest) in
     let waits = first.then (text_left c.args.octets ++ crlf) command is in
     let a = c.in_err-status.ensures.outcome honest in
-    let mid = told a.mid in
+    let mid = reported a.mid in
     record {
       mid = mid;
       visits = two_visits g.L.Link.visitors begin offered first.mid a.mid first.visits waits.0 a.visits;
@@ -74,14 +74,14 @@ judge-requires-clause-idle g c honest =
 pub returns-clause-outcome : goal.returns-clause-outcome
 returns-clause-outcome g c =
     let begin = g.L.Link.line c.args.self.now.wire.link in
-    subst (λ w. g.L.Link.honest w.link → (command : Command) → InTwo c.args.tag.now c.args.front.now (text_left c.args.octets ++ crlf) command → Among g.L.Link.visitors (Exchanged command any_replies c.judge.result w.heard.read) (told_server begin) (told_server (g.L.Link.line w.link))) (sym c.judge.ensures.wire)
+    subst (λ w. g.L.Link.honest w.link → (command : Command) → InTwo c.args.tag.now c.args.front.now (text_left c.args.octets ++ crlf) command → Among g.L.Link.visitors (Exchanged command any_replies c.judge.result w.heard.read) (reported_server begin) (reported_server (g.L.Link.line w.link))) (sym c.judge.ensures.wire)
     (λ honest command is.
     let offered = g.L.Link.line c.offer.new.self.wire.link in
-    let new = (told_server (g.L.Link.line c.finish_copy.new.self.link)) in
+    let new = (reported_server (g.L.Link.line c.finish_copy.new.self.link)) in
     let first = c.in_ok-offer.ensures.outcome (c.in_ok-status.ensures.was_honest honest) in
     let waits = first.then (text_left c.args.octets ++ crlf) command is in
     let a = c.in_ok-status.ensures.outcome honest in
-    let mid = told a.mid in
+    let mid = reported a.mid in
     record {
       mid = mid;
       visits = two_visits g.L.Link.visitors begin offered first.mid a.mid first.visits waits.0 a.visits;

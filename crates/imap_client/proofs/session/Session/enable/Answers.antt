@@ -2,7 +2,7 @@ use Rattle.std.proofs.Common.{◌≡◌, ℕ, ◌+◌, List, true, sym, ◌∙�
 use Rattle.std.proofs.lemmas.Result.{err_from_is_err_and}
 use Rattle.imap_replies.specs.declared.word.Status.TheVariants as statuses
 use Rattle.imap_session.specs.Servers.{is_logged_in}
-use Rattle.imap_session.specs.Lines.{told_server}
+use Rattle.imap_session.specs.Lines.{reported_server}
 use Rattle.imap_link.specs.declared.fault.FarFault.{FarFault}
 use Rattle.imap_replies.specs.declared.word.Status.{Status}
 use Rattle.imap_link.specs.Outcomes.{Outcome, Never}
@@ -60,7 +60,7 @@ returns-in_err-status-clause-outcome g c honest logged =
           let p = err_from_is_err_and c.from_residual.result c.from_residual.ensures.1 in
           let f = c.in_err-status.field-0.0 in
           let old = a.mid in
-          let new = (told_server (g.L.Link.line c.ask_status.new.self.wire.link)) in
+          let new = (reported_server (g.L.Link.line c.ask_status.new.self.wire.link)) in
           subst (λ (r : Result (Unit {0}) FarFault). Outcome (λ x. Remains) Never Remains r old new) (sym (p.1 ∙ ap Err p.2))
           (outcome_err Status (Unit {0}) (λ a s t. (a ≡ statuses.Ok) × Remains s t) (λ x. Remains) Never Remains old new f
           (enable_answered (c.args.self.now.tags + 1) old still (Err f) c.ask_status.new.self.wire.heard.read new a.then));
@@ -75,15 +75,15 @@ returns-in_default-clause-outcome g c honest logged =
       visits = a.visits;
       then =
           let old = a.mid in
-          let new = (told_server (g.L.Link.line c.ask_status.new.self.wire.link)) in
-          let told = enable_answered (c.args.self.now.tags + 1) old still (Ok c.in_ok-status.status) c.ask_status.new.self.wire.heard.read new a.then in
-          c.in_default.not-Ok told.0;
+          let new = (reported_server (g.L.Link.line c.ask_status.new.self.wire.link)) in
+          let reported = enable_answered (c.args.self.now.tags + 1) old still (Ok c.in_ok-status.status) c.ask_status.new.self.wire.heard.read new a.then in
+          c.in_default.not-Ok reported.0;
     }
 
 pub returns-in-Ok-clause-outcome : goal.returns-in-Ok-clause-outcome
 returns-in-Ok-clause-outcome g c =
-    let old = (told_server (g.L.Link.line c.args.self.now.wire.link)) in
-    subst (λ w. g.L.Link.honest w.link → is_logged_in old.condition ≡ true → Among g.L.Link.visitors (λ old new. Remains old new) old (told_server (g.L.Link.line w.link))) (sym c.done.ensures.wire)
+    let old = (reported_server (g.L.Link.line c.args.self.now.wire.link)) in
+    subst (λ w. g.L.Link.honest w.link → is_logged_in old.condition ≡ true → Among g.L.Link.visitors (λ old new. Remains old new) old (reported_server (g.L.Link.line w.link))) (sym c.done.ensures.wire)
     (λ honest logged.
     let a = c.in_ok-status.ensures.outcome honest in
     let still = ap (λ (c : Condition). is_logged_in c) a.visits.condition ∙ logged in
@@ -91,6 +91,6 @@ returns-in-Ok-clause-outcome g c =
       mid = a.mid;
       visits = a.visits;
       then =
-          let told = enable_answered (c.args.self.now.tags + 1) a.mid still (Ok c.in_ok-status.status) c.ask_status.new.self.wire.heard.read (told_server (g.L.Link.line c.ask_status.new.self.wire.link)) a.then in
-          told.1;
+          let reported = enable_answered (c.args.self.now.tags + 1) a.mid still (Ok c.in_ok-status.status) c.ask_status.new.self.wire.heard.read (reported_server (g.L.Link.line c.ask_status.new.self.wire.link)) a.then in
+          reported.1;
     })

@@ -1,7 +1,7 @@
 use Rattle.std.proofs.Common.{◌≡◌, ℕ, ◌+◌, sym, ◌∙◌, ap, subst, arith, Result, Ok, Err}
 use Rattle.std.proofs.lemmas.Result.{err_from_is_err_and}
 use Rattle.imap_session.specs.Servers.{Condition, Server, is_before_login, is_logged_in}
-use Rattle.imap_session.specs.Lines.{told_server}
+use Rattle.imap_session.specs.Lines.{reported_server}
 use Rattle.imap_link.specs.declared.fault.FarFault.{FarFault}
 use Rattle.imap_link.specs.Outcomes.{Outcome}
 use Rattle.imap_client.specs.Logins.{Authenticates, Rejects}
@@ -62,7 +62,7 @@ returns-in_err-ask_abilities-clause-outcome g c honest before =
           let user = c.args.user.now in
           let password = c.args.password.now in
           let old = a.mid in
-          let new = (told_server (g.L.Link.line c.ask_abilities.new.self.wire.link)) in
+          let new = (reported_server (g.L.Link.line c.ask_abilities.new.self.wire.link)) in
           subst (λ (r : Result (Unit {0}) FarFault). Outcome (λ x. Authenticates user password) (Rejects user password) (Authenticates user password) r old new) (sym (p.1 ∙ ap Err p.2))
           (not_yet user password f old new a.then);
     }
@@ -83,8 +83,8 @@ returns-in_err-authenticate-clause-outcome g c honest before =
     let f = c.in_err-authenticate.field-0.0 in
     let user = c.args.user.now in
     let password = c.args.password.now in
-    let old = (told_server (g.L.Link.line c.args.self.now.wire.link)) in
-    let new = (told_server (g.L.Link.line c.authenticate.new.self.wire.link)) in
+    let old = (reported_server (g.L.Link.line c.args.self.now.wire.link)) in
+    let new = (reported_server (g.L.Link.line c.authenticate.new.self.wire.link)) in
     let first = c.in_ok-ask_abilities.ensures.outcome (c.in_err-authenticate.ensures.was_honest honest) in
     let still = ap (λ (s : Server). is_before_login s.condition) first.then ∙ ap (λ (c : Condition). is_before_login c) first.visits.condition ∙ before in
     let a = c.in_err-authenticate.ensures.outcome honest still in
@@ -111,9 +111,9 @@ pub returns-clause-outcome : goal.returns-clause-outcome
 returns-clause-outcome g c honest before =
     let user = c.args.user.now in
     let password = c.args.password.now in
-    let old = (told_server (g.L.Link.line c.args.self.now.wire.link)) in
-    let late = (told_server (g.L.Link.line c.authenticate.new.self.wire.link)) in
-    let new = (told_server (g.L.Link.line c.enable.new.self.wire.link)) in
+    let old = (reported_server (g.L.Link.line c.args.self.now.wire.link)) in
+    let late = (reported_server (g.L.Link.line c.authenticate.new.self.wire.link)) in
+    let new = (reported_server (g.L.Link.line c.enable.new.self.wire.link)) in
     let was = c.enable.ensures.was_honest honest in
     let first = c.in_ok-ask_abilities.ensures.outcome (c.in_ok-authenticate.ensures.was_honest was) in
     let still = ap (λ (s : Server). is_before_login s.condition) first.then ∙ ap (λ (c : Condition). is_before_login c) first.visits.condition ∙ before in

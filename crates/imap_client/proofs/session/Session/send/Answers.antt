@@ -1,9 +1,9 @@
 use Rattle.std.proofs.Common.{[], refl, sym, ◌∙◌, ap, subst, Result, Err}
 use Rattle.std.proofs.lemmas.Result.{err_from_is_err_and}
 use Rattle.imap_commands.specs.Writing.{Written}
-use Rattle.imap_session.specs.Lines.{told_server}
-use Rattle.imap_session.specs.Servers.{told}
-use Rattle.imap_link.proofs.Visited.{at_then, both_told}
+use Rattle.imap_session.specs.Lines.{reported_server}
+use Rattle.imap_session.specs.Servers.{reported}
+use Rattle.imap_link.proofs.Visited.{at_then, both_reported}
 use Rattle.imap_session.specs.Ends.{ends_of}
 use Rattle.imap_link.specs.declared.fault.FarFault.{FarFault}
 use Rattle.imap_replies.specs.declared.word.Status.{Status}
@@ -36,14 +36,14 @@ returns-in_err-status-clause-outcome g c honest =
     let written = subst (Written command) (sym c.deref.ensures.value) c.in_ok-text.ensures in
     let completes = plain_completes command c.of-uses.result c.deref.result.now c.of-uses.ensures c.requires.plain written in
     let at = idle_of (ends_of (g.L.Link.line c.args.self.now.wire.link) c.args.self.now.wire.heard.unread) (c.requires.idle was) in
-    let new = (told_server (g.L.Link.line c.finish.new.self.link)) in
+    let new = (reported_server (g.L.Link.line c.finish.new.self.link)) in
     let heard = c.finish.new.self.heard.read in
     let a = c.in_err-status.ensures.outcome honest in
     record {
-      mid = told a.mid;
-      visits = both_told g.L.Link.visitors (g.L.Link.line c.args.self.now.wire.link).end.server a.mid a.visits;
+      mid = reported a.mid;
+      visits = both_reported g.L.Link.visitors (g.L.Link.line c.args.self.now.wire.link).end.server a.mid a.visits;
       then =
-          subst (λ (r : Result Status FarFault). AnsweredSo command (λ told. g.S.ReplySink.took c.args.sink.now told c.finish.new.sink) r heard (told a.mid) new) (sym (p.1 ∙ ap Err p.2))
+          subst (λ (r : Result Status FarFault). AnsweredSo command (λ reported. g.S.ReplySink.took c.args.sink.now reported c.finish.new.sink) r heard (reported a.mid) new) (sym (p.1 ∙ ap Err p.2))
           (a.then command [] completes (at_then g.L.Link.visitors [] (g.L.Link.line c.args.self.now.wire.link) c.args.self.now.wire.heard.unread a.mid a.visits at));
     }
 
@@ -64,8 +64,8 @@ returns-clause-outcome g c honest =
     let at = idle_of (ends_of (g.L.Link.line c.args.self.now.wire.link) c.args.self.now.wire.heard.unread) (c.requires.idle was) in
     let a = c.in_ok-status.ensures.outcome honest in
     record {
-      mid = told a.mid;
-      visits = both_told g.L.Link.visitors (g.L.Link.line c.args.self.now.wire.link).end.server a.mid a.visits;
+      mid = reported a.mid;
+      visits = both_reported g.L.Link.visitors (g.L.Link.line c.args.self.now.wire.link).end.server a.mid a.visits;
       then = a.then command [] completes (at_then g.L.Link.visitors [] (g.L.Link.line c.args.self.now.wire.link) c.args.self.now.wire.heard.unread a.mid a.visits at);
     }
 
@@ -81,4 +81,4 @@ returns-clause-idle g c honest =
 pub returns-in_err-text-clause-outcome : goal.returns-in_err-text-clause-outcome
 returns-in_err-text-clause-outcome g c honest =
     let p = err_from_is_err_and c.from_residual.result c.from_residual.ensures.1 in
-    unsent g.L.Link.visitors (λ r. AnsweredSo c.args.command.now (λ told. g.S.ReplySink.took c.args.sink.now told c.args.sink.now) r c.args.self.now.wire.heard.read) c.from_residual.result faults.NoMemory (told_server (g.L.Link.line c.args.self.now.wire.link)) (p.1 ∙ ap Err p.2) (inl refl)
+    unsent g.L.Link.visitors (λ r. AnsweredSo c.args.command.now (λ reported. g.S.ReplySink.took c.args.sink.now reported c.args.sink.now) r c.args.self.now.wire.heard.read) c.from_residual.result faults.NoMemory (reported_server (g.L.Link.line c.args.self.now.wire.link)) (p.1 ∙ ap Err p.2) (inl refl)

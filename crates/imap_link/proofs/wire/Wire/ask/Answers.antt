@@ -3,9 +3,9 @@ use Rattle.std.proofs.lemmas.Result.{err_from_is_err_and}
 use Rattle.imap_session.specs.Lines.{Line}
 use Rattle.reply_buf.specs.Buffers.{Buffer}
 use Rattle.imap_link.specs.declared.fault.FarFault.{FarFault}
-use Rattle.imap_link.specs.declared.wire.Told.{Told}
+use Rattle.imap_link.specs.declared.wire.LastReply.{LastReply}
 use Rattle.imap_link.specs.Faults.{IsStop}
-use Rattle.imap_link.specs.Buffers.{IsTold}
+use Rattle.imap_link.specs.Buffers.{IsReported}
 use Rattle.imap_link.specs.Exchanges.{AsksFor}
 use Rattle.imap_link.specs.Sending.{AfterVisits, SendsThen, SomeThen, visited}
 use Rattle.imap_link.specs.Sinks.{any_replies}
@@ -28,7 +28,7 @@ returns-in_err-send-clause-outcome g c honest =
       mid = some.mid;
       visits = some.visits;
       then =
-          subst (λ (r : Result Told FarFault). AsksFor c.args.front.now r (visited (g.L.Link.line c.args.self.now.link) some.mid) heard new coming) (sym p.1)
+          subst (λ (r : Result LastReply FarFault). AsksFor c.args.front.now r (visited (g.L.Link.line c.args.self.now.link) some.mid) heard new coming) (sym p.1)
           (unasked c.args.front.now p.0 (visited (g.L.Link.line c.args.self.now.link) some.mid) new heard coming stop some.then);
     }
 
@@ -44,7 +44,7 @@ returns-clause-outcome g c honest =
       then =
           answered_so c.answer_alone.result any_replies c.args.tag.now c.args.front.now c.wait.result (visited (g.L.Link.line c.args.self.now.link) first.mid) (g.L.Link.line c.send.new.self) (g.L.Link.line c.wait.new.self.link)
           heard c.wait.new.self.heard.read c.wait.new.self.heard.unread first.then (c.wait.ensures.quiet honest)
-          (λ told e. came_at c.answer_alone.result any_replies (IsTold c.args.tag.now told) c.wait.new.self.heard.read (g.L.Link.honest c.wait.new.self.link) _ (at_ok _ c.wait.result told c.wait.ensures.came e) honest)
+          (λ reported e. came_at c.answer_alone.result any_replies (IsReported c.args.tag.now reported) c.wait.new.self.heard.read (g.L.Link.honest c.wait.new.self.link) _ (at_ok _ c.wait.result reported c.wait.ensures.came e) honest)
           (λ y e expects. at_err _ c.wait.result y c.wait.ensures.fault e honest expects);
     })
 

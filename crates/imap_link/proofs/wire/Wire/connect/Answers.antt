@@ -1,6 +1,6 @@
 use Rattle.std.proofs.Common.{◌≡◌, ◌∙◌, inr, arith, ap, sym, subst, Result, Err}
 use Rattle.std.proofs.lemmas.Result.{err_from_is_err_and}
-use Rattle.imap_session.specs.Lines.{told_server}
+use Rattle.imap_session.specs.Lines.{reported_server}
 use Rattle.imap_session.specs.Ends.{ends_of}
 use Rattle.reply_buf.specs.Buffers.{Buffer}
 use Rattle.imap_link.specs.declared.fault.FarFault.{FarFault}
@@ -23,8 +23,8 @@ returns-in_err-kind-clause-outcome g c honest =
     let new = g.L.Link.line c.hear.new.self.link in
     let starts = c.in_ok-reconnect.ensures.ok was in
     let stop = only_stop f _ (greets_well old mid starts c.new.result.unread (ap (λ (b : Buffer). b.unread) c.new.ensures)) (c.in_err-kind.ensures.fault honest) in
-    subst (λ (r : Result (Unit {0}) FarFault). Outcome (λ _. Restarts) Never Restarts r (told_server old) (told_server new)) (sym p.1)
-    (stop_outcome {T = Unit {0}} (λ _. Restarts) Never Restarts p.0 (told_server old) (told_server new) (subst IsStop (sym p.2) stop) (inr (restarts old mid starts new.end.server (c.in_err-kind.ensures.quiet honest))))
+    subst (λ (r : Result (Unit {0}) FarFault). Outcome (λ _. Restarts) Never Restarts r (reported_server old) (reported_server new)) (sym p.1)
+    (stop_outcome {T = Unit {0}} (λ _. Restarts) Never Restarts p.0 (reported_server old) (reported_server new) (subst IsStop (sym p.2) stop) (inr (restarts old mid starts new.end.server (c.in_err-kind.ensures.quiet honest))))
 
 pub returns-in-Hello-clause-idle : goal.returns-in-Hello-clause-idle
 returns-in-Hello-clause-idle g c honest =

@@ -6,13 +6,13 @@ use Rattle.imap_session.specs.Ends.{ends_of}
 use Rattle.reply_buf.specs.Buffers.{Buffer}
 use Rattle.imap_link.specs.declared.fault.FarFault.{FarFault}
 use Rattle.imap_link.specs.declared.fault.FarFault.TheVariants.{Protocol}
-use Rattle.imap_link.specs.declared.wire.Told.TheVariants as tells
+use Rattle.imap_link.specs.declared.wire.LastReply.TheVariants as states
 use Rattle.imap_link.specs.Faults.{IsStop}
 use Rattle.imap_link.specs.Exchanges.{Exchanges, StaysIdle}
 use Rattle.imap_link.specs.Sending.{AfterVisits, SendsThen, SomeThen, visited}
 use Rattle.imap_link.proofs.Visited.{at_then}
 use Rattle.imap_link.proofs.Exits.{stop_of}
-use Rattle.imap_link.proofs.Passing.{came_told}
+use Rattle.imap_link.proofs.Passing.{came_reported}
 use Rattle.imap_link.proofs.Late.{bounded_forgotten}
 use Rattle.imap_link.proofs.Finished.{unsent, unheard, replied, idle, no_go}
 use Rattle.imap_link.proofs.wire.Wire.finish.Goals as goal
@@ -29,8 +29,8 @@ returns-in_err-send-clause-outcome g c honest =
       mid = some.mid;
       visits = some.visits;
       then =
-          subst (λ (r : Result Status FarFault). Exchanges c.args.uses c.args.tag.now c.args.rest.now (λ told. g.S.ReplySink.took c.args.sink.now told c.args.sink.now) r old heard new c.forget.new.self.read) (sym p.1)
-          (unsent c.args.uses c.args.tag.now c.args.rest.now (λ told. g.S.ReplySink.took c.args.sink.now told c.args.sink.now) p.0 old new heard c.forget.new.self.read stop some.then);
+          subst (λ (r : Result Status FarFault). Exchanges c.args.uses c.args.tag.now c.args.rest.now (λ reported. g.S.ReplySink.took c.args.sink.now reported c.args.sink.now) r old heard new c.forget.new.self.read) (sym p.1)
+          (unsent c.args.uses c.args.tag.now c.args.rest.now (λ reported. g.S.ReplySink.took c.args.sink.now reported c.args.sink.now) p.0 old new heard c.forget.new.self.read stop some.then);
     }
 
 pub returns-in_err-send-clause-bounded : goal.returns-in_err-send-clause-bounded
@@ -46,13 +46,13 @@ returns-in_err-status-clause-outcome g c honest =
     let was = c.in_err-status.ensures.was_honest honest in
     let first : SendsThen g.L.Link.visitors c.args.rest.now (g.L.Link.line c.args.self.now.link) (g.L.Link.line c.send.new.self) = c.in_ok-send.ensures.ok was in
     let old = visited (g.L.Link.line c.args.self.now.link) first.mid in
-    subst (λ (l : List ℕ). AfterVisits g.L.Link.visitors (λ line. Exchanges c.args.uses c.args.tag.now c.args.rest.now (λ told. g.S.ReplySink.took c.args.sink.now told c.wait.new.sink) c.from_residual-in_err-status.result line l new read) (g.L.Link.line c.args.self.now.link))
+    subst (λ (l : List ℕ). AfterVisits g.L.Link.visitors (λ line. Exchanges c.args.uses c.args.tag.now c.args.rest.now (λ reported. g.S.ReplySink.took c.args.sink.now reported c.wait.new.sink) c.from_residual-in_err-status.result line l new read) (g.L.Link.line c.args.self.now.link))
     (ap (λ (b : Buffer). b.unread) c.forget.ensures) (record {
       mid = first.mid;
       visits = first.visits;
       then =
-          subst (λ (r : Result Status FarFault). Exchanges c.args.uses c.args.tag.now c.args.rest.now (λ told. g.S.ReplySink.took c.args.sink.now told c.wait.new.sink) r old heard new read) (sym p.1)
-          (unheard c.args.uses c.args.tag.now c.args.rest.now (λ told. g.S.ReplySink.took c.args.sink.now told c.wait.new.sink) p.0 old mid new heard read first.then (c.in_err-status.ensures.quiet honest)
+          subst (λ (r : Result Status FarFault). Exchanges c.args.uses c.args.tag.now c.args.rest.now (λ reported. g.S.ReplySink.took c.args.sink.now reported c.wait.new.sink) r old heard new read) (sym p.1)
+          (unheard c.args.uses c.args.tag.now c.args.rest.now (λ reported. g.S.ReplySink.took c.args.sink.now reported c.wait.new.sink) p.0 old mid new heard read first.then (c.in_err-status.ensures.quiet honest)
           (λ expects. subst IsStop (sym p.2) (c.in_err-status.ensures.fault honest expects)));
     })
 
@@ -64,14 +64,14 @@ returns-in-Answer-clause-outcome g c honest =
     let read = c.wait.new.self.heard.read in
     let coming = c.wait.new.self.heard.unread in
     let was = c.in_ok-status.ensures.was_honest honest in
-    let came = came_told c.args.uses (λ told. g.S.ReplySink.took c.args.sink.now told c.wait.new.sink) c.args.tag.now _ (tells.Answer c.in-Answer.status) read (g.L.Link.honest c.wait.new.self.link) (ends_of mid heard) (ends_of new coming) c.in-Answer.is c.in_ok-status.ensures.came honest in
+    let came = came_reported c.args.uses (λ reported. g.S.ReplySink.took c.args.sink.now reported c.wait.new.sink) c.args.tag.now _ (states.Answer c.in-Answer.status) read (g.L.Link.honest c.wait.new.self.link) (ends_of mid heard) (ends_of new coming) c.in-Answer.is c.in_ok-status.ensures.came honest in
     let first : SendsThen g.L.Link.visitors c.args.rest.now (g.L.Link.line c.args.self.now.link) (g.L.Link.line c.send.new.self) = c.in_ok-send.ensures.ok was in
     let old = visited (g.L.Link.line c.args.self.now.link) first.mid in
-    subst (λ (l : List ℕ). AfterVisits g.L.Link.visitors (λ line. Exchanges c.args.uses c.args.tag.now c.args.rest.now (λ told. g.S.ReplySink.took c.args.sink.now told c.wait.new.sink) (Ok c.in-Answer.status) line l new read) (g.L.Link.line c.args.self.now.link))
+    subst (λ (l : List ℕ). AfterVisits g.L.Link.visitors (λ line. Exchanges c.args.uses c.args.tag.now c.args.rest.now (λ reported. g.S.ReplySink.took c.args.sink.now reported c.wait.new.sink) (Ok c.in-Answer.status) line l new read) (g.L.Link.line c.args.self.now.link))
     (ap (λ (b : Buffer). b.unread) c.forget.ensures) (record {
       mid = first.mid;
       visits = first.visits;
-      then = λ command from w at. replied command c.args.uses c.args.tag.now from c.args.rest.now w old mid new heard at first.then (λ told. g.S.ReplySink.took c.args.sink.now told c.wait.new.sink) read coming c.in-Answer.status came;
+      then = λ command from w at. replied command c.args.uses c.args.tag.now from c.args.rest.now w old mid new heard at first.then (λ reported. g.S.ReplySink.took c.args.sink.now reported c.wait.new.sink) read coming c.in-Answer.status came;
     })
 
 pub returns-in-Answer-clause-idle : goal.returns-in-Answer-clause-idle
@@ -82,11 +82,11 @@ returns-in-Answer-clause-idle g c honest =
     let read = c.wait.new.self.heard.read in
     let coming = c.wait.new.self.heard.unread in
     let was = c.in_ok-status.ensures.was_honest honest in
-    let came = came_told c.args.uses (λ told. g.S.ReplySink.took c.args.sink.now told c.wait.new.sink) c.args.tag.now _ (tells.Answer c.in-Answer.status) read (g.L.Link.honest c.wait.new.self.link) (ends_of mid heard) (ends_of new coming) c.in-Answer.is c.in_ok-status.ensures.came honest in
+    let came = came_reported c.args.uses (λ reported. g.S.ReplySink.took c.args.sink.now reported c.wait.new.sink) c.args.tag.now _ (states.Answer c.in-Answer.status) read (g.L.Link.honest c.wait.new.self.link) (ends_of mid heard) (ends_of new coming) c.in-Answer.is c.in_ok-status.ensures.came honest in
     let first : SendsThen g.L.Link.visitors c.args.rest.now (g.L.Link.line c.args.self.now.link) (g.L.Link.line c.send.new.self) = c.in_ok-send.ensures.ok was in
     subst (λ (l : List ℕ). StaysIdle c.args.uses c.args.tag.now c.args.rest.now (g.L.Link.line c.args.self.now.link) l new coming) (ap (λ (b : Buffer). b.unread) c.forget.ensures) (λ command from w stays at.
     let was_at = at_then g.L.Link.visitors from (g.L.Link.line c.args.self.now.link) heard first.mid first.visits at in
-    idle command c.args.uses c.args.tag.now from c.args.rest.now w (visited (g.L.Link.line c.args.self.now.link) first.mid) mid new heard was_at first.then (λ told. g.S.ReplySink.took c.args.sink.now told c.wait.new.sink) read coming c.in-Answer.status came stays)
+    idle command c.args.uses c.args.tag.now from c.args.rest.now w (visited (g.L.Link.line c.args.self.now.link) first.mid) mid new heard was_at first.then (λ reported. g.S.ReplySink.took c.args.sink.now reported c.wait.new.sink) read coming c.in-Answer.status came stays)
 
 pub returns-in-Go-clause-outcome : goal.returns-in-Go-clause-outcome
 returns-in-Go-clause-outcome g c honest =
@@ -96,12 +96,12 @@ returns-in-Go-clause-outcome g c honest =
     let read = c.wait.new.self.heard.read in
     let coming = c.wait.new.self.heard.unread in
     let was = c.in_ok-status.ensures.was_honest honest in
-    let came = came_told c.args.uses (λ told. g.S.ReplySink.took c.args.sink.now told c.wait.new.sink) c.args.tag.now _ tells.Go read (g.L.Link.honest c.wait.new.self.link) (ends_of mid heard) (ends_of new coming) c.in-Go.is c.in_ok-status.ensures.came honest in
+    let came = came_reported c.args.uses (λ reported. g.S.ReplySink.took c.args.sink.now reported c.wait.new.sink) c.args.tag.now _ states.Go read (g.L.Link.honest c.wait.new.self.link) (ends_of mid heard) (ends_of new coming) c.in-Go.is c.in_ok-status.ensures.came honest in
     let first : SendsThen g.L.Link.visitors c.args.rest.now (g.L.Link.line c.args.self.now.link) (g.L.Link.line c.send.new.self) = c.in_ok-send.ensures.ok was in
     let old = visited (g.L.Link.line c.args.self.now.link) first.mid in
-    subst (λ (l : List ℕ). AfterVisits g.L.Link.visitors (λ line. Exchanges c.args.uses c.args.tag.now c.args.rest.now (λ told. g.S.ReplySink.took c.args.sink.now told c.wait.new.sink) (Err Protocol) line l new read) (g.L.Link.line c.args.self.now.link))
+    subst (λ (l : List ℕ). AfterVisits g.L.Link.visitors (λ line. Exchanges c.args.uses c.args.tag.now c.args.rest.now (λ reported. g.S.ReplySink.took c.args.sink.now reported c.wait.new.sink) (Err Protocol) line l new read) (g.L.Link.line c.args.self.now.link))
     (ap (λ (b : Buffer). b.unread) c.forget.ensures) (record {
       mid = first.mid;
       visits = first.visits;
-      then = λ command from w at. no_go command c.args.uses c.args.tag.now from c.args.rest.now w old mid new heard at first.then (λ told. g.S.ReplySink.took c.args.sink.now told c.wait.new.sink) read coming came;
+      then = λ command from w at. no_go command c.args.uses c.args.tag.now from c.args.rest.now w old mid new heard at first.then (λ reported. g.S.ReplySink.took c.args.sink.now reported c.wait.new.sink) read coming came;
     })

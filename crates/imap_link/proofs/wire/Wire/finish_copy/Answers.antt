@@ -8,14 +8,14 @@ use Rattle.imap_session.specs.Ends.{ends_of}
 use Rattle.reply_buf.specs.Buffers.{Buffer}
 use Rattle.imap_link.specs.declared.fault.FarFault.{FarFault}
 use Rattle.imap_link.specs.declared.fault.FarFault.TheVariants.{Protocol}
-use Rattle.imap_link.specs.declared.wire.Told.TheVariants as tells
+use Rattle.imap_link.specs.declared.wire.LastReply.TheVariants as states
 use Rattle.imap_link.specs.Faults.{IsStop}
 use Rattle.imap_link.specs.Exchanges.{Exchanges, StaysIdle}
 use Rattle.imap_link.specs.Sending.{AfterVisits, SendsThen, SomeThen, visited}
 use Rattle.imap_link.specs.Sinks.{any_replies}
 use Rattle.imap_link.proofs.Visited.{at_then}
 use Rattle.imap_link.proofs.Exits.{stop_of}
-use Rattle.imap_link.proofs.Passing.{came_told}
+use Rattle.imap_link.proofs.Passing.{came_reported}
 use Rattle.imap_link.proofs.Late.{bounded_forgotten}
 use Rattle.imap_link.proofs.Finished.{unsent, unheard, replied, idle, no_go}
 use Rattle.imap_link.proofs.wire.Wire.finish_copy.Goals as goal
@@ -67,7 +67,7 @@ returns-in-Answer-clause-outcome g c honest =
     let read = c.wait.new.self.heard.read in
     let coming = c.wait.new.self.heard.unread in
     let was = c.in_ok-status.ensures.was_honest honest in
-    let came = came_told c.args.uses any_replies c.args.tag.now _ (tells.Answer c.in-Answer.status) read (g.L.Link.honest c.wait.new.self.link) (ends_of mid heard) (ends_of new coming) c.in-Answer.is c.in_ok-status.ensures.came honest in
+    let came = came_reported c.args.uses any_replies c.args.tag.now _ (states.Answer c.in-Answer.status) read (g.L.Link.honest c.wait.new.self.link) (ends_of mid heard) (ends_of new coming) c.in-Answer.is c.in_ok-status.ensures.came honest in
     let first : SendsThen g.L.Link.visitors (text_left c.args.copy ++ crlf) (g.L.Link.line c.args.self.now.link) (g.L.Link.line c.send_copy.new.self) = c.in_ok-send_copy.ensures.ok was in
     let old = visited (g.L.Link.line c.args.self.now.link) first.mid in
     subst (λ (l : List ℕ). AfterVisits g.L.Link.visitors (λ line. Exchanges c.args.uses c.args.tag.now (text_left c.args.copy ++ crlf) any_replies (Ok c.in-Answer.status) line l new read) (g.L.Link.line c.args.self.now.link))
@@ -85,7 +85,7 @@ returns-in-Answer-clause-idle g c honest =
     let read = c.wait.new.self.heard.read in
     let coming = c.wait.new.self.heard.unread in
     let was = c.in_ok-status.ensures.was_honest honest in
-    let came = came_told c.args.uses any_replies c.args.tag.now _ (tells.Answer c.in-Answer.status) read (g.L.Link.honest c.wait.new.self.link) (ends_of mid heard) (ends_of new coming) c.in-Answer.is c.in_ok-status.ensures.came honest in
+    let came = came_reported c.args.uses any_replies c.args.tag.now _ (states.Answer c.in-Answer.status) read (g.L.Link.honest c.wait.new.self.link) (ends_of mid heard) (ends_of new coming) c.in-Answer.is c.in_ok-status.ensures.came honest in
     let first : SendsThen g.L.Link.visitors (text_left c.args.copy ++ crlf) (g.L.Link.line c.args.self.now.link) (g.L.Link.line c.send_copy.new.self) = c.in_ok-send_copy.ensures.ok was in
     subst (λ (l : List ℕ). StaysIdle c.args.uses c.args.tag.now (text_left c.args.copy ++ crlf) (g.L.Link.line c.args.self.now.link) l new coming) (ap (λ (b : Buffer). b.unread) c.forget.ensures) (λ command from w stays at.
     let was_at = at_then g.L.Link.visitors from (g.L.Link.line c.args.self.now.link) heard first.mid first.visits at in
@@ -99,7 +99,7 @@ returns-in-Go-clause-outcome g c honest =
     let read = c.wait.new.self.heard.read in
     let coming = c.wait.new.self.heard.unread in
     let was = c.in_ok-status.ensures.was_honest honest in
-    let came = came_told c.args.uses any_replies c.args.tag.now _ tells.Go read (g.L.Link.honest c.wait.new.self.link) (ends_of mid heard) (ends_of new coming) c.in-Go.is c.in_ok-status.ensures.came honest in
+    let came = came_reported c.args.uses any_replies c.args.tag.now _ states.Go read (g.L.Link.honest c.wait.new.self.link) (ends_of mid heard) (ends_of new coming) c.in-Go.is c.in_ok-status.ensures.came honest in
     let first : SendsThen g.L.Link.visitors (text_left c.args.copy ++ crlf) (g.L.Link.line c.args.self.now.link) (g.L.Link.line c.send_copy.new.self) = c.in_ok-send_copy.ensures.ok was in
     let old = visited (g.L.Link.line c.args.self.now.link) first.mid in
     subst (λ (l : List ℕ). AfterVisits g.L.Link.visitors (λ line. Exchanges c.args.uses c.args.tag.now (text_left c.args.copy ++ crlf) any_replies (Err Protocol) line l new read) (g.L.Link.line c.args.self.now.link))

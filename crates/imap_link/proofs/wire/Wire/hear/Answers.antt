@@ -2,7 +2,7 @@ use Rattle.std.proofs.Common.{◌++◌, ◌∷◌, [], List, ap, sym, subst, ◌
 use Rattle.imap_replies.specs.declared.reply.Reply.{Reply}
 use Rattle.imap_link.specs.ReplyKinds.{kind_of}
 use Rattle.imap_link.specs.UsedReplies.{is_used}
-use Rattle.imap_link.specs.Sinks.{telling}
+use Rattle.imap_link.specs.Sinks.{reporting}
 use Rattle.imap_link.proofs.Heard.{last_is, last_whole}
 use Rattle.imap_link.proofs.wire.Wire.hear.Goals as goal
 
@@ -14,5 +14,5 @@ returns-clause-heard g c =
       whole = w;
       is = ap (kind_of c.args.tag.now) (sym same) ∙ sym c.kind_of.ensures;
       used_is = ap (is_used c.args.uses) (sym same) ∙ sym c.takes.ensures;
-      told = λ first told h. subst (λ (r : Reply). g.S.ReplySink.took first (told ++ telling (r ∷ [])) c.take.new.self) same (c.in_ok-take.ensures first told h);
+      reported = λ first reported h. subst (λ (r : Reply). g.S.ReplySink.took first (reported ++ reporting (r ∷ [])) c.take.new.self) same (c.in_ok-take.ensures first reported h);
     }

@@ -3,10 +3,10 @@ use Rattle.std.proofs.lemmas.Result.{err_from_is_err_and}
 use Rattle.imap_replies.specs.declared.reply.Reply.{Reply}
 use Rattle.imap_session.specs.Ends.{Ends, ends_of}
 use Rattle.reply_buf.specs.Fronts.{IsFaulty}
-use Rattle.imap_link.specs.declared.kind.Kind.{Kind}
-use Rattle.imap_link.specs.declared.kind.Kind.TheVariants.{Bye, Go, Mine, Stray}
+use Rattle.imap_link.specs.declared.kind.ReplyKind.{ReplyKind}
+use Rattle.imap_link.specs.declared.kind.ReplyKind.TheVariants.{Bye, Go, Mine, Stray}
 use Rattle.imap_link.specs.ReplyKinds.{kind_of, passes}
-use Rattle.imap_link.specs.Sinks.{telling}
+use Rattle.imap_link.specs.Sinks.{reporting}
 use Rattle.imap_link.specs.Buffers.{Reads, GoesOn}
 use Rattle.imap_link.specs.Faults.{IsStop}
 use Rattle.imap_link.proofs.Exits.{if_err, only_stop}
@@ -46,8 +46,8 @@ returns-then-not-ends-clause-stopped g c stopped =
     (λ (r : Reply). kind_of c.args.tag.now r ≡ Bye) (c.in_ok-kind.ensures.heard.is ∙ c.in-Bye.is) in
     inr (front_of c.args.uses _ (λ r. kind_of c.args.tag.now r ≡ Bye) c.hear.new.self.heard.read _ came)
 
-pub returns-in-Go-clause-told : goal.returns-in-Go-clause-told
-returns-in-Go-clause-told g c =
+pub returns-in-Go-clause-reported : goal.returns-in-Go-clause-reported
+returns-in-Go-clause-reported g c =
     let came =
     came_on g.S.ReplySink.took c.args.sink.now c.loop.sink c.hear.new.sink (g.L.Link.honest c.loop.self.link) (g.L.Link.honest c.hear.new.self.link) c.in_ok-kind.ensures.was_honest
     (ends_of (g.L.Link.line c.args.self.now.link) c.args.self.now.heard.unread) (ends_of (g.L.Link.line c.loop.self.link) c.loop.self.heard.unread) (ends_of (g.L.Link.line c.hear.new.self.link) c.hear.new.self.heard.unread)
@@ -67,8 +67,8 @@ returns-in-Go-clause-bounded g c =
     let p = c.loop.invariant.passed in
     bounded_on c.args.uses (length c.args.self.now.heard.unread) c.loop.self.heard c.hear.new.self.heard p.replies c.loop.invariant.late p.used c.in_ok-kind.ensures.late
 
-pub returns-in-Mine-clause-told : goal.returns-in-Mine-clause-told
-returns-in-Mine-clause-told g c =
+pub returns-in-Mine-clause-reported : goal.returns-in-Mine-clause-reported
+returns-in-Mine-clause-reported g c =
     let came =
     came_on g.S.ReplySink.took c.args.sink.now c.loop.sink c.hear.new.sink (g.L.Link.honest c.loop.self.link) (g.L.Link.honest c.hear.new.self.link) c.in_ok-kind.ensures.was_honest
     (ends_of (g.L.Link.line c.args.self.now.link) c.args.self.now.heard.unread) (ends_of (g.L.Link.line c.loop.self.link) c.loop.self.heard.unread) (ends_of (g.L.Link.line c.hear.new.self.link) c.hear.new.self.heard.unread)

@@ -1,6 +1,6 @@
 use Rattle.std.proofs.Common.{◌≡◌, ◌<◌, length, Some, refl, sym, ◌∙◌, ap, subst, arith}
 use Rattle.std.specs.Prelude.{slice_get}
-use Rattle.mailcore.specs.declared.mailbox.Mailbox.{Mailbox}
+use Rattle.mailcore.specs.declared.mailbox.StoredMailbox.{StoredMailbox}
 use Rattle.mailcore.specs.Operations.{added}
 use Rattle.imap_session.specs.Servers.{Server}
 use Rattle.imap_messages.specs.Boxes.{far_of, store_of, IsServed}
@@ -16,7 +16,7 @@ add-requires c =
     let within : c.args.place < length c.self.inside.mailboxes.items = omega arith in
     c.requires.next (far_of c.index_mut.result.now)
     (ap (λ (v : Server). slice_get v.mailboxes c.args.place) (sym c.self.view_is) ∙ far_there c.self.inside.mailboxes.items c.args.place c.index_mut.result.now within
-    ∙ ap (λ (m : Mailbox). Some (far_of m)) (sym c.index_mut.ensures.value))
+    ∙ ap (λ (m : StoredMailbox). Some (far_of m)) (sym c.index_mut.ensures.value))
 
 pub invariant_of-self : goal.invariant_of-self
 invariant_of-self c =
@@ -26,10 +26,10 @@ invariant_of-self c =
     let long = far_length c.self.inside.mailboxes.items in
     let here = c.requires.within in
     let within : c.args.place < length c.self.inside.mailboxes.items = omega arith in
-    let is : IsServed (far_of d) = subst (λ (m : Mailbox). IsServed (far_of m)) (sym c.index_mut.ensures.value) (served_there raw c.args.place d c.self.invariant within) in
+    let is : IsServed (far_of d) = subst (λ (m : StoredMailbox). IsServed (far_of m)) (sym c.index_mut.ensures.value) (served_there raw c.args.place d c.self.invariant within) in
     let next : c.args.uid ≡ d.next =
     c.requires.next (far_of d)
-    (ap (λ (v : Server). slice_get v.mailboxes c.args.place) (sym c.self.view_is) ∙ far_there raw c.args.place d within ∙ ap (λ (m : Mailbox). Some (far_of m)) (sym c.index_mut.ensures.value)) in
+    (ap (λ (v : Server). slice_get v.mailboxes c.args.place) (sym c.self.view_is) ∙ far_there raw c.args.place d within ∙ ap (λ (m : StoredMailbox). Some (far_of m)) (sym c.index_mut.ensures.value)) in
     let number = c.get.ensures.number in
     let positive = c.get.ensures.positive in
     let last = c.get.ensures.below_last in

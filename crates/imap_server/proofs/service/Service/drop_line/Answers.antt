@@ -3,7 +3,7 @@ use Rattle.std.proofs.lemmas.Result.{IfOk-weaker}
 use Rattle.imap_session.specs.Portions.{LineFault}
 use Rattle.imap_session.specs.Unread.{Dropping}
 use Rattle.imap_server.specs.Unreads.{fault_of}
-use Rattle.imap_server.specs.Taking.{telling, dropped_answer}
+use Rattle.imap_server.specs.Taking.{reporting, dropped_answer}
 use Rattle.imap_server.specs.Writing.{Answered}
 use Rattle.imap_server.proofs.DropFeeds.{drops_on, drops_all, passes_from, dropped_sound}
 use Rattle.imap_server.proofs.service.Service.drop_line.Goals as goal
@@ -15,7 +15,7 @@ returns-in-Some-clause-ok c =
     (λ after h in_time text at is parts line.
     drops_all c.args.self.now text line (fault_of c.args.fault) at is c.in-Some.field-0 c.pass.new.self.last c.args.out.now.items c.end_line.new.out.items c.end_line.new.self after in_time
     (passes_from c.new-dropped.result.last (c.args.rest.now) _ (Some c.in-Some.field-0) c.pass.new.self.last c.new-dropped.ensures.last (sym parts) c.in-Some.ensures.passes) h.0
-    (subst (λ (f : LineFault). Answered (telling (dropped_answer f c.pass.new.self.last) c.args.self.now) c.args.out.now.items c.end_line.new.out.items c.end_line.new.self) fault h.1))
+    (subst (λ (f : LineFault). Answered (reporting (dropped_answer f c.pass.new.self.last) c.args.self.now) c.args.out.now.items c.end_line.new.out.items c.end_line.new.self) fault h.1))
     c.end_line.ensures.ok
 
 pub returns-in-None-clause-ok : goal.returns-in-None-clause-ok

@@ -1,5 +1,5 @@
 use Rattle.std.proofs.Common.{◌≡◌, ◌∙◌, true, ℕ, List, Bor, map, sym, ap, subst, arith}
-use Rattle.mailcore.specs.declared.mailbox.Mailbox.{Mailbox}
+use Rattle.mailcore.specs.declared.mailbox.StoredMailbox.{StoredMailbox}
 use Rattle.imap_session.specs.Servers.{Server, is_logged_in}
 use Rattle.imap_session.specs.MailboxCommands.{names_matched}
 use Rattle.imap_messages.specs.Boxes.{all_of, AreServed}
@@ -10,7 +10,7 @@ pub say_names-requires : goal.say_names-requires
 say_names-requires c =
     are_names (λ (n : Bor (List ℕ)). n.now) c.deref-2.result.now c.bytes.result.now (all_of c.deref.result.now)
     (ap (map (λ (n : Bor (List ℕ)). n.now)) c.deref-2.ensures.value ∙ c.in_ok-names.ensures)
-    (subst (λ (ms : List Mailbox). AreServed (all_of ms)) (sym c.deref.ensures.value) c.self.invariant)
+    (subst (λ (ms : List StoredMailbox). AreServed (all_of ms)) (sym c.deref.ensures.value) c.self.invariant)
 
 pub returns : goal.returns
 returns c =

@@ -1,6 +1,6 @@
 use Rattle.std.proofs.Common.{◌∙◌, List, ℕ, take, drop, None, Some, ap, sym, subst, refl}
 use Rattle.std.proofs.lemmas.Result.{IfOk-weaker}
-use Rattle.imap_session.specs.Servers.{news, told}
+use Rattle.imap_session.specs.Servers.{news, reported}
 use Rattle.imap_session.specs.Portions.{Asks, Ends, TagIs}
 use Rattle.imap_session.specs.Serving.{ends}
 use Rattle.law_session.proofs.ShortReplies.{short_append, news_short}
@@ -62,5 +62,5 @@ returns-in-Err-LineTooLong-clause-ok c =
     (λ after h in_time line.
     read_portion c.args.self.now c.args.line.bytes.items line Ends _ c.end.new.self c.args.out.now.items c.end.new.out.items after (short_append (news c.args.self.now) _ (news_short c.args.self.now) refl) in_time
     (limit_reads c.args.self.now c.args.line.bytes.items line p) refl
-    (record { own = (ends (told c.args.self.now)).replies; does = (refl, h.1.after_is); replies_are = refl }) h.1.wrote h.0)
+    (record { own = (ends (reported c.args.self.now)).replies; does = (refl, h.1.after_is); replies_are = refl }) h.1.wrote h.0)
     c.end.ensures.ok

@@ -1,5 +1,5 @@
 use Rattle.std.proofs.Common.{◌<◌, length, refl, sym, ap, subst, arith}
-use Rattle.mailcore.specs.declared.mailbox.Mailbox.{Mailbox}
+use Rattle.mailcore.specs.declared.mailbox.StoredMailbox.{StoredMailbox}
 use Rattle.imap_session.specs.NamedMessages.{stored}
 use Rattle.imap_session.specs.Servers.{Server}
 use Rattle.imap_messages.specs.Boxes.{far_of, IsServed}
@@ -13,7 +13,7 @@ store-requires c =
     let long = far_length c.self.inside.mailboxes.items in
     let here = c.requires in
     let within : c.args.place < length c.self.inside.mailboxes.items = omega arith in
-    subst (λ (m : Mailbox). IsServed (far_of m)) (sym c.index_mut.ensures.value) (served_there c.self.inside.mailboxes.items c.args.place c.index_mut.result.now c.self.invariant within)
+    subst (λ (m : StoredMailbox). IsServed (far_of m)) (sym c.index_mut.ensures.value) (served_there c.self.inside.mailboxes.items c.args.place c.index_mut.result.now c.self.invariant within)
 
 pub invariant_of-self : goal.invariant_of-self
 invariant_of-self c = served_set c.self.inside.mailboxes.items c.args.place c.store.new.mailbox c.self.invariant c.store.ensures.served

@@ -3,7 +3,7 @@ use Rattle.maildir.specs.Folders.{AreApart, name_at}
 use Rattle.maildir.specs.Slots.{files_in}
 use Rattle.maildir.proofs.FileLemmas.{apart_left}
 use Rattle.maildir.proofs.SlotLemmas.{one_less, removed_in}
-use Rattle.maildir.proofs.ToldLemmas.{told_removed}
+use Rattle.maildir.proofs.ReportedLemmas.{reported_removed}
 use Rattle.maildir.proofs.mem_files.MemFiles.clear.Goals as goal
 
 pub overflow_sub-self : goal.overflow_sub-self
@@ -18,7 +18,7 @@ invariant_of-self c =
     let less = one_less at slots c.args.spot c.requires.found in
     record {
       apart = subst AreApart (sym (removed_in at slots c.args.spot c.args.self.now.apart c.requires.found)) (apart_left None at.place at.name (files_in slots) c.args.self.now.apart);
-      told = told_removed at slots c.args.spot c.args.self.now.index c.forget.new.self c.args.self.now.apart c.args.self.now.told c.requires.found c.forget.ensures.gone;
+      reported = reported_removed at slots c.args.spot c.args.self.now.index c.forget.new.self c.args.self.now.apart c.args.self.now.reported c.requires.found c.forget.ensures.gone;
       counted = omega (arith, less, c.args.self.now.counted);
     }
 

@@ -4,11 +4,11 @@ use Rattle.std.proofs.lemmas.List.{length_push}
 use Rattle.maildir.specs.declared.folder.File.{File}
 use Rattle.maildir.specs.Folders.{AreApart, is_at, without}
 use Rattle.maildir.specs.MemFiles.{files_of}
-use Rattle.maildir.specs.Slots.{Tells, files_in, holds}
+use Rattle.maildir.specs.Slots.{Reports, files_in, holds}
 use Rattle.maildir.proofs.FileLemmas.{apart_added}
 use Rattle.maildir.proofs.PlaceLemmas.{position_filtered}
 use Rattle.maildir.proofs.SlotLemmas.{no_more, nowhere_of, pushed_in}
-use Rattle.maildir.proofs.ToldLemmas.{told_pushed}
+use Rattle.maildir.proofs.ReportedLemmas.{reported_pushed}
 use Rattle.maildir.proofs.mem_files.MemFiles.put.Goals as goal
 
 pub invariant_of-self : goal.invariant_of-self
@@ -23,8 +23,8 @@ invariant_of-self c =
     let more = ap files_in c.push_reserved.ensures.items ∙ pushed_in mid file in
     record {
       apart = subst AreApart (sym (more ∙ ap (λ (l : List File). l ++ file ∷ []) gone)) (apart_added old file c.args.self.now.apart);
-      told = subst (Tells c.note.new.self) (sym c.push_reserved.ensures.items)
-          (told_pushed file mid c.args.key.items c.len.result c.remove.new.self.index c.note.new.self c.remove.new.self.told absent c.requires.name (c.len.ensures ∙ c.remove.new.self.slots.ok.0) c.note.ensures);
+      reported = subst (Reports c.note.new.self) (sym c.push_reserved.ensures.items)
+          (reported_pushed file mid c.args.key.items c.len.result c.remove.new.self.index c.note.new.self c.remove.new.self.reported absent c.requires.name (c.len.ensures ∙ c.remove.new.self.slots.ok.0) c.note.ensures);
       counted = ap (λ (k : ℕ). k + 1) c.remove.new.self.counted ∙ sym (ap length more ∙ length_push (files_in mid) file);
     }
 

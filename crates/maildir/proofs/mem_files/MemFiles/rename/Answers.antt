@@ -6,11 +6,11 @@ use Rattle.maildir.specs.declared.folder.File.{File}
 use Rattle.maildir.specs.declared.folder.FileName.{FileName}
 use Rattle.maildir.specs.Folders.{AreApart, is_at, left, moved, name_at, without}
 use Rattle.maildir.specs.MemFiles.{files_of}
-use Rattle.maildir.specs.Slots.{Tells, files_in, holds, under}
+use Rattle.maildir.specs.Slots.{Reports, files_in, holds, under}
 use Rattle.maildir.proofs.FileLemmas.{apart_moved, left_apart, moved_nowhere, renamed_to_itself}
 use Rattle.maildir.proofs.PlaceLemmas.{position_filtered}
 use Rattle.maildir.proofs.SlotLemmas.{moved_in, none_default, nowhere_in, nowhere_of}
-use Rattle.maildir.proofs.ToldLemmas.{told_renamed}
+use Rattle.maildir.proofs.ReportedLemmas.{reported_renamed}
 use Rattle.maildir.proofs.mem_files.MemFiles.rename.Goals as goal
 
 pub returns-then-is_same : goal.returns-then-is_same
@@ -60,8 +60,8 @@ invariant_of-self c =
     let now_is = ap (λ (s : Option File). files_in (set mid i s)) slot ∙ moved_in from to mid i c.remove.new.self.apart found in
     record {
       apart = subst AreApart (sym (now_is ∙ ap (λ (l : List File). map (moved from to) l) same)) (apart_moved from to old c.args.self.now.apart);
-      told = subst (λ (s : Option File). Tells c.note.new.self (set mid i s)) (sym slot)
-          (told_renamed from to mid i c.args.key.items c.remove.new.self.index c.forget.new.self c.note.new.self
-          c.remove.new.self.apart c.remove.new.self.told found absent c.forget.ensures.gone c.requires.name c.note.ensures);
+      reported = subst (λ (s : Option File). Reports c.note.new.self (set mid i s)) (sym slot)
+          (reported_renamed from to mid i c.args.key.items c.remove.new.self.index c.forget.new.self c.note.new.self
+          c.remove.new.self.apart c.remove.new.self.reported found absent c.forget.ensures.gone c.requires.name c.note.ensures);
       counted = c.remove.new.self.counted ∙ sym (ap length now_is ∙ length-map (files_in mid) (moved from to));
     }

@@ -13,26 +13,26 @@ pub returns-in_err-stops-clause-call : goal.returns-in_err-stops-clause-call
 returns-in_err-stops-clause-call g c =
     let p = err_from_is_err_and c.from_residual.result c.from_residual.ensures.1 in
     let m = c.args.self.now in
-    rw (p.1, p.2) (fails _ (NoRoom g.K.Kind.of (λ n. length n.waiting)) _ _ (near_of m.store m.waiting.items) m.condition _ c.begin.new.self c.in_err-stops.ensures.fails)
+    rw (p.1, p.2) (fails _ (NoRoom g.K.BoxKind.of (λ n. length n.waiting)) _ _ (near_of m.store m.waiting.items) m.condition _ c.begin.new.self c.in_err-stops.ensures.fails)
 
 pub returns-in_default-clause-call : goal.returns-in_default-clause-call
 returns-in_default-clause-call g c =
     let m = c.args.self.now in
     let b = near_of m.store m.waiting.items in
-    full g.K.Kind.of (λ n. length n.waiting) _ _ b m.condition c.begin.new.self c.is_full.result (c.is_full.ensures ∙ ap is_full c.side.ensures)
+    full g.K.BoxKind.of (λ n. length n.waiting) _ _ b m.condition c.begin.new.self c.is_full.result (c.is_full.ensures ∙ ap is_full c.side.ensures)
     (omega (arith, c.in_default.ensures, c.next.ensures, c.len.ensures, length-map m.waiting.items waiting_of)) c.in_ok-stops.ensures.same
 
 pub returns-in_default-admit-clause-call : goal.returns-in_default-admit-clause-call
 returns-in_default-admit-clause-call g c =
     let m = c.args.self.now in
     let b = near_of m.store m.waiting.items in
-    rw c.lack.ensures.fault (lacks _ (NoRoom g.K.Kind.of (λ n. length n.waiting)) _ _ b m.condition (near_of c.admit.new.store c.admit.new.waiting.items) c.begin.new.self c.lack.new.self c.in_default-admit.ensures.err c.in_ok-stops.ensures.same c.lack.ensures.now)
+    rw c.lack.ensures.fault (lacks _ (NoRoom g.K.BoxKind.of (λ n. length n.waiting)) _ _ b m.condition (near_of c.admit.new.store c.admit.new.waiting.items) c.begin.new.self c.lack.new.self c.in_default-admit.ensures.err c.in_ok-stops.ensures.same c.lack.ensures.now)
 
 pub returns-clause-call : goal.returns-clause-call
 returns-clause-call g c =
     let m = c.args.self.now in
     let b = near_of m.store m.waiting.items in
-    ends _ (NoRoom g.K.Kind.of (λ n. length n.waiting)) _ _ b m.condition tt (near_of c.admit.new.store c.admit.new.waiting.items) c.begin.new.self c.end.new.self c.end.result
+    ends _ (NoRoom g.K.BoxKind.of (λ n. length n.waiting)) _ _ b m.condition tt (near_of c.admit.new.store c.admit.new.waiting.items) c.begin.new.self c.end.new.self c.end.result
     c.requires.whole c.in_ok-stops.ensures.same (admits_all true b _ c.in-Ok.ensures.ok) c.end.ensures.ends
 
 pub invariant_of-self-in_default-admit : goal.invariant_of-self-in_default-admit

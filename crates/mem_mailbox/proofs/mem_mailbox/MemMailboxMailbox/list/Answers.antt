@@ -24,7 +24,7 @@ returns-clause-call g c =
     let m = c.args.self.now in
     let b = near_of m.store m.waiting.items in
     ends _ Never _ _ b m.condition c.in-Ok.listing b c.begin.new.self c.end.new.self c.end.result
-    c.requires.whole c.in_ok-stops.ensures.same (refl, lists g.K.Kind.of b.store.next (spares c.args.spared.now) b c.in-Ok.listing (rw c.side.ensures at c.in-Ok.ensures.shows)) c.end.ensures.ends
+    c.requires.whole c.in_ok-stops.ensures.same (refl, lists g.K.BoxKind.of b.store.next (spares c.args.spared.now) b c.in-Ok.listing (rw c.side.ensures at c.in-Ok.ensures.shows)) c.end.ensures.ends
 
 pub returns-clause-within : goal.returns-clause-within
 returns-clause-within g c = λ honest.

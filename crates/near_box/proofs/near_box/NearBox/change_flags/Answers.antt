@@ -6,7 +6,7 @@ use Rattle.near_box.proofs.KeptMailboxes.{changed_kept, flagged_mailbox}
 use Rattle.near_box.proofs.MailboxLemmas.{mailbox_after}
 use Rattle.device.specs.Calls.{Nothing}
 use Rattle.mailcore.specs.declared.keywords.Keyword.{Keyword}
-use Rattle.near_box.specs.declared.survey.Entry.{Entry}
+use Rattle.near_box.specs.declared.survey.SurveyEntry.{SurveyEntry}
 use Rattle.near_box.specs.Surveys.{Surveys}
 use Rattle.maildir.specs.Folders.{Stored, AreApart}
 use Rattle.near_box.specs.declared.near_fault.NearFault.{NearFault}
@@ -37,8 +37,8 @@ returns-in_err-set_flags-clause-files g c = λ honest.
     let begun : Stored = (g.F.Folder.seen c.begin.new.self.folder).stored in
     let words = c.begin.ensures.keywords in
     let surveys = subst (λ (k : List Keyword). Surveys c.begin.new.self.survey c.begin.new.self.fresh k begun) words (c.in_ok-begin.ensures.surveys honest) in
-    let entry : Entry = c.index.result.now in
-    let entries : List Entry = c.begin.new.self.survey.entries.items in
+    let entry : SurveyEntry = c.index.result.now in
+    let entries : List SurveyEntry = c.begin.new.self.survey.entries.items in
     let there : slice_get entries c.in-Some.i ≡ Some entry = found_entry entries c.deref.result.now c.in-Some.i entry c.deref.ensures.value c.in-Some.ensures.within c.index.ensures in
     let own = found_uid entries c.deref.result.now c.in-Some.i c.args.uid entry c.deref.ensures.value c.index.ensures c.in-Some.ensures.found in
     let flags : c.of-flags.result ≡ change (flags_by_name c.args.self.now.keywords entry.name) = c.of-flags.ensures ∙ ap change c.flags_of.ensures ∙ ap (λ (k : List Keyword). change (flags_by_name k entry.name)) words in
@@ -59,8 +59,8 @@ returns-clause-files g c = λ honest.
     let begun : Stored = (g.F.Folder.seen c.begin.new.self.folder).stored in
     let words = c.begin.ensures.keywords in
     let surveys = subst (λ (k : List Keyword). Surveys c.begin.new.self.survey c.begin.new.self.fresh k begun) words (c.in_ok-begin.ensures.surveys honest) in
-    let entry : Entry = c.index.result.now in
-    let entries : List Entry = c.begin.new.self.survey.entries.items in
+    let entry : SurveyEntry = c.index.result.now in
+    let entries : List SurveyEntry = c.begin.new.self.survey.entries.items in
     let there : slice_get entries c.in-Some.i ≡ Some entry = found_entry entries c.deref.result.now c.in-Some.i entry c.deref.ensures.value c.in-Some.ensures.within c.index.ensures in
     let own = found_uid entries c.deref.result.now c.in-Some.i c.args.uid entry c.deref.ensures.value c.index.ensures c.in-Some.ensures.found in
     let flags : c.of-flags.result ≡ change (flags_by_name c.args.self.now.keywords entry.name) = c.of-flags.ensures ∙ ap change c.flags_of.ensures ∙ ap (λ (k : List Keyword). change (flags_by_name k entry.name)) words in
@@ -79,8 +79,8 @@ returns-in_err-set_flags-clause-mailbox g c = λ honest is.
     let begun : Stored = (g.F.Folder.seen c.begin.new.self.folder).stored in
     let words = c.begin.ensures.keywords in
     let surveys = subst (λ (k : List Keyword). Surveys c.begin.new.self.survey c.begin.new.self.fresh k begun) words (c.in_ok-begin.ensures.surveys honest) in
-    let entry : Entry = c.index.result.now in
-    let entries : List Entry = c.begin.new.self.survey.entries.items in
+    let entry : SurveyEntry = c.index.result.now in
+    let entries : List SurveyEntry = c.begin.new.self.survey.entries.items in
     let there : slice_get entries c.in-Some.i ≡ Some entry = found_entry entries c.deref.result.now c.in-Some.i entry c.deref.ensures.value c.in-Some.ensures.within c.index.ensures in
     let own : entry.uid ≡ c.args.uid = found_uid entries c.deref.result.now c.in-Some.i c.args.uid entry c.deref.ensures.value c.index.ensures c.in-Some.ensures.found in
     let folder : begun ≡ s = ap (λ f. (g.F.Folder.seen f).stored) c.in_ok-begin.ensures.folder in
@@ -97,8 +97,8 @@ returns-in_err-set_flags-clause-untouched g c = λ honest same.
     let begun : Stored = (g.F.Folder.seen c.begin.new.self.folder).stored in
     let words = c.begin.ensures.keywords in
     let surveys = subst (λ (k : List Keyword). Surveys c.begin.new.self.survey c.begin.new.self.fresh k begun) words (c.in_ok-begin.ensures.surveys honest) in
-    let entry : Entry = c.index.result.now in
-    let entries : List Entry = c.begin.new.self.survey.entries.items in
+    let entry : SurveyEntry = c.index.result.now in
+    let entries : List SurveyEntry = c.begin.new.self.survey.entries.items in
     let there : slice_get entries c.in-Some.i ≡ Some entry = found_entry entries c.deref.result.now c.in-Some.i entry c.deref.ensures.value c.in-Some.ensures.within c.index.ensures in
     let own : entry.uid ≡ c.args.uid = found_uid entries c.deref.result.now c.in-Some.i c.args.uid entry c.deref.ensures.value c.index.ensures c.in-Some.ensures.found in
     let folder : begun ≡ s = ap (λ f. (g.F.Folder.seen f).stored) c.in_ok-begin.ensures.folder in
@@ -116,8 +116,8 @@ returns-clause-mailbox g c = λ honest is.
     let begun : Stored = (g.F.Folder.seen c.begin.new.self.folder).stored in
     let words = c.begin.ensures.keywords in
     let surveys = subst (λ (k : List Keyword). Surveys c.begin.new.self.survey c.begin.new.self.fresh k begun) words (c.in_ok-begin.ensures.surveys honest) in
-    let entry : Entry = c.index.result.now in
-    let entries : List Entry = c.begin.new.self.survey.entries.items in
+    let entry : SurveyEntry = c.index.result.now in
+    let entries : List SurveyEntry = c.begin.new.self.survey.entries.items in
     let there : slice_get entries c.in-Some.i ≡ Some entry = found_entry entries c.deref.result.now c.in-Some.i entry c.deref.ensures.value c.in-Some.ensures.within c.index.ensures in
     let own : entry.uid ≡ c.args.uid = found_uid entries c.deref.result.now c.in-Some.i c.args.uid entry c.deref.ensures.value c.index.ensures c.in-Some.ensures.found in
     let folder : begun ≡ s = ap (λ f. (g.F.Folder.seen f).stored) c.in_ok-begin.ensures.folder in
@@ -135,8 +135,8 @@ returns-clause-untouched g c = λ honest same.
     let begun : Stored = (g.F.Folder.seen c.begin.new.self.folder).stored in
     let words = c.begin.ensures.keywords in
     let surveys = subst (λ (k : List Keyword). Surveys c.begin.new.self.survey c.begin.new.self.fresh k begun) words (c.in_ok-begin.ensures.surveys honest) in
-    let entry : Entry = c.index.result.now in
-    let entries : List Entry = c.begin.new.self.survey.entries.items in
+    let entry : SurveyEntry = c.index.result.now in
+    let entries : List SurveyEntry = c.begin.new.self.survey.entries.items in
     let there : slice_get entries c.in-Some.i ≡ Some entry = found_entry entries c.deref.result.now c.in-Some.i entry c.deref.ensures.value c.in-Some.ensures.within c.index.ensures in
     let own : entry.uid ≡ c.args.uid = found_uid entries c.deref.result.now c.in-Some.i c.args.uid entry c.deref.ensures.value c.index.ensures c.in-Some.ensures.found in
     let folder : begun ≡ s = ap (λ f. (g.F.Folder.seen f).stored) c.in_ok-begin.ensures.folder in

@@ -16,7 +16,7 @@ returns-in-Err-clause-keeps g c = λ honest.
     let folder = ap (λ f. (g.F.Folder.seen f).stored) c.in_ok-begin.ensures.folder in
     let hand = at_hand old.survey now.survey old.fresh old.keywords (g.F.Folder.seen old.folder).stored (g.F.Folder.seen now.folder).stored c.deref.result.now (old.surveys c.in_ok-begin.ensures.ready honest) c.in_ok-begin.ensures.same.0 c.deref.ensures.value folder in (
       ap (λ f. (g.F.Folder.seen f).stored) c.failed.ensures.folder ∙ c.listed.ensures.keeps honest ∙ folder,
-      none_missed c.in-Err.fault c.failed.result (length now.missed.items) (length c.failed.new.self.missed.items) c.failed.ensures.told (λ e. c.in-Err.ensures.there honest hand.rising (there_unless (spares c.args.spared.now) (g.F.Folder.seen now.folder).stored c.deref.result.now hand.there) (ap (λ (f : ReadFault). Err f) e))
+      none_missed c.in-Err.fault c.failed.result (length now.missed.items) (length c.failed.new.self.missed.items) c.failed.ensures.reported (λ e. c.in-Err.ensures.there honest hand.rising (there_unless (spares c.args.spared.now) (g.F.Folder.seen now.folder).stored c.deref.result.now hand.there) (ap (λ (f : ReadFault). Err f) e))
           ∙ ap (λ (m : History (Unit {0})). length m.items) c.in_ok-begin.ensures.same.2,
     )
 

@@ -5,11 +5,11 @@ use Rattle.near_box.proofs.near_box.NearBox.open.Goals as goal
 
 pub returns-in-Ok-clause-mailbox : goal.returns-in-Ok-clause-mailbox
 returns-in-Ok-clause-mailbox g c = λ honest.
-    surveyed_mailbox c.in-Ok.survey (non_zero_u32_get c.args.fresh) c.args.keywords (g.F.Folder.seen c.survey_of.new.folder).stored (c.in-Ok.ensures.tells honest c.args.keywords)
+    surveyed_mailbox c.in-Ok.survey (non_zero_u32_get c.args.fresh) c.args.keywords (g.F.Folder.seen c.survey_of.new.folder).stored (c.in-Ok.ensures.states honest c.args.keywords)
 
 -- the fault is reported whatever the map
 pub returns-in-Err-clause-mailbox : goal.returns-in-Err-clause-mailbox
-returns-in-Err-clause-mailbox g c = λ honest. c.in-Err.ensures.tells honest []
+returns-in-Err-clause-mailbox g c = λ honest. c.in-Err.ensures.states honest []
 
 pub invariant_of-result-clause-surveys : goal.invariant_of-result-clause-surveys
-invariant_of-result-clause-surveys g c = λ ready honest. rw (c.get.ensures.value) (c.in-Ok.ensures.tells honest c.args.keywords)
+invariant_of-result-clause-surveys g c = λ ready honest. rw (c.get.ensures.value) (c.in-Ok.ensures.states honest c.args.keywords)

@@ -34,6 +34,6 @@ returns-in-Err-clause-keeps g c = λ honest.
     let there = waiting_found old.survey now.survey old.fresh old.keywords (g.F.Folder.seen old.folder).stored (g.F.Folder.seen now.folder).stored c.deref.result.now c.args.place c.in-Some.file.now
     (old.surveys c.in_ok-begin.ensures.ready honest) c.in_ok-begin.ensures.same.0 c.deref.ensures.value folder at in (
       ap (λ f. (g.F.Folder.seen f).stored) c.failed.ensures.folder ∙ c.read_file.ensures.keeps honest ∙ folder,
-      none_missed c.in-Err.fault c.failed.result (length now.missed.items) (length c.failed.new.self.missed.items) c.failed.ensures.told (λ e. c.in-Err.ensures.there honest there (ap (λ (f : ReadFault). Err f) e))
+      none_missed c.in-Err.fault c.failed.result (length now.missed.items) (length c.failed.new.self.missed.items) c.failed.ensures.reported (λ e. c.in-Err.ensures.there honest there (ap (λ (f : ReadFault). Err f) e))
           ∙ ap (λ (m : History (Unit {0})). length m.items) c.in_ok-begin.ensures.same.2,
     )

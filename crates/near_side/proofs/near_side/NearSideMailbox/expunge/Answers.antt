@@ -12,7 +12,7 @@ returns-then-is_deleted-clause-call g c =
     let s = c.args.self.now in
     let new = c.expunge.new.self in
     let n = mailbox_of s.near in
-    rw c.told_by.ensures (turns s new c.requires.open c.requires.whole
+    rw c.reported_by.ensures (turns s new c.requires.open c.requires.whole
     (on_store (removed c.args.uid)) c.expunge.result c.expunge.ensures.ends
     (λ h. removes_one c.args.uid n (near_of s.near.fresh s.near.keywords (stored_in new)) c.expunge.result
     (subst (λ (is : Bool). IsMarkedAs c.args.uid is n) c.if-is_deleted.true (c.is_deleted.ensures.marked h (ready s s.near c.requires.open c.requires.whole)))

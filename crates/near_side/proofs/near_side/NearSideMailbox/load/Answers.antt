@@ -15,6 +15,6 @@ loaded uid body n (Ok false) h = h
 loaded uid body n (Err e) h = tt
 
 pub returns-clause-call : goal.returns-clause-call
-returns-clause-call g c = rw c.told_by.ensures (reads c.args.self.now c.load.new.self c.requires.open c.requires.whole
+returns-clause-call g c = rw c.reported_by.ensures (reads c.args.self.now c.load.new.self c.requires.open c.requires.whole
     (Loads c.args.uid c.load.new.self.body.items) c.load.result c.load.ensures.ends (λ h. (c.load.ensures.keeps h).0)
     (λ h. loaded c.args.uid c.load.new.self.body.items (mailbox_of c.args.self.now.near) c.load.result (c.load.ensures.bytes h)))

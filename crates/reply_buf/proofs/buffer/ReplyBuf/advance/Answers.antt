@@ -14,5 +14,5 @@ returns c =
     let within : b.next + len ≤ length bytes = omega (arith, c.requires, c.self.invariant.2, length-drop b.next bytes) in
     let i = c.self.invariant in
     let m = c.move_down.ensures in
-    buffer_is _ _ _ _ (more_read bytes now b.start b.end b.next len i.0 i.1 within m.front m.behind) (less_unread bytes now b.start b.end b.next len i.0 i.1 within m.front m.behind)
+    buffer_is _ _ _ _ (more_read bytes now b.start b.end b.next len i.0 i.1 within m.front m.following) (less_unread bytes now b.start b.end b.next len i.0 i.1 within m.front m.following)
     ∙ ap (reads len) same

@@ -25,7 +25,7 @@ returns g c =
     let b = c.begin_synced-answer in
     let e = c.end in
     let whole = sym c.is_broken.ensures ∙ c.if-is_broken.false in
-    let ends = books.book_ends p (λ _. Turns Missing (begun c.args.plan)) (λ _. TurnsHalf Missing Useless) FromBook b.new.near b.new.book e.new.self b.result e.result (begins (kept_of p.book) c.args.plan (books.takes_plan (g.F.Mailbox.is_open p.far) (g.N.Mailbox.is_open p.near) p.listed.devices (kept_of p.book) c.args.plan c.requires.takes)) whole e.ensures.same e.ensures.now b.ensures.told b.ensures.arrives b.ensures.part in
+    let ends = books.book_ends p (λ _. Turns Missing (begun c.args.plan)) (λ _. TurnsHalf Missing Useless) FromBook b.new.near b.new.book e.new.self b.result e.result (begins (kept_of p.book) c.args.plan (books.takes_plan (g.F.Mailbox.is_open p.far) (g.N.Mailbox.is_open p.near) p.listed.devices (kept_of p.book) c.args.plan c.requires.takes)) whole e.ensures.same e.ensures.now b.ensures.reported b.ensures.arrives b.ensures.part in
     record {
       was_honest = λ h. (h.0, b.ensures.was_honest h.1, h.2);
       keywords = refl;

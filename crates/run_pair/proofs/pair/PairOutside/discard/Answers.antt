@@ -23,7 +23,7 @@ returns g c =
     let b = c.discard-answer in
     let e = c.end in
     let whole = sym c.is_broken.ensures ∙ c.if-is_broken.false in
-    let ends = books.book_ends p (λ p. Turns p Missing) (λ p. TurnsHalf p Missing) FromBook p.near b.new.self e.new.self b.result e.result (discards (g.F.Mailbox.is_open p.far) (g.N.Mailbox.is_open p.near) p.listed.devices (kept_of p.book) c.requires.takes) whole e.ensures.same e.ensures.now b.ensures.told (books.near_stays p) (λ _. b.ensures.part) in
+    let ends = books.book_ends p (λ p. Turns p Missing) (λ p. TurnsHalf p Missing) FromBook p.near b.new.self e.new.self b.result e.result (discards (g.F.Mailbox.is_open p.far) (g.N.Mailbox.is_open p.near) p.listed.devices (kept_of p.book) c.requires.takes) whole e.ensures.same e.ensures.now b.ensures.reported (books.near_stays p) (λ _. b.ensures.part) in
     record {
       was_honest = λ h. h;
       keywords = refl;

@@ -23,7 +23,7 @@ returns g c =
     let b = c.done-answer in
     let e = c.end in
     let whole = sym c.is_broken.ensures ∙ c.if-is_broken.false in
-    let ends = books.book_ends p (λ p. Turns p (logged_more p (as_done c.args.copy))) (λ p. TurnsHalf p (torn p)) (there.FromLog (opened_of p) (as_done c.args.copy)) p.near b.new.self e.new.self b.result e.result (logs (kept_of p.book) (as_done c.args.copy)) whole e.ensures.same e.ensures.now (books.tells_log (g.F.Mailbox.is_open p.far) (g.N.Mailbox.is_open p.near) p.listed.devices (kept_of p.book) (as_done c.args.copy) b.result b.ensures.told) (books.near_stays p) (λ _. b.ensures.part) in
+    let ends = books.book_ends p (λ p. Turns p (logged_more p (as_done c.args.copy))) (λ p. TurnsHalf p (torn p)) (there.FromLog (opened_of p) (as_done c.args.copy)) p.near b.new.self e.new.self b.result e.result (logs (kept_of p.book) (as_done c.args.copy)) whole e.ensures.same e.ensures.now (books.reports_log (g.F.Mailbox.is_open p.far) (g.N.Mailbox.is_open p.near) p.listed.devices (kept_of p.book) (as_done c.args.copy) b.result b.ensures.reported) (books.near_stays p) (λ _. b.ensures.part) in
     record {
       was_honest = λ h. h;
       keywords = refl;

@@ -23,7 +23,7 @@ returns g c =
     let b = c.give_up_synced-answer in
     let e = c.end in
     let whole = sym c.is_broken.ensures ∙ c.if-is_broken.false in
-    let ends = books.book_ends p (GivesUpTo c.args.lost.now) (GivesUpHalf c.args.lost.now) FromBook b.new.near b.new.book e.new.self b.result e.result (gives_up c.args.lost.now (kept_of p.book)) whole e.ensures.same e.ensures.now b.ensures.told b.ensures.arrives b.ensures.part in
+    let ends = books.book_ends p (GivesUpTo c.args.lost.now) (GivesUpHalf c.args.lost.now) FromBook b.new.near b.new.book e.new.self b.result e.result (gives_up c.args.lost.now (kept_of p.book)) whole e.ensures.same e.ensures.now b.ensures.reported b.ensures.arrives b.ensures.part in
     record {
       was_honest = λ h. (h.0, b.ensures.was_honest h.1, h.2);
       keywords = refl;

@@ -22,7 +22,7 @@ returns g c =
     let b = c.mend-answer in
     let e = c.end in
     let whole = sym c.is_broken.ensures ∙ c.if-is_broken.false in
-    let ends = books.book_ends p (λ p. Turns p (mended p)) (λ p. TurnsHalf p p) FromBook p.near b.new.self e.new.self b.result e.result (mends (kept_of p.book)) whole e.ensures.same e.ensures.now b.ensures.told (books.near_stays p) (λ _. b.ensures.part) in
+    let ends = books.book_ends p (λ p. Turns p (mended p)) (λ p. TurnsHalf p p) FromBook p.near b.new.self e.new.self b.result e.result (mends (kept_of p.book)) whole e.ensures.same e.ensures.now b.ensures.reported (books.near_stays p) (λ _. b.ensures.part) in
     record {
       was_honest = λ h. h;
       keywords = refl;

@@ -19,7 +19,7 @@ returns g c =
       was_honest = λ h. h;
       keywords = refl;
       book = on_ok _ _ b.result e.result e.ensures.same (books.is_book (g.F.Mailbox.is_open p.far) (g.N.Mailbox.is_open p.near) p.listed.devices (kept_of b.new.self)) b.ensures.book;
-      call = books.open_ends p b.new.self e.new.self b.result e.result whole e.ensures.same e.ensures.now b.ensures.told b.ensures.part;
+      call = books.open_ends p b.new.self e.new.self b.result e.result whole e.ensures.same e.ensures.now b.ensures.reported b.ensures.part;
       why = books.by_book p b.new.self b.result e.result whole e.ensures.same b.ensures.stops;
       tallied = tally (ended no_copies) b.result e.result p.tally e.new.self whole e.ensures.same e.ensures.now;
     }

@@ -24,7 +24,7 @@ returns g c =
     let b = c.void-answer in
     let e = c.end in
     let whole = sym c.is_broken.ensures ∙ c.if-is_broken.false in
-    let ends = books.book_ends p (λ p. Turns p (logged_more p Void)) (λ p. TurnsHalf p (torn p)) FromBook p.near b.new.self e.new.self b.result e.result (logs (kept_of p.book) Void) whole e.ensures.same e.ensures.now b.ensures.told (books.near_stays p) (λ _. b.ensures.part) in
+    let ends = books.book_ends p (λ p. Turns p (logged_more p Void)) (λ p. TurnsHalf p (torn p)) FromBook p.near b.new.self e.new.self b.result e.result (logs (kept_of p.book) Void) whole e.ensures.same e.ensures.now b.ensures.reported (books.near_stays p) (λ _. b.ensures.part) in
     record {
       was_honest = λ h. h;
       keywords = refl;

@@ -22,4 +22,4 @@ pub returns-in_err-read-2-clause-none : goal.returns-in_err-read-2-clause-none
 returns-in_err-read-2-clause-none g c =
     refused _ (λ (a : g.row.A.Denot × g.row.B.Denot). g.A.Fields.fits a.0 × g.B.Fields.fits a.1) (λ (a : g.row.A.Denot × g.row.B.Denot). g.A.Fields.spelling a.0 ++ 32 ∷ g.B.Fields.spelling a.1) c.args.text.now (λ a f e.
     let s = same_cut 32 c.in_ok-first.first.now (g.A.Fields.spelling a.0) c.in_ok-first.second.now (g.B.Fields.spelling a.1) c.in_ok-first.ensures.sides.1 (g.met.A.Word.one_word a.0 f.0) (sym c.in_ok-first.ensures.sides.0 ∙ e) in
-    c.in_err-read-2.ensures.none a.1 f.1 s.behind)
+    c.in_err-read-2.ensures.none a.1 f.1 s.following)

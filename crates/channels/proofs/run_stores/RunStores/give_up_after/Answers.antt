@@ -1,0 +1,13 @@
+use Rattle.std.proofs.Common.{◌≡◌, Some, subst, sym}
+use Rattle.channels.specs.Asked.{Failed, Outcome, place_of}
+use Rattle.channels.specs.Asks.{Asks}
+use Rattle.channels.specs.Courses.{giving_asked}
+use Rattle.channels.specs.Outcomes.{outcome_of_box_fault, outcome_of_giving}
+use Rattle.channels.proofs.run_stores.RunStores.give_up_after.Goals as goal
+
+-- a fault by which a plan is given up is one of the run
+pub returns-then-is_stale-clause-asks : goal.returns-then-is_stale-clause-asks
+returns-then-is_stale-clause-asks g c =
+    let failed : outcome_of_box_fault c.args.fault.now ≡ Failed = c.is_stale.ensures.failed c.if-is_stale.true in
+    subst (λ (ran : Outcome). Asks g.S.BoxLists.noted g.S.BoxLists.asked c.args.self.now.stores c.give_up.new.self.stores
+    (giving_asked (Some (outcome_of_giving c.give_up.result)) ran (place_of c.args.place))) (sym failed) c.give_up.ensures.asks
