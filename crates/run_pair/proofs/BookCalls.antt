@@ -188,6 +188,9 @@ module _ {F N S : Type 0} {fars : mailbox.Ghosts F} {nears : mailbox.Ghosts N} {
       n : Bool
       n = nears.is_open p.near
 
+      l : List Device
+      l = p.listed.devices
+
       k : Option Kept
       k = kept_of p.book
 

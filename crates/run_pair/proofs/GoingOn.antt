@@ -16,6 +16,7 @@ use Rattle.book.specs.Shelves.{Files}
 use Rattle.book.proofs.KnownBooks.{book_known}
 use Rattle.outside.specs.declared.fault.OutsideFault.{OutsideFault}
 use Rattle.outside.specs.declared.fault.OutsideFault.TheVariants as fault
+use Rattle.outside.specs.Devices.{Device}
 use Rattle.outside.specs.GoingOn.{FilesGoOn, HoldsNext, KeepsPlan}
 use Rattle.outside.specs.Opened as opened
 use Rattle.outside.proofs.GoingOn.{files_stay, keeps_same}

@@ -87,7 +87,8 @@ pub fn write_parts(text: &mut String, parts: &WrittenWorld<'_>) -> Result<(), Al
     text.push_str("end\n")
 }
 
-fn write_options(text: &mut String, options: &Options) -> Result<(), AllocError> {
+/// Adds the lines of a world that say what the run may do.
+pub fn write_options(text: &mut String, options: &Options) -> Result<(), AllocError> {
     text.push_str("sync")?;
     write_cells(text, &options.cells)?;
     let expunge = match (options.expunge.far, options.expunge.near) {
