@@ -51,7 +51,6 @@ abbrev pub state_line : SyncState → List ℕ
 state_line s = line_of (codes "state" ∷ state_words s)
 
 -- 0 stands for a side that has vanished
--- 0 stands for a side that has vanished
 abbrev pub entry_words : Entry → List (List ℕ)
 entry_words e = decimal (uid_of Far e) ∷ decimal (uid_of Near e) ∷ flags_word e.flags ∷ []
 

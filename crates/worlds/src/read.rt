@@ -5,7 +5,7 @@ ghost use Rattle.std.specs.List.{flat_map};
 ghost use Rattle.worlds.specs.Keywords.{IsHead};
 ghost use Rattle.worlds.specs.Lines.{IsUpTo};
 ghost use Rattle.texts.specs.Lines.{line_count, line_ends};
-ghost use Rattle.worlds.specs.WorldText.{line_of, mailbox_text, waiting_line};
+ghost use Rattle.worlds.specs.WorldText.{line_of, mailbox_text, text_from_far, waiting_line};
 ghost use Rattle.worlds.specs.Worlds.{AreNamed, IsNamed, store_of, waiting_of, world_of};
 
 use crate::fault::WorldFault;
@@ -23,6 +23,7 @@ use texts::lines::Lines;
 /// The world that a text gives. Nothing may follow its line `end`.
 pub fn read_world(alloc: Global, text: &[u8], waiting: Waiting) -> Result<World, WorldFault>
     ensures head { IfOk result (λ w. (following : List ℕ) × IsHead w.options.keywords following text.now) }
+    ensures text { waiting ≡ Waiting.Kept → IfOk result (λ w. IsHead w.options.keywords (text_from_far (world_of w)) text.now) }
     ensures named { IfOk result (λ w. IsNamed w.options.keywords (world_of w)) }
     ensures fault { IfErr result (IsUpTo (line_ends text.now + 1)) }
 {
@@ -52,6 +53,8 @@ pub fn take_world(
     lines: &mut Lines<'_>,
 ) -> Result<World, WorldFault>
     ensures head { IfOk result (λ w. (following : List ℕ) × IsHead w.options.keywords following lines.old.rest.now) }
+    ensures text { waiting ≡ Waiting.Kept → IfOk result (λ w.
+        IsHead w.options.keywords (text_from_far (world_of w) ++ lines.new.rest.now) lines.old.rest.now) }
     ensures named { IfOk result (λ w. IsNamed w.options.keywords (world_of w)) }
     ensures count { line_count lines.new ≤ line_count lines.old }
     ensures fault { IfErr result (IsUpTo (line_count lines.old + 1)) }
