@@ -1,18 +1,19 @@
 //! A folder in memory to which others add files.
 
-ghost use Rattle.std.specs.Prelude.{◌≡◌, true, false, None, IfErr, IfOk};
+ghost use Rattle.std.specs.Prelude.{◌≡◌, true, false, IfErr, IfOk};
 ghost use Rattle.mailcore.specs.Content.{mark_of};
 ghost use Rattle.maildir.specs.Names.{is_waiting};
-ghost use Rattle.visitors.specs.Visitors.{AreOctets};
+ghost use Rattle.visitors.specs.Visitors.{AreOctets, IsForeign};
 
 use crate::folder::{FileName, Folder, Location, Origin, Source};
 use crate::found_names::is_waiting;
 use crate::mem_folder::{FolderCall, MemFolder};
 use device::DeviceFault;
-use mailcore::copies::mark_of;
 use mailcore::copy_pieces::CopyPieces;
 use mailcore::octets::Octets;
 use std::alloc::Global;
+use std::marker::PhantomData;
+use visitors::others::Others;
 
 /// A file that others add to `cur`.
 #[derive(Drop)]
@@ -28,21 +29,22 @@ pub struct ArrivingFile {
 }
 
 /// A folder in memory to which others add files: each comes before its call. A file comes if its name waits for a UID and no file in
-/// `cur` has it. Where there are to be 0 `MARKS`, one that bears a mark does not come, so that each mark is the run's; else none is.
+/// `cur` has it, and it is one that the others may add.
 #[derive(Drop)]
-pub struct VisitedFolder<const MARKS: u32> {
+pub struct VisitedFolder<O: Others> {
     alloc: Global,
     folder: MemFolder,
     // Those that come, and those that have come since the names were read last.
     arrivals: Vec<ArrivingFile>,
     is_broken: bool,
+    others: PhantomData<O>,
     pub ghost is_reported: { is_broken ≡ folder.stopping.is_broken },
 }
 
-impl<const MARKS: u32> VisitedFolder<MARKS> {
+impl<O: Others> VisitedFolder<O> {
     ghost use Rattle.maildir.specs.FolderCalls.{ReadAnew};
     ghost use Rattle.maildir.specs.Folders.{Lists, listed};
-    ghost use Rattle.visitors.specs.Visitors.{others_with};
+    ghost use Rattle.visitors.specs.Visitors.{others_but};
     ghost use Rattle.maildir.specs.MemFolders.{seen_of};
     ghost use Rattle.maildir.specs.VisitedFolders.{AddsAlone};
 
@@ -57,6 +59,7 @@ impl<const MARKS: u32> VisitedFolder<MARKS> {
             folder,
             arrivals,
             is_broken: false,
+            others: PhantomData,
         }
     }
 
@@ -71,7 +74,7 @@ impl<const MARKS: u32> VisitedFolder<MARKS> {
     ///
     /// `NoMemory`: memory ran out.
     pub fn into_folder(self) -> Result<MemFolder, DeviceFault>
-        ensures { IfOk result (λ folder. AddsAlone (others_with MARKS) (seen_of self.entry.folder) (seen_of folder)) }
+        ensures { IfOk result (λ folder. AddsAlone (others_but O.ours) (seen_of self.folder) (seen_of folder)) }
     {
         let mut visited = self;
         visited.take_in()?;
@@ -92,7 +95,7 @@ impl<const MARKS: u32> VisitedFolder<MARKS> {
 
     // Puts what has come into the folder, after the other files.
     fn take_in(&mut self) -> Result<(), DeviceFault>
-        ensures adds { AddsAlone (others_with MARKS) (seen_of self.old.folder) (seen_of self.new.folder) }
+        ensures adds { AddsAlone (others_but O.ours) (seen_of self.old.folder) (seen_of self.new.folder) }
         ensures broken { self.new.is_broken ≡ self.old.is_broken }
         ensures synced { self.new.folder.is_synced ≡ self.old.folder.is_synced }
         ensures fault { IfErr result (λ fault. fault ≡ DeviceFault.NoMemory) }
@@ -110,12 +113,12 @@ impl<const MARKS: u32> VisitedFolder<MARKS> {
 
     // Puts a file into the folder, if it is one that others may add.
     fn add(&mut self, arrival: ArrivingFile) -> Result<(), DeviceFault>
-        ensures adds { AddsAlone (others_with MARKS) (seen_of self.old.folder) (seen_of self.new.folder) }
+        ensures adds { AddsAlone (others_but O.ours) (seen_of self.old.folder) (seen_of self.new.folder) }
         ensures broken { self.new.is_broken ≡ self.old.is_broken }
         ensures synced { self.new.folder.is_synced ≡ self.old.folder.is_synced }
         ensures fault { IfErr result (λ fault. fault ≡ DeviceFault.NoMemory) }
     {
-        if !may_come(arrival.name.as_slice(), arrival.bytes.as_slice(), MARKS) {
+        if !may_come::<O>(arrival.name.as_slice(), arrival.bytes.as_slice()) {
             return Ok(());
         }
         match self.folder.arrive(arrival.name, arrival.bytes) {
@@ -128,7 +131,7 @@ impl<const MARKS: u32> VisitedFolder<MARKS> {
     // The names, with what has come.
     fn names_anew(&mut self) -> Result<Option<Vec<FileName>>, DeviceFault>
         requires whole { self.old.is_broken ≡ false }
-        ensures { ReadAnew true (others_with MARKS) (λ names. Lists (listed names)) (seen_of self.old.folder) (seen_of self.new.folder) result }
+        ensures { ReadAnew true (others_but O.ours) (λ names. Lists (listed names)) (seen_of self.old.folder) (seen_of self.new.folder) result }
     {
         if self.take_in().is_err() {
             self.is_broken = true;
@@ -140,14 +143,14 @@ impl<const MARKS: u32> VisitedFolder<MARKS> {
     }
 }
 
-impl<const MARKS: u32> Folder for VisitedFolder<MARKS> {
+impl<O: Others> Folder for VisitedFolder<O> {
     ghost use Rattle.std.specs.Prelude.{true, length};
-    ghost use Rattle.visitors.specs.Visitors.{others_with};
+    ghost use Rattle.visitors.specs.Visitors.{others_but};
     ghost use Rattle.maildir.specs.MemFolders.{seen_of};
 
     ghost is_honest = { true };
 
-    ghost visitors = { others_with MARKS };
+    ghost visitors = { others_but O.ours };
 
     ghost seen = { λ visited. seen_of visited.folder };
 
@@ -211,9 +214,10 @@ impl<const MARKS: u32> Folder for VisitedFolder<MARKS> {
     }
 }
 
-// Whether others may add this file, if theirs are to bear so many marks.
-fn may_come(name: &[u8], bytes: &[u8], marks: u32) -> bool
-    ensures { result ≡ true → (is_waiting name.now ≡ true) × AreOctets bytes.now × (marks ≡ 0 → mark_of bytes.now ≡ None) }
+// Whether others may add this file.
+#[tactic(auto, using(visitors::proofs::Foreign::foreign_by))]
+fn may_come<O: Others>(name: &[u8], bytes: &[u8]) -> bool
+    ensures { result ≡ true → (is_waiting name.now ≡ true) × AreOctets bytes.now × IsForeign O.ours (mark_of bytes.now) }
 {
-    is_waiting(name) && (marks > 0 || mark_of(bytes).is_none())
+    is_waiting(name) && O::may_add(bytes)
 }

@@ -1,9 +1,8 @@
 -- Who else is at a server in memory: nobody, or others who add messages.
-use Rattle.std.proofs.Common.{◌≡◌, ◌<◌, ◌∙◌, ℕ, List, Option, None, Some, ap, refl, sym, subst}
+use Rattle.std.proofs.Common.{◌≡◌, ◌<◌, ◌∙◌, ℕ, Bool, List, Option, None, Some, ap, refl, sym, subst}
 use Rattle.std.specs.Prelude.{Result, Ok, Err, OnOk, OnErr, IfSome, length, slice_index_or}
 use Rattle.mailcore.specs.Content.{mark_of}
-use Rattle.visitors.specs.Visitors.{Visitors, AreOctets, others_with}
-use Rattle.visitors.proofs.Bearing.{bears_as_said}
+use Rattle.visitors.specs.Visitors.{Visitors, AreOctets, IsForeign, others_but}
 use Rattle.imap_session.specs.Arrivals.{Arrived}
 use Rattle.imap_session.specs.Visits.{Visits}
 use Rattle.imap_session.specs.Servers.{Server}
@@ -11,7 +10,7 @@ use Rattle.imap_session.specs.Serving.{FeedsSome}
 use Rattle.imap_session.specs.Lines.{Line, Sends}
 use Rattle.law_session.proofs.Visiting.{arrival_visits, nobody_visits}
 use Rattle.mem_link.specs.declared.arrivals.Arrival.{Arrival}
-use Rattle.mem_link.specs.Others.{BearAsSaid}
+use Rattle.mem_link.specs.Others.{AreForeign}
 use Rattle.imap_link.specs.Sending.{nobody, visited, SendsThen, SomeThen}
 
 pub nobody_sends : (bytes : List ℕ) (old new : Line) → Sends bytes old new → SendsThen nobody bytes old new
@@ -23,21 +22,21 @@ nobody_feeds bytes old new s = record { mid = old.end.server; visits = nobody_vi
 -- ---- others are there
 
 -- a message that bears no mark comes, or there is none
-pub comes : (uid : Option ℕ) (name : List ℕ) (flags : ℕ) (message : List ℕ) (old new : Server) → IfSome uid (λ u. 0 < u) → AreOctets message → Arrived name flags message uid old new → (marks : ℕ) → (marks ≡ 0 → mark_of message ≡ None) → Visits (others_with marks) old new
-comes None name flags message old new is_uid octets a marks none = subst (λ (s : Server). Visits (others_with marks) old s) (sym a.0) (nobody_visits (others_with marks) old)
-comes (Some uid) name flags message old new is_uid octets a marks none = arrival_visits (others_with marks) uid name flags message old new is_uid octets (bears_as_said marks (mark_of message) none) refl a
+pub comes : (uid : Option ℕ) (name : List ℕ) (flags : ℕ) (message : List ℕ) (old new : Server) → IfSome uid (λ u. 0 < u) → AreOctets message → Arrived name flags message uid old new → (ours : List ℕ → Bool) → IsForeign ours (mark_of message) → Visits (others_but ours) old new
+comes None name flags message old new is_uid octets a ours foreign = subst (λ (s : Server). Visits (others_but ours) old s) (sym a.0) (nobody_visits (others_but ours) old)
+comes (Some uid) name flags message old new is_uid octets a ours foreign = arrival_visits (others_but ours) uid name flags message old new is_uid octets foreign refl a
 
 -- nothing has come
-pub none_comes : (marks : ℕ) (old new : Server) → new ≡ old → Visits (others_with marks) old new
-none_comes marks old new same = subst (λ (s : Server). Visits (others_with marks) old s) (sym same) (nobody_visits (others_with marks) old)
+pub none_comes : (ours : List ℕ → Bool) (old new : Server) → new ≡ old → Visits (others_but ours) old new
+none_comes ours old new same = subst (λ (s : Server). Visits (others_but ours) old s) (sym same) (nobody_visits (others_but ours) old)
 
 -- on one line after the other
 pub line_after : (a b c : Line) → b ≡ visited a b.end.server → c ≡ visited b c.end.server → c ≡ visited a c.end.server
 line_after a b c p q = q ∙ ap (λ (l : Line). visited l c.end.server) p
 
 -- one of several messages
-pub as_said : (marks : ℕ) (arrivals : List Arrival) (i : ℕ) (item : Arrival) (bytes : List ℕ) → i < length arrivals → item ≡ slice_index_or arrivals i item → bytes ≡ item.bytes → BearAsSaid marks arrivals → marks ≡ 0 → mark_of bytes ≡ None
-as_said marks arrivals i item bytes less is same all none = subst (λ (b : List ℕ). mark_of b ≡ None) (sym same) (subst (λ (a : Arrival). mark_of a.bytes ≡ None) (sym is) (all none i item less))
+pub as_said : (ours : List ℕ → Bool) (arrivals : List Arrival) (i : ℕ) (item : Arrival) (bytes : List ℕ) → i < length arrivals → item ≡ slice_index_or arrivals i item → bytes ≡ item.bytes → AreForeign ours arrivals → IsForeign ours (mark_of bytes)
+as_said ours arrivals i item bytes less is same all = subst (λ (b : List ℕ). IsForeign ours (mark_of b)) (sym same) (subst (λ (a : Arrival). IsForeign ours (mark_of a.bytes)) (sym is) (all i item less))
 
 -- ---- others were there, and then the bytes are sent
 

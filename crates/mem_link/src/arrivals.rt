@@ -1,11 +1,11 @@
 //! What others add to the mailbox of a server in memory.
 
-ghost use Rattle.std.specs.Prelude.{◌≡◌, ◌<◌, ◌≤◌, ℕ, Err, OnOk};
+ghost use Rattle.std.specs.Prelude.{◌≡◌, ◌<◌, ◌≤◌, ℕ, Bool, List, Err, OnOk};
 ghost use Rattle.imap_session.specs.Visits.{Visits};
 ghost use Rattle.imap_link.specs.Sending.{visited};
 ghost use Rattle.mem_link.specs.MemLinks.{line_of, stops_of};
-ghost use Rattle.mem_link.specs.Others.{BearAsSaid};
-ghost use Rattle.visitors.specs.Visitors.{others_with};
+ghost use Rattle.mem_link.specs.Others.{AreForeign};
+ghost use Rattle.visitors.specs.Visitors.{others_but};
 
 use crate::command::Nth;
 use crate::mem_link::MemLink;
@@ -47,8 +47,8 @@ impl Arrivals {
     /// These bytes are sent next: those messages come that come before the command that begins with them.
     pub(crate) fn come(&self, link: &mut MemLink, bytes: &[u8]) -> Result<(), LinkFault>
         ensures line { OnOk result (line_of link.new ≡ visited (line_of link.old) (line_of link.new).end.server) }
-        ensures visits { (marks : ℕ) → BearAsSaid marks self.now.list.items
-            → Visits (others_with marks) (line_of link.old).end.server (line_of link.new).end.server }
+        ensures visits { (ours : List ℕ → Bool) → AreForeign ours self.now.list.items
+            → Visits (others_but ours) (line_of link.old).end.server (line_of link.new).end.server }
         ensures steady { OnOk result (stops_of link.new ≡ stops_of link.old) }
         ensures counted { result ≡ Err LinkFault.Stopped → stops_of link.old < stops_of link.new }
         ensures no_less { stops_of link.old ≤ stops_of link.new }
@@ -63,8 +63,8 @@ impl Arrivals {
 /// Those messages come that come before this command.
 fn bring(link: &mut MemLink, mailbox: &[u8], arrivals: &[Arrival], at: Nth) -> Result<(), LinkFault>
     ensures line { OnOk result (line_of link.new ≡ visited (line_of link.old) (line_of link.new).end.server) }
-    ensures visits { (marks : ℕ) → BearAsSaid marks arrivals.now
-        → Visits (others_with marks) (line_of link.old).end.server (line_of link.new).end.server }
+    ensures visits { (ours : List ℕ → Bool) → AreForeign ours arrivals.now
+        → Visits (others_but ours) (line_of link.old).end.server (line_of link.new).end.server }
     ensures steady { OnOk result (stops_of link.new ≡ stops_of link.old) }
     ensures counted { result ≡ Err LinkFault.Stopped → stops_of link.old < stops_of link.new }
     ensures no_less { stops_of link.old ≤ stops_of link.new }

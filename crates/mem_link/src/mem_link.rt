@@ -1,6 +1,6 @@
 //! A link to a server in memory.
 
-ghost use Rattle.std.specs.Prelude.{◌≡◌, ◌<◌, ◌≤◌, ◌^◌, ◌++◌, ℕ, true, None, List, length, take, IsOk, IfOk, IfErr, OnOk, OnErr, IsErrOf, IfSome, Ok, Err};
+ghost use Rattle.std.specs.Prelude.{◌≡◌, ◌<◌, ◌≤◌, ◌^◌, ◌++◌, ℕ, Bool, true, None, List, length, take, IsOk, IfOk, IfErr, OnOk, OnErr, IsErrOf, IfSome, Ok, Err};
 ghost use Rattle.imap_replies.specs.declared.reply.Reply.{Reply};
 ghost use Rattle.imap_session.specs.Heard.{AreReplies};
 ghost use Rattle.imap_session.specs.Serving.{FeedsSome};
@@ -8,7 +8,7 @@ ghost use Rattle.imap_session.specs.Servers.{Quiet};
 ghost use Rattle.imap_session.specs.Lines.{Sends, Receives, Starts};
 ghost use Rattle.imap_session.specs.Visits.{Visits};
 ghost use Rattle.imap_link.specs.Sending.{visited};
-ghost use Rattle.visitors.specs.Visitors.{AreOctets, others_with};
+ghost use Rattle.visitors.specs.Visitors.{AreOctets, IsForeign, others_but};
 ghost use Rattle.mailcore.specs.Content.{mark_of};
 ghost use Rattle.imap_server.specs.Boxes.{AreServed};
 ghost use Rattle.std.proofs.Props.{props};
@@ -152,8 +152,8 @@ impl MemLink {
         message: &[u8],
     ) -> Result<(), LinkFault>
         ensures line { OnOk result (line_of self.new ≡ visited (line_of self.old) (line_of self.new).end.server) }
-        ensures visits { (marks : ℕ) → (marks ≡ 0 → mark_of message.now ≡ None)
-            → Visits (others_with marks) (line_of self.old).end.server (line_of self.new).end.server }
+        ensures visits { (ours : List ℕ → Bool) → IsForeign ours (mark_of message.now)
+            → Visits (others_but ours) (line_of self.old).end.server (line_of self.new).end.server }
         ensures steady { OnOk result (self.new.stops ≡ self.old.stops) }
         ensures counted { result ≡ Err LinkFault.Stopped → self.old.stops < self.new.stops }
         ensures no_less { self.old.stops ≤ self.new.stops }

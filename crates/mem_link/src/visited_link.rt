@@ -2,32 +2,37 @@
 
 ghost use Rattle.std.specs.Prelude.{◌≡◌};
 ghost use Rattle.mem_link.specs.MemLinks.{line_of, stops_of};
-ghost use Rattle.mem_link.specs.Others.{BearAsSaid};
-ghost use Rattle.visitors.specs.Visitors.{others_with};
+ghost use Rattle.mem_link.specs.Others.{AreForeign, AreForeign-prop};
+ghost use Rattle.visitors.specs.Visitors.{others_but};
 
 use crate::arrivals::Arrivals;
 use crate::mem_link::MemLink;
 use imap_link::link::{Link, LinkFault};
 use imap_server::server::Server;
+use std::marker::PhantomData;
+use visitors::others::Others;
 
 /// A link to a server in memory, which stops where its schedule says, and to a mailbox of which others add messages.
-///
-/// Where there are to be 0 `MARKS`, none of these messages bears one, and each mark is the run's; else none is.
 #[derive(Drop)]
-pub struct VisitedLink<const MARKS: u32> {
+pub struct VisitedLink<O: Others> {
     link: MemLink,
     arrivals: Arrivals,
-    pub ghost said: { BearAsSaid MARKS arrivals.list.items },
+    others: PhantomData<O>,
+    pub ghost said: { AreForeign O.ours arrivals.list.items } by { AreForeign-prop O.ours arrivals.list.items },
 }
 
-impl<const MARKS: u32> VisitedLink<MARKS> {
+impl<O: Others> VisitedLink<O> {
     /// This link, and what others add.
     pub fn new(link: MemLink, arrivals: Arrivals) -> Self
-        requires said { BearAsSaid MARKS arrivals.list.items }
+        requires said { AreForeign O.ours arrivals.list.items }
         ensures link { result.link ≡ link }
         ensures arrivals { result.arrivals ≡ arrivals }
     {
-        VisitedLink { link, arrivals }
+        VisitedLink {
+            link,
+            arrivals,
+            others: PhantomData,
+        }
     }
 
     /// How many calls have stopped, up to the top of its type.
@@ -43,7 +48,7 @@ impl<const MARKS: u32> VisitedLink<MARKS> {
     }
 }
 
-impl<const MARKS: u32> Link for VisitedLink<MARKS> {
+impl<O: Others> Link for VisitedLink<O> {
     ghost use Rattle.mem_link.specs.Served.{served_are_sound};
 
     ghost honest = { λ _. Unit {0} };
@@ -52,7 +57,7 @@ impl<const MARKS: u32> Link for VisitedLink<MARKS> {
 
     ghost stops = { λ v. stops_of v.link };
 
-    ghost visitors = { others_with MARKS };
+    ghost visitors = { others_but O.ours };
 
     ghost sound = { λ v _. served_are_sound v.link.server.server.mailboxes v.link.served };
 

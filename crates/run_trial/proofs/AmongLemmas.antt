@@ -1,6 +1,7 @@
--- What is left where others write no mark, by how many marks theirs bear.
-use Rattle.std.proofs.Common.{◌≡◌, ◌∙◌, ℕ, Bool, List, map, true, false, None, refl, sym, ap, subst}
+-- What is left where others add messages that bear none of the marks of the run.
+use Rattle.std.proofs.Common.{◌≡◌, ◌∙◌, ◌&&◌, ℕ, Bool, List, map, true, false, None, refl, sym, ap, subst}
 use Rattle.std.specs.Prelude.{◌+◌, ◌^◌, All, Result, Ok, Err, IfErr, IfOk, IsErrAnd, OnOk}
+use Rattle.std.proofs.Math.Path.{fun_ext}
 use Rattle.std.proofs.lemmas.List.Elements.{All-map}
 use Rattle.mailcore.specs.Content.{mark_of}
 use Rattle.imap_session.specs.Servers.{Server}
@@ -10,13 +11,13 @@ use Rattle.book.specs.declared.book.Pending.TheVariants.{Missing}
 use Rattle.book.specs.MemShelves.{files_of}
 use Rattle.book.specs.Shelves.{Files}
 use Rattle.mem_link.specs.declared.arrivals.Arrival.{Arrival}
-use Rattle.mem_link.specs.Others.{BearAsSaid}
+use Rattle.mem_link.specs.Others.{AreForeign}
 use Rattle.run_trial.specs.declared.arrival.FarArrival.{FarArrival}
 use Rattle.run_trial.specs.declared.setting.TrialSetting.{TrialSetting}
 use Rattle.run_trial.specs.Settings.{device_at, device_in}
 use Rattle.rules.specs.declared.options.Options.{Options}
 use Rattle.rules.specs.World.{World}
-use Rattle.visitors.specs.Visitors.{others_with}
+use Rattle.visitors.specs.Visitors.{IsForeign}
 use Rattle.outside.specs.Calls.{Seen}
 use Rattle.outside.specs.Devices.{Device}
 use Rattle.run_pair.specs.Parts.{both}
@@ -30,24 +31,28 @@ use Rattle.runner.specs.Validities.{IsKept}
 use Rattle.run_trial.specs.Openings.{AreOurs}
 use Rattle.run_trial.specs.Among.{IsOverAmong, OthersLeftAmong, arrival_of}
 use Rattle.run_trial.specs.Worlds.{device_of}
-use Rattle.imap_link.specs.Sending.{anybody}
 
-module _ (marks : ℕ) (none : marks ≡ 0) where
-  abbrev pub ours : ℕ → List ℕ → Bool
-  ours n = both (others_with n).ours (others_with n).ours
+twice : (b : Bool) → (b && b) ≡ b
+twice true = refl
+twice false = refl
 
-  pub are_ours : AreOurs (ours marks)
-  are_ours mark = subst (λ (n : ℕ). ours n mark ≡ true) (sym none) refl
+module _ (ours : List ℕ → Bool) where
+  -- what is the run's at both sides, where it is the same at each
+  same_both : both ours ours ≡ ours
+  same_both = fun_ext (λ mark. twice (ours mark))
 
-  pub over_among : {T : Type 0} (w : World) (options : Options) (d : Device) (r : Result T RunFault) → OnOk r (IsOver (opening_of (ours marks) false w options) d) → OnOk r (IsOverAmong w options d)
-  over_among w options d r = subst (λ (n : ℕ). OnOk r (IsOver (opening_of (ours n) false w options) d)) none
+  pub are_both : AreOurs ours → AreOurs (both ours ours)
+  are_both = subst AreOurs (sym same_both)
 
-  pub others_among : {T : Type 0} (w : World) (options : Options) (d : Device) (r : Result T RunFault) → OnOk r (OthersLeft (opening_of (ours marks) false w options) d) → OnOk r (OthersLeftAmong w options d)
-  others_among w options d r = subst (λ (n : ℕ). OnOk r (OthersLeft (opening_of (ours n) false w options) d)) none
+  pub over_among : {T : Type 0} (w : World) (options : Options) (d : Device) (r : Result T RunFault) → OnOk r (IsOver (opening_of (both ours ours) false w options) d) → OnOk r (IsOverAmong ours w options d)
+  over_among w options d r = subst (λ (o : List ℕ → Bool). OnOk r (IsOver (opening_of o false w options) d)) same_both
 
-  pub left_among : {T : Type 0} (w : World) (options : Options) (old new : Seen) (r : Result T RunFault) → IfErr r (λ fault. LeavesRun (Underway (opening_of (ours marks) false w options)) fault old new)
-      → IfErr r (λ fault. LeavesRun (Underway (opening_of anybody.ours anybody.alone w options)) fault old new)
-  left_among w options old new r = subst (λ (n : ℕ). IfErr r (λ fault. LeavesRun (Underway (opening_of (ours n) false w options)) fault old new)) none
+  pub others_among : {T : Type 0} (w : World) (options : Options) (d : Device) (r : Result T RunFault) → OnOk r (OthersLeft (opening_of (both ours ours) false w options) d) → OnOk r (OthersLeftAmong ours w options d)
+  others_among w options d r = subst (λ (o : List ℕ → Bool). OnOk r (OthersLeft (opening_of o false w options) d)) same_both
+
+  pub left_among : {T : Type 0} (w : World) (options : Options) (old new : Seen) (r : Result T RunFault) → IfErr r (λ fault. LeavesRun (Underway (opening_of (both ours ours) false w options)) fault old new)
+      → IfErr r (λ fault. LeavesRun (Underway (opening_of ours false w options)) fault old new)
+  left_among w options old new r = subst (λ (o : List ℕ → Bool). IfErr r (λ fault. LeavesRun (Underway (opening_of o false w options)) fault old new)) same_both
 
 -- after the greatest number
 module _ {A T E : Type 0} (device : A → Device) (w : World) (d : Device) where
@@ -63,6 +68,9 @@ device_kept s options server folder shelf asked there files kept =
     ap (λ (x : Options). device_at x.keywords server folder shelf) asked ∙ ap (λ (x : Server). device_at s.options.keywords x folder shelf) there
     ∙ ap (λ (x : Stored). device_at s.options.keywords s.far.server.server x shelf) files ∙ ap (λ (x : Files). device_at s.options.keywords s.far.server.server (stored_in s.folder) x) kept
 
-pub bear_none : (marks : ℕ) (lines : List FarArrival) (there : List FarArrival) (list : List Arrival) → there ≡ lines → list ≡ map arrival_of there → (marks ≡ 0 → All (λ a. mark_of a.bytes ≡ None) lines) → BearAsSaid marks list
-bear_none marks lines there list same taken said = λ none.
-    subst (λ (list : List Arrival). All (λ a. mark_of a.bytes ≡ None) list) (sym (taken ∙ ap (map arrival_of) same)) (All-map (λ (a : Arrival). mark_of a.bytes ≡ None) arrival_of lines (said none))
+pub mapped_foreign : (ours : List ℕ → Bool) (lines : List FarArrival) (list : List Arrival) → list ≡ map arrival_of lines → All (λ a. IsForeign ours (mark_of a.bytes)) lines → AreForeign ours list
+mapped_foreign ours lines list taken foreign = subst (AreForeign ours) (sym taken) (All-map (λ (a : Arrival). IsForeign ours (mark_of a.bytes)) arrival_of lines foreign)
+
+pub taken_foreign : (ours : List ℕ → Bool) (lines : List FarArrival) (there : List FarArrival) (list : List Arrival) → there ≡ lines → list ≡ map arrival_of there → All (λ a. IsForeign ours (mark_of a.bytes)) lines → AreForeign ours list
+taken_foreign ours lines there list same taken foreign =
+    subst (AreForeign ours) (sym (taken ∙ ap (map arrival_of) same)) (All-map (λ (a : Arrival). IsForeign ours (mark_of a.bytes)) arrival_of lines foreign)

@@ -4,7 +4,7 @@ pub mod FolderLemmas
 pub mod ShelfLemmas
 pub mod WorldLemmas
 pub mod PutFiles
-pub mod UnmarkedLemmas
+pub mod ForeignLemmas
 pub mod RunLemmas
 pub mod Picks
 pub mod MemoryLemmas

@@ -1,6 +1,10 @@
 -- What a run leaves that began with an opening, or with a world.
-use Rattle.std.proofs.Common.{◌≡◌, ℕ, Bool, true, List, [], ◌∷◌, inl, inr, refl, sym, ap, subst, ◌∙◌}
-use Rattle.std.specs.Prelude.{Option, Result, Ok, Err, OnOk, IfErr, IfOk, IsErrOf, get_or}
+use Rattle.std.proofs.Common.{◌≡◌, ◌+◌, ℕ, zero, suc, Bool, true, false, List, [], ◌∷◌, ◌++◌, All, if◌then◌else◌, inl, inr, refl, sym, ap, subst, ◌∙◌}
+use Rattle.std.specs.Prelude.{Option, Result, Ok, Err, OnOk, IfErr, IfOk, IsErrOf}
+use Rattle.std.proofs.lemmas.List.Elements.{All-append, All-cons, All-nil}
+use Rattle.rand_core.specs.Stream.{Stream}
+use Rattle.mailcore.specs.Draws.{Draws, after_pairs, firsts, is_repeat, mark_at}
+use Rattle.mailcore.proofs.PairLemmas.{mark_at-add}
 use Rattle.rules.specs.declared.options.Options.{Options}
 use Rattle.rules.specs.declared.state.SyncState.{SyncState}
 use Rattle.rules.specs.Opening.{IsOpening}
@@ -26,6 +30,23 @@ use Rattle.runner.specs.Faults.{LeavesRun}
 use Rattle.runner.specs.Settled.{CountsAttempts, IsSettled, IsUnsettled}
 use Rattle.run_trial.specs.Openings.{AreOurs, StandsAt, trial_stream}
 
+-- ---- marks
+
+firsts_ours : (ours : List ℕ → Bool) (stream : Stream) → ((pair : ℕ) → ours (mark_at stream pair) ≡ true) → (pairs : ℕ) → All (λ mark. ours mark ≡ true) (firsts stream pairs)
+unfolding firsts
+firsts_ours ours stream are zero = All-nil (λ mark. ours mark ≡ true)
+firsts_ours ours stream are (suc k) = by_test (is_repeat stream k) (firsts_ours ours stream are k)
+  where
+    by_test : (b : Bool) → All (λ mark. ours mark ≡ true) (firsts stream k) → All (λ mark. ours mark ≡ true) (if b then firsts stream k else firsts stream k ++ mark_at stream k ∷ [])
+    by_test true before = before
+    by_test false before =
+        All-append (λ mark. ours mark ≡ true) (firsts stream k) (mark_at stream k ∷ []) before (All-cons (λ mark. ours mark ≡ true) (mark_at stream k) [] (are k) (All-nil (λ mark. ours mark ≡ true)))
+
+drawn_ours : (ours : List ℕ → Bool) → AreOurs ours → (pairs count : ℕ) (marks : List (List ℕ)) → Draws (after_pairs trial_stream pairs) count marks → All (λ mark. ours mark ≡ true) marks
+drawn_ours ours are pairs count marks draws =
+    subst (λ (l : List (List ℕ)). All (λ mark. ours mark ≡ true) l) (sym draws.are_firsts)
+    (firsts_ours ours (after_pairs trial_stream pairs) (λ k. subst (λ (mark : List ℕ). ours mark ≡ true) (mark_at-add trial_stream pairs k) (are (pairs + k))) draws.pairs)
+
 -- ---- from an opening
 
 goes_over : (since : List Device) (start now : Device) → GoesOnOver since start now → GoesOn start now
@@ -34,7 +55,7 @@ goes_over (d ∷ since) start now on = goes_after start d now (goes_over since s
 
 module _ {ours : List ℕ → Bool} {alone : Bool} (opening : Opening ours alone) (options : Options) where
   asked : AreOurs ours → opening.called ≡ options → Inputs opening options trial_stream
-  asked are called = record { called = called; are_ours = λ pairs count marks draws k d within. are (get_or marks k d) }
+  asked are called = record { called = called; are_ours = drawn_ours ours are }
 
   -- what `settle` says of an answer
   abbrev pub Settles : (now : Option Opened) (honest : Type 0) (old new : Seen) → Result Settled RunFault → Type 0

@@ -1,11 +1,10 @@
 -- A run to which others add messages: what they add, and what it leaves of a world.
-use Rattle.std.specs.Prelude.{◌≡◌}
+use Rattle.std.specs.Prelude.{◌≡◌, ℕ, Bool, false, List}
 use Rattle.mem_link.specs.declared.command.CommandName.{CommandName}
 use Rattle.mem_link.specs.declared.command.CommandName.TheVariants as link
 use Rattle.mem_link.specs.declared.arrivals.Arrival.{Arrival}
 use Rattle.book.specs.declared.mem_shelf.MemShelf.{MemShelf}
 use Rattle.book.specs.MemShelves.{files_of}
-use Rattle.imap_link.specs.Sending.{anybody}
 use Rattle.rules.specs.declared.options.Options.{Options}
 use Rattle.rules.specs.declared.state.SyncState.{SyncState}
 use Rattle.rules.specs.World.{World}
@@ -45,14 +44,14 @@ AreKept setting shelf state = (files_of shelf ≡ files_of setting.shelf) × (st
 
 -- ---- what it leaves
 
--- the run that began with this world is over, whatever others added under no mark
-abbrev pub IsOverAmong : World → Options → Device → Type 0
-IsOverAmong w options d = IsOver (opening_of anybody.ours anybody.alone w options) d
+-- the run that began with this world is over, whatever others added under none of these marks
+abbrev pub IsOverAmong : (ours : List ℕ → Bool) → World → Options → Device → Type 0
+IsOverAmong ours w options d = IsOver (opening_of ours false w options) d
 
 -- once it is over, each message that others added after the listings is left to the next run
-abbrev pub OthersLeftAmong : World → Options → Device → Type 0
-OthersLeftAmong w options d = OthersLeft (opening_of anybody.ours anybody.alone w options) d
+abbrev pub OthersLeftAmong : (ours : List ℕ → Bool) → World → Options → Device → Type 0
+OthersLeftAmong ours w options d = OthersLeft (opening_of ours false w options) d
 
 -- the run that began with this world, on this device, is underway still
-abbrev pub LeavesAmong : World → Options → Device → RunFault → Seen → Type 0
-LeavesAmong w options d fault new = LeavesRun (Underway (opening_of anybody.ours anybody.alone w options)) fault (seen_with d untouched) new
+abbrev pub LeavesAmong : (ours : List ℕ → Bool) → World → Options → Device → RunFault → Seen → Type 0
+LeavesAmong ours w options d fault new = LeavesRun (Underway (opening_of ours false w options)) fault (seen_with d untouched) new

@@ -1,18 +1,13 @@
 -- What a run of a trial goes by: its marks, and its opening.
 use Rattle.std.specs.Prelude.{◌≡◌, ℕ, Bool, true, List, [], None}
-use Rattle.rand_core.specs.Steps.{steps_u64_low, stream_of}
-use Rattle.rand_core.specs.Stream.{Stream}
+use Rattle.mailcore.specs.Draws.{mark_at}
 use Rattle.mailcore.specs.Stores.{Store}
 use Rattle.rules.specs.declared.options.Options.{Options}
 use Rattle.rules.specs.declared.state.SyncState.{SyncState}
-use Rattle.worlds.specs.Trial.{trial_step}
+pub use Rattle.worlds.specs.Trial.{trial_stream}
 use Rattle.outside.specs.Devices.{Device}
 use Rattle.run_states.specs.Openings.{Opening}
 use Rattle.runner.specs.Attempts.{AtOpening}
-
--- what the generator of a trial gives, from its first word on
-abbrev pub trial_stream : Stream
-trial_stream = stream_of (steps_u64_low trial_step) 0
 
 abbrev pub no_messages : Store
 no_messages = record { validity = 0; next = 0; messages = [] }
@@ -25,9 +20,9 @@ abbrev pub no_opening : {ours : List ℕ → Bool} {alone : Bool} → Options �
 no_opening options =
     record { world = record { far = no_messages; near = no_messages; waiting = []; state = no_state }; options = options; called = options; named = []; listed = None }
 
--- whatever the mark is, nobody else writes it
+-- nobody else writes a mark that the generator of trials gives
 abbrev pub AreOurs : (List ℕ → Bool) → Type 0
-AreOurs ours = (mark : List ℕ) → ours mark ≡ true
+AreOurs ours = (pair : ℕ) → ours (mark_at trial_stream pair) ≡ true
 
 -- A device stands at this opening of a run: it has no plan yet, or one is pending. The options of the call are these.
 pub record StandsAt {ours : List ℕ → Bool} {alone : Bool} (opening : Opening ours alone) (options : Options) (d : Device) : Type 0 where

@@ -1,14 +1,14 @@
 //! What others add in a trial, as its lines say it.
 
-ghost use Rattle.std.specs.Prelude.{◌≡◌, ◌&&◌, All, IfErr, None, is_none, true};
+ghost use Rattle.std.specs.Prelude.{◌≡◌, ◌&&◌, All, IfErr, true};
 ghost use Rattle.std.specs.List.{list_all};
 ghost use Rattle.mailcore.specs.Content.{mark_of};
+ghost use Rattle.visitors.specs.Visitors.{IsForeign, is_foreign};
 ghost use Rattle.worlds.specs.Lines.{IsOf};
 
 use crate::count::read_ordinal;
 use crate::folder::arrival_name;
 use crate::stop::{StopCommand, command_of, folder_call_of};
-use mailcore::copies::mark_of;
 use mailcore::flags::Flags;
 use mailcore::keywords::Keywords;
 use mailcore::octets::Octets;
@@ -16,6 +16,7 @@ use mailcore::side::Side;
 use maildir::visited_folder::ArrivingFile;
 use std::alloc::Global;
 use texts::lines::Line;
+use visitors::others::Others;
 use worlds::fault::WorldFault;
 use worlds::read_mailbox::{is_far, read_bytes};
 use worlds::words::{read_named, split_word};
@@ -67,20 +68,20 @@ impl TrialArrivals {
         self.far.is_empty() && self.near.is_empty()
     }
 
-    /// Whether none of the messages and files bears a mark.
-    pub fn bear_no_mark(&self) -> bool
-        ensures exact { result ≡ (list_all (λ a. is_none (mark_of a.bytes)) self.now.far.items
-            && list_all (λ a. is_none (mark_of a.bytes)) self.now.near.items) }
-        ensures unmarked { result ≡ true → All (λ a. mark_of a.bytes ≡ None) self.now.far.items }
+    /// Whether each of the messages and files is one that these others may add.
+    pub fn are_of<O: Others>(&self) -> bool
+        ensures exact { result ≡ (list_all (λ a. is_foreign O.ours (mark_of a.bytes)) self.now.far.items
+            && list_all (λ a. is_foreign O.ours (mark_of a.bytes)) self.now.near.items) }
+        ensures foreign { result ≡ true → All (λ a. IsForeign O.ours (mark_of a.bytes)) self.now.far.items }
     {
         let far = self
             .far
             .iter()
-            .all(|arrival| mark_of(arrival.bytes.as_slice()).is_none());
+            .all(|arrival| O::may_add(arrival.bytes.as_slice()));
         let near = self
             .near
             .iter()
-            .all(|arrival| mark_of(arrival.bytes.as_slice()).is_none());
+            .all(|arrival| O::may_add(arrival.bytes.as_slice()));
         far && near
     }
 

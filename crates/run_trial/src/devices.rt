@@ -40,6 +40,7 @@ use runner::fault::RunFault;
 use runner::pass::Settled;
 use std::alloc::Global;
 use std::num::NonZeroU32;
+use visitors::others::Others;
 use written_worlds::write::{WrittenMailbox, WrittenWorld, write_parts};
 
 /// Makes one run over an outside whose shelf holds this state, by the map of its options, and gives it back beside what the run came to.
@@ -169,7 +170,7 @@ impl<L: TrialLink + Drop> Devices<L> {
     ghost use Rattle.maildir.specs.MemFolders.{seen_of as seen_in, stored_in};
     ghost use Rattle.maildir.specs.VisitedFolders.{AddsAlone};
     ghost use Rattle.run_pair.specs.BookParts.{files_of as files_in};
-    ghost use Rattle.visitors.specs.Visitors.{others_with};
+    ghost use Rattle.visitors.specs.Visitors.{others_but};
 
     /// What the outside of a run stands on.
     pub fn of(outside: Both<L, MemFolder, MemShelf>) -> Self
@@ -183,11 +184,11 @@ impl<L: TrialLink + Drop> Devices<L> {
     }
 
     /// The same where others add files to the folder: it has all that has come.
-    pub(crate) fn among<const MARKS: u32>(
-        outside: Both<L, VisitedFolder<MARKS>, MemShelf>,
+    pub(crate) fn among<O: Others>(
+        outside: Both<L, VisitedFolder<O>, MemShelf>,
     ) -> Result<Self, TrialError>
         ensures link { IfOk result (λ devices. devices.link ≡ outside.far.far.session.wire.link) }
-        ensures folder { IfOk result (λ devices. AddsAlone (others_with MARKS) (seen_in outside.near.near.folder.folder) (seen_in devices.folder)) }
+        ensures folder { IfOk result (λ devices. AddsAlone (others_but O.ours) (seen_in outside.near.near.folder.folder) (seen_in devices.folder)) }
         ensures shelf { IfOk result (λ devices. files_of devices.shelf ≡ files_in outside.book) }
     {
         let BothSides { far, folder, shelf } = BothSides::of(outside);

@@ -11,6 +11,7 @@ pub mod devices;
 pub mod failure;
 pub mod folder;
 pub mod memory;
+mod other_marks;
 pub mod read;
 pub mod report;
 pub mod run;

@@ -1,16 +1,20 @@
 //! The program `mbtrial`, over readers and writers.
 
-ghost use Rattle.std.specs.Prelude.{◌≡◌, ◌≤◌, IfOk, IsErr};
+ghost use Rattle.std.specs.Prelude.{◌≡◌, ◌≤◌, All, IfOk, IsErr};
+ghost use Rattle.imap_server.specs.Boxes.{AreServed};
+ghost use Rattle.mailcore.specs.Content.{mark_of};
+ghost use Rattle.visitors.specs.Visitors.{IsForeign};
 ghost use Rattle.imap_client.specs.Seen.{HasMap};
 
 use crate::among::run_among;
 use crate::devices::{Devices, settle_all, together};
 use crate::failure::TrialError;
 use crate::memory::run_in_memory;
+use crate::other_marks::OtherMarks;
 use crate::read::read_trial;
 use crate::report::Ending;
 use crate::server::TrialLink;
-use crate::setting::setting_of;
+use crate::setting::{TrialSetting, setting_of};
 use crate::trial::Trial;
 use crate::visited::{NearSetting, VisitedSetting, visited};
 use link_face::face_link::FaceLink;
@@ -26,6 +30,7 @@ use std::io;
 use std::io::{Read, Write};
 use std::net::Net;
 use std::rc::Rc;
+use visitors::others::{AnyMarks, Others};
 
 /// What a program is asked for by its arguments.
 #[derive(Clone, Copy, PartialEq, Eq)]
@@ -115,47 +120,69 @@ fn reported_of_trial<R: Net + AllocGlobal + Clone + Drop>(
 }
 
 /// What is reported of this trial, in which others add messages.
+#[tactic(auto, using(visitors::proofs::Foreign::any_foreign))]
 fn reported_among(alloc: Global, trial: Trial) -> Result<(String, u8), TrialError>
     ensures { IfOk result (λ reported. reported.1 ≤ 1) }
 {
-    if trial.course.arrivals.bear_no_mark() {
-        let (outside, settled) = run_among::<0>(alloc, trial)?;
+    if trial.course.arrivals.are_of::<OtherMarks>() {
+        let (outside, settled) = run_among::<OtherMarks>(alloc, trial)?;
         reported_of(alloc, Devices::among(outside)?, settled)
     } else {
-        let (outside, settled) = run_among::<1>(alloc, trial)?;
+        let (outside, settled) = run_among::<AnyMarks>(alloc, trial)?;
         reported_of(alloc, Devices::among(outside)?, settled)
     }
 }
 
 /// What is reported of this trial where at most so many bytes are received at once.
+#[tactic(auto, using(visitors::proofs::Foreign::any_foreign))]
 fn reported_in_pieces(alloc: Global, trial: Trial, piece: usize) -> Result<(String, u8), TrialError>
     ensures { IfOk result (λ reported. reported.1 ≤ 1) }
 {
     let tries = trial.course.tries;
-    let VisitedSetting::<1> {
+    let VisitedSetting::<AnyMarks> {
         far,
         arrivals,
         near,
         options,
     } = visited(alloc, setting_of(alloc, trial)?)?;
     let link = MemLink::new(alloc, far.server, far.schedule).in_pieces(piece);
-    let link = VisitedLink::<1>::new(link, arrivals);
+    let link = VisitedLink::<AnyMarks>::new(link, arrivals);
     reported_over(alloc, link, near, &options, tries)
 }
 
 /// What is reported of this trial through a face.
+#[tactic(auto, using(visitors::proofs::Foreign::any_foreign))]
 fn reported_over_face(alloc: Global, trial: Trial) -> Result<(String, u8), TrialError>
     ensures { IfOk result (λ reported. reported.1 ≤ 1) }
 {
     let tries = trial.course.tries;
-    let VisitedSetting::<1> {
+    let setting = setting_of(alloc, trial)?;
+    if setting.arrivals.are_of::<OtherMarks>() {
+        reported_through_face::<OtherMarks>(alloc, setting, tries)
+    } else {
+        reported_through_face::<AnyMarks>(alloc, setting, tries)
+    }
+}
+
+/// What is reported of a run over this setting through a face, while these others add messages.
+fn reported_through_face<O: Others>(
+    alloc: Global,
+    setting: TrialSetting,
+    tries: u32,
+) -> Result<(String, u8), TrialError>
+    requires served { AreServed setting.far.server.server.mailboxes }
+    requires letters { HasMap setting.options.keywords setting.far.server.server }
+    requires foreign { All (λ a. IsForeign O.ours (mark_of a.bytes)) setting.arrivals.far.items }
+    ensures { IfOk result (λ reported. reported.1 ≤ 1) }
+{
+    let VisitedSetting::<O> {
         far,
         arrivals,
         near,
         options,
-    } = visited(alloc, setting_of(alloc, trial)?)?;
+    } = visited(alloc, setting)?;
     let words = Rc::new(alloc, Words::new(alloc))?;
-    let link = VisitedLink::<1>::new(MemLink::new(alloc, far.server, far.schedule), arrivals);
+    let link = VisitedLink::<O>::new(MemLink::new(alloc, far.server, far.schedule), arrivals);
     reported_over(
         alloc,
         FaceLink::new(alloc, link, words),
@@ -174,7 +201,7 @@ fn reported_over_loopback<R: Net + AllocGlobal + Clone + Drop>(
 {
     let alloc = rt.alloc();
     let tries = trial.course.tries;
-    let VisitedSetting {
+    let VisitedSetting::<AnyMarks> {
         far,
         arrivals,
         near,
@@ -185,10 +212,10 @@ fn reported_over_loopback<R: Net + AllocGlobal + Clone + Drop>(
 }
 
 /// What is reported of a run over this link and what stands near, while others add files to the folder.
-fn reported_over<L: TrialLink + Drop>(
+fn reported_over<L: TrialLink + Drop, O: Others>(
     alloc: Global,
     link: L,
-    near: NearSetting<1>,
+    near: NearSetting<O>,
     options: &Options,
     tries: u32,
 ) -> Result<(String, u8), TrialError>

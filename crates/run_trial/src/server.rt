@@ -19,6 +19,7 @@ use mem_link::mem_link::MemLink;
 use mem_link::visited_link::VisitedLink;
 use std::alloc::{AllocError, Global};
 use std::net::Net;
+use visitors::others::Others;
 
 /// The one user, the password, and the mailbox.
 const USER: &[u8] = b"u";
@@ -77,7 +78,7 @@ impl TrialLink for MemLink {
     }
 }
 
-impl<const MARKS: u32> TrialLink for VisitedLink<MARKS> {
+impl<O: Others> TrialLink for VisitedLink<O> {
     fn stops(&self) -> usize {
         self.stops()
     }

@@ -1,8 +1,11 @@
 //! What the run of a trial is made over in which others add messages.
 
-ghost use Rattle.std.specs.Prelude.{◌≡◌, IfOk, map};
+ghost use Rattle.std.specs.Prelude.{◌≡◌, All, IfOk, map};
 ghost use Rattle.imap_server.specs.Boxes.{AreServed};
+ghost use Rattle.mailcore.specs.Content.{mark_of};
 ghost use Rattle.maildir.specs.MemFolders.{stored_in};
+ghost use Rattle.mem_link.specs.Others.{AreForeign};
+ghost use Rattle.visitors.specs.Visitors.{IsForeign};
 ghost use Rattle.book.specs.MemShelves.{files_of};
 ghost use Rattle.run_trial.specs.Among.{AreKept, arrival_of};
 
@@ -20,31 +23,32 @@ use mem_link::command::Nth;
 use rules::options::Options;
 use rules::state::SyncState;
 use std::alloc::{AllocError, Global};
+use visitors::others::Others;
 
 /// What the run of a trial is made over in which others add messages, before there is a link to the server.
 #[derive(Drop)]
-pub(crate) struct VisitedSetting<const MARKS: u32> {
+pub(crate) struct VisitedSetting<O: Others> {
     pub(crate) far: FarSetting,
     /// What others add to the far mailbox.
     pub(crate) arrivals: Arrivals,
-    pub(crate) near: NearSetting<MARKS>,
+    pub(crate) near: NearSetting<O>,
     /// What the run may do, and its map of keywords, which is the server's.
     pub(crate) options: Options,
 }
 
 /// The folder, the shelf, and the state that the shelf holds.
 #[derive(Drop)]
-pub(crate) struct NearSetting<const MARKS: u32> {
-    pub(crate) folder: VisitedFolder<MARKS>,
+pub(crate) struct NearSetting<O: Others> {
+    pub(crate) folder: VisitedFolder<O>,
     pub(crate) shelf: MemShelf,
     pub(crate) state: SyncState,
 }
 
 /// The setting, with what others add.
-pub(crate) fn visited<const MARKS: u32>(
+pub(crate) fn visited<O: Others>(
     alloc: Global,
     setting: TrialSetting,
-) -> Result<VisitedSetting<MARKS>, AllocError>
+) -> Result<VisitedSetting<O>, AllocError>
     requires { AreServed setting.far.server.server.mailboxes }
     ensures served { IfOk result (λ v. AreServed v.far.server.server.mailboxes) }
     ensures letters { IfOk result (λ v. v.far.server.server.keywords ≡ setting.far.server.server.keywords) }
@@ -53,6 +57,8 @@ pub(crate) fn visited<const MARKS: u32>(
     ensures arrivals { IfOk result (λ v. v.arrivals.list.items ≡ map arrival_of setting.arrivals.far.items) }
     ensures near { IfOk result (λ v. (stored_in v.near.folder.folder ≡ stored_in setting.folder) × (v.near.folder.arrivals ≡ setting.arrivals.near)) }
     ensures kept { IfOk result (λ v. AreKept setting v.near.shelf v.near.state) }
+    ensures foreign { All (λ a. IsForeign O.ours (mark_of a.bytes)) setting.arrivals.far.items
+        → IfOk result (λ v. AreForeign O.ours v.arrivals.list.items) }
 {
     let TrialSetting {
         far,
@@ -76,11 +82,11 @@ pub(crate) fn visited<const MARKS: u32>(
 }
 
 /// The folder to which others add these files.
-fn folder_among<const MARKS: u32>(
+fn folder_among<O: Others>(
     alloc: Global,
     folder: MemFolder,
     arrivals: Vec<NearArrival>,
-) -> VisitedFolder<MARKS>
+) -> VisitedFolder<O>
     ensures folder { stored_in result.folder ≡ stored_in folder }
     ensures arrivals { result.arrivals ≡ arrivals }
 {

@@ -9,6 +9,7 @@ use std::alloc::{AllocError, Global};
 use std::fs;
 use test_scripts::failure::Failure;
 use test_scripts::reported::Reported;
+use visitors::others::NoMarks;
 
 /// A file that stands in a folder.
 #[derive(Drop)]
@@ -60,7 +61,7 @@ impl OpenFolder for MemFolder {
     }
 }
 
-impl OpenFolder for VisitedFolder<0> {
+impl OpenFolder for VisitedFolder<NoMarks> {
     fn stop_count(&self) -> usize {
         self.folder().stops()
     }

@@ -12,12 +12,13 @@ use test_scripts::failure::Failure;
 use test_scripts::reported::Reported;
 use test_scripts::script::Script;
 use test_scripts::words::Words;
+use visitors::others::NoMarks;
 
 /// An empty folder, which is made when it is first called, and the files that come to it.
 #[derive(Drop)]
 pub struct Visited {
     arrivals: Vec<ArrivingFile>,
-    seat: Seat<VisitedFolder<0>>,
+    seat: Seat<VisitedFolder<NoMarks>>,
 }
 
 impl Visited {
@@ -84,6 +85,6 @@ impl Visited {
 }
 
 /// An empty folder to which these files come.
-fn folder_with(alloc: Global, arrivals: Vec<ArrivingFile>) -> VisitedFolder<0> {
+fn folder_with(alloc: Global, arrivals: Vec<ArrivingFile>) -> VisitedFolder<NoMarks> {
     VisitedFolder::new(alloc, MemFolder::new(alloc, Vec::new(alloc)), arrivals)
 }

@@ -1,1 +1,1 @@
-pub mod Bearing
+pub mod Foreign

@@ -1,5 +1,5 @@
 -- Who else adds messages to a mailbox while it is read and changed: other programs, and people.
-use Rattle.std.specs.Prelude.{◌≡◌, ◌<◌, ◌==◌, ℕ, Bool, false, List, All, Option, None, Some}
+use Rattle.std.specs.Prelude.{◌≡◌, ◌<◌, ℕ, Bool, true, false, not, List, All, Option, None, Some}
 
 -- The marks that are those of a run, and whether nobody else adds any message. Others never write a mark of the run.
 pub record Visitors : Type 0 where
@@ -11,10 +11,15 @@ abbrev pub IsForeign : (ours : List ℕ → Bool) → Option (List ℕ) → Type
 IsForeign ours None = Unit {0}
 IsForeign ours (Some mark) = ours mark ≡ false
 
+-- the same as a test
+abbrev pub is_foreign : (ours : List ℕ → Bool) → Option (List ℕ) → Bool
+is_foreign ours None = true
+is_foreign ours (Some mark) = not (ours mark)
+
 -- what any message that they add consists of
 abbrev pub AreOctets : (bytes : List ℕ) → Type 0
 AreOctets bytes = All (λ b. b < 256) bytes
 
--- Others whose messages bear so many marks: where it is 0 each mark is the run's, else none is.
-abbrev pub others_with : (marks : ℕ) → Visitors
-others_with marks = record { ours = λ mark. marks == 0; alone = false }
+-- others, whose messages bear none of the marks that are the run's
+abbrev pub others_but : (ours : List ℕ → Bool) → Visitors
+others_but ours = record { ours = ours; alone = false }

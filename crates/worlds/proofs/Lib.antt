@@ -3,3 +3,4 @@ pub mod KeywordLines
 pub mod NamedLemmas
 pub mod TextLemmas
 pub mod WordLemmas
+pub mod CountedMarks

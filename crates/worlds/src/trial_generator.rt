@@ -1,8 +1,9 @@
 //! The generator of trials, whose words are known before they are drawn.
 
-ghost use Rattle.std.specs.Prelude.{◌≡◌};
-ghost use Rattle.worlds.specs.Trial.{trial_step};
+ghost use Rattle.std.specs.Prelude.{◌≡◌, ◌<◌};
+ghost use Rattle.worlds.specs.Trial.{MarksAreCounted, is_counted, number_of, trial_step};
 
+use mailcore::tuid::Tuid;
 use rand_core::utils::NextWord;
 use rand_core::{Rng, utils};
 use std::marker::Model;
@@ -57,3 +58,32 @@ impl Rng for TrialGenerator {
         utils::fill_bytes_via_u64(self, dst)
     }
 }
+
+/// Whether the generator of trials may give this mark. It gives few of those that it may.
+pub fn may_give(mark: Tuid) -> bool
+    ensures { result ≡ is_counted mark }
+{
+    let text = mark.text();
+    let first = 4 * number_of(text[0]) + number_of(text[1]) / 16;
+    number_of(text[11]) == (first + 1) % 64
+}
+
+/// The number for which a character of base64url stands.
+fn number_of(character: u8) -> u32
+    ensures is { result ≡ number_of character }
+    ensures below { result < 256 }
+{
+    let code = u32::from(character);
+    match character {
+        b'A'..=b'Z' => code - 65,
+        b'a'..=b'z' => code - 71,
+        b'0'..=b'9' => code + 4,
+        b'-' => 62,
+        _ => 63,
+    }
+}
+
+/// Each mark that the generator of trials gives is one that it may give.
+pub fn marks_are_counted()
+    ensures { MarksAreCounted }
+{}

@@ -8,32 +8,31 @@ use Rattle.book.specs.MemShelves.{files_of}
 use Rattle.outside.specs.Calls.{Seen}
 use Rattle.run_pair.specs.Pairs.{seen_of}
 use Rattle.law_alike.specs.Beginnings.{Begins, opening_of}
-use Rattle.imap_link.specs.Sending.{anybody}
 use Rattle.run_states.specs.Conditions.{Underway}
 use Rattle.runner.specs.Attempts.{MetStops}
 use Rattle.runner.specs.Faults.{LeavesRun}
-use Rattle.run_trial.proofs.AmongLemmas.{are_ours, left_among, others_among, over_among}
+use Rattle.run_trial.proofs.AmongLemmas.{are_both, left_among, others_among, over_among}
 use Rattle.run_trial.proofs.MemoryLemmas.{over_device, parts_seen, stops_met}
 use Rattle.run_trial.proofs.among.run_visited.Goals as goal
 
 pub returns-clause-over : goal.returns-clause-over
-returns-clause-over g c = λ none start named begins.
+returns-clause-over g c = λ are start named begins.
     let same = parts_seen c.args.setting.options.keywords _ c.args.setting.far.server.server (stored_in c.args.setting.near.folder.folder) (files_of c.args.setting.near.shelf) _ (ap (λ (l : MemLink). (line_of l).end.server) c.new-link.ensures.link ∙ c.new.ensures.server) c.in_ok-outside.ensures.seen in
-    over_among g.row.MARKS none start c.args.setting.options (seen_of c.settle_all.result.0).device c.settle_all.result.1
-    (c.settle_all.ensures.over start named (tt, refl, refl) (are_ours g.row.MARKS none) (subst (λ (s : Seen). Begins start s.device) (sym same) begins))
+    over_among g.O.Others.ours start c.args.setting.options (seen_of c.settle_all.result.0).device c.settle_all.result.1
+    (c.settle_all.ensures.over start named (tt, refl, refl) (are_both g.O.Others.ours are) (subst (λ (s : Seen). Begins start s.device) (sym same) begins))
 
 pub returns-clause-others : goal.returns-clause-others
-returns-clause-others g c = λ none start named begins.
+returns-clause-others g c = λ are start named begins.
     let same = parts_seen c.args.setting.options.keywords _ c.args.setting.far.server.server (stored_in c.args.setting.near.folder.folder) (files_of c.args.setting.near.shelf) _ (ap (λ (l : MemLink). (line_of l).end.server) c.new-link.ensures.link ∙ c.new.ensures.server) c.in_ok-outside.ensures.seen in
-    others_among g.row.MARKS none start c.args.setting.options (seen_of c.settle_all.result.0).device c.settle_all.result.1
-    (c.settle_all.ensures.others start named (tt, refl, refl) (are_ours g.row.MARKS none) (subst (λ (s : Seen). Begins start s.device) (sym same) begins))
+    others_among g.O.Others.ours start c.args.setting.options (seen_of c.settle_all.result.0).device c.settle_all.result.1
+    (c.settle_all.ensures.others start named (tt, refl, refl) (are_both g.O.Others.ours are) (subst (λ (s : Seen). Begins start s.device) (sym same) begins))
 
 pub returns-clause-left : goal.returns-clause-left
-returns-clause-left g c = λ none start named begins.
+returns-clause-left g c = λ are start named begins.
     let same = parts_seen c.args.setting.options.keywords _ c.args.setting.far.server.server (stored_in c.args.setting.near.folder.folder) (files_of c.args.setting.near.shelf) _ (ap (λ (l : MemLink). (line_of l).end.server) c.new-link.ensures.link ∙ c.new.ensures.server) c.in_ok-outside.ensures.seen in
-    subst (λ (s : Seen). IfErr c.settle_all.result.1 (λ fault. LeavesRun (Underway (opening_of anybody.ours anybody.alone start c.args.setting.options)) fault s (seen_of c.settle_all.result.0))) same
-    (left_among g.row.MARKS none start c.args.setting.options (seen_of c.in_ok-outside.outside) (seen_of c.settle_all.result.0) c.settle_all.result.1
-    (c.settle_all.ensures.left start named (tt, refl, refl) (are_ours g.row.MARKS none) (subst (λ (s : Seen). Begins start s.device) (sym same) begins)))
+    subst (λ (s : Seen). IfErr c.settle_all.result.1 (λ fault. LeavesRun (Underway (opening_of g.O.Others.ours false start c.args.setting.options)) fault s (seen_of c.settle_all.result.0))) same
+    (left_among g.O.Others.ours start c.args.setting.options (seen_of c.in_ok-outside.outside) (seen_of c.settle_all.result.0) c.settle_all.result.1
+    (c.settle_all.ensures.left start named (tt, refl, refl) (are_both g.O.Others.ours are) (subst (λ (s : Seen). Begins start s.device) (sym same) begins)))
 
 pub returns-clause-greatest : goal.returns-clause-greatest
 returns-clause-greatest g c =
