@@ -8,21 +8,24 @@ use Rattle.std.proofs.Transfers.{drop-appended}
 use Rattle.imap_replies.specs.declared.reply.Reply.{Reply}
 use Rattle.imap_session.specs.Heard.{AreReplies}
 use Rattle.reply_buf.specs.Buffers.{Buffer, held_in, reads}
-use Rattle.reply_buf.specs.Fronts.{Spells, NoneWhole, IsWhole}
+use Rattle.reply_buf.specs.Fronts.{Spells, NoneWhole, IsWhole, BeginsAtPlaces}
+use Rattle.reply_buf.proofs.Begun.{begins_empty}
+use Rattle.reply_buf.proofs.Fitting.{fits_at_places}
 use Rattle.reply_buf.proofs.Searched.{none_empty}
 use Rattle.imap_link.specs.declared.uses.Uses.{Uses}
 use Rattle.imap_link.specs.UsedReplies.{is_used}
 use Rattle.imap_link.specs.Buffers.{WholeRead, OneMore, Following, AreRead, IsBounded}
 
 pub more_may : (a b : ℕ) (bytes : List ℕ) → a ≤ b → OneMore a bytes → OneMore b bytes
-more_may a b bytes le o = record { begun = o.begun; piece = o.piece; parts = o.parts; none = o.none; short = (let s = o.short in omega (arith, s, le)) }
+more_may a b bytes le o = record { begun = o.begun; piece = o.piece; parts = o.parts; none = o.none; begins = o.begins; fits = o.fits; short = (let s = o.short in omega (arith, s, le)) }
 
 pub first_more : (most : ℕ) (bytes : List ℕ) → length bytes ≤ most → OneMore most bytes
-first_more most bytes le = record { begun = []; piece = bytes; parts = refl; none = none_empty; short = le }
+first_more most bytes le = record { begun = []; piece = bytes; parts = refl; none = none_empty; begins = begins_empty; fits = omega arith; short = le }
 
--- a piece came where none was whole
-pub late_more : (most : ℕ) (bytes now piece : List ℕ) → now ≡ bytes ++ piece → length piece ≤ 4096 → NoneWhole bytes → OneMore (max 4096 most) now
-late_more most bytes now piece e short none = record { begun = bytes; piece = piece; parts = e; none = none; short = omega (arith, short) }
+-- a piece came where a look found no whole reply
+pub late_more : (most : ℕ) (bytes now piece : List ℕ) → now ≡ bytes ++ piece → length piece ≤ 4096 → NoneWhole bytes → BeginsAtPlaces bytes → OneMore (max 4096 most) now
+late_more most bytes now piece e short none begins =
+    record { begun = bytes; piece = piece; parts = e; none = none; begins = begins; fits = fits_at_places bytes begins; short = omega (arith, short) }
 
 -- what is held stays the same where a reply is read
 pub held_reads : (len : ℕ) (b new : Buffer) → new ≡ reads len b → held_in new ≡ held_in b

@@ -5,7 +5,8 @@ use Rattle.imap_replies.specs.declared.reply.Reply.{Reply}
 use Rattle.imap_session.specs.Heard.{AreUntagged, AreReplies}
 use Rattle.imap_session.specs.Lines.{Stays}
 use Rattle.imap_session.specs.Ends.{Ends}
-use Rattle.reply_buf.specs.Fronts.{Spells, NoneWhole}
+use Rattle.wire_reader.specs.Lexical.{outside}
+use Rattle.reply_buf.specs.Fronts.{Spells, NoneWhole, BeginsAtPlaces}
 use Rattle.reply_buf.specs.Buffers.{Buffer, held_in}
 use Rattle.imap_link.specs.declared.kind.ReplyKind.{ReplyKind}
 use Rattle.imap_link.specs.declared.kind.ReplyKind.TheVariants.{Go, Mine, Bye}
@@ -105,12 +106,14 @@ pub record Came (uses : Uses) (T : List Reply → Type 0) (P : Reply → Type 0)
 -- ---- how much is kept
 
 -- At most one reply, begun or whole, with what came in one piece with its end: before that piece, of at most so many bytes,
--- none was whole.
+-- none was whole, and at each place one was begun. So a line without an end is kept up to 65536 bytes outside its literals.
 pub record OneMore (most : ℕ) (bytes : List ℕ) : Type 0 where
   pub begun : List ℕ
   pub piece : List ℕ
   pub parts : bytes ≡ begun ++ piece
   pub none : NoneWhole begun
+  pub begins : BeginsAtPlaces begun
+  pub fits : outside begun ≤ 65536
   pub short : length piece ≤ most
 
 -- such bytes follow these

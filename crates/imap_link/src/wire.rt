@@ -79,6 +79,7 @@ impl<L: Link> Wire<L> {
         Ok(())
     }
 
+    #[tactic(auto, using(crate::proofs::Late::late_more))]
     /// Waits until a whole reply was read; returns its length.
     fn whole(&mut self) -> Result<usize, FarFault>
         ensures was_honest { L.honest self.new.link → L.honest self.old.link }

@@ -1,5 +1,6 @@
 pub mod Places
 pub mod Begun
+pub mod Fitting
 pub mod Searched
 pub mod Faulty
 pub mod Looked

@@ -52,3 +52,10 @@ Looks bytes (Ok (Whole _ len)) = IsWhole bytes len
 Looks bytes (Ok (WantsLiteral n)) = ⊥
 Looks bytes (Ok Partial) = NoneWhole bytes
 Looks bytes (Err fault) = IsBreach fault bytes
+
+-- where it waits for more, a reply was begun at each place
+abbrev pub Begun : List ℕ → Result (Read (Unit {0})) WireFault → Type 0
+Begun bytes (Ok (Whole _ len)) = Unit {0}
+Begun bytes (Ok (WantsLiteral n)) = ⊥
+Begun bytes (Ok Partial) = BeginsAtPlaces bytes
+Begun bytes (Err fault) = Unit {0}

@@ -7,7 +7,7 @@ ghost use Rattle.wire_reader.specs.Answers.{Answers, TakesEach, WaitsForMore};
 ghost use Rattle.wire_reader.specs.declared.side.Speaker.TheVariants.{Replies};
 ghost use Rattle.wire_reader.specs.declared.answer.Read.TheVariants.{Partial};
 ghost use Rattle.reply_buf.specs.Buffers.{empty, held_in, drops_last, reads, Moves};
-ghost use Rattle.reply_buf.specs.Fronts.{BeginsAtPlaces, IsWhole, Looks, Spells};
+ghost use Rattle.reply_buf.specs.Fronts.{Begun, IsWhole, Looks, Spells};
 
 use crate::moving::{keep, move_down};
 use crate::search::Search;
@@ -103,7 +103,7 @@ impl ReplyBuf {
     /// once. After a fault the same fault is reported again, and after `NoMemory` it can be tried again.
     pub fn step(&mut self) -> Result<Read<()>, WireFault>
         ensures looks { Looks self.old.unread result }
-        ensures begun { result ≡ Ok Partial → BeginsAtPlaces self.old.unread }
+        ensures begun { Begun self.old.unread result }
         ensures moves { Moves result self.old self.new }
     {
         let answer = self.found()?;
@@ -140,7 +140,7 @@ impl ReplyBuf {
     /// What `step` returns, without reading: a look at the front of the bytes that were not read.
     fn found(&mut self) -> Result<Read<()>, WireFault>
         ensures looks { Looks self.old.unread result }
-        ensures begun { result ≡ Ok Partial → BeginsAtPlaces self.old.unread }
+        ensures begun { Begun self.old.unread result }
         ensures same { self.new ≡ self.old }
     {
         let mut search = self.search;

@@ -2,7 +2,7 @@
 
 ghost use Rattle.std.specs.Prelude.{◌≡◌, ℕ, List, Ok};
 ghost use Rattle.wire_reader.specs.declared.answer.Read.TheVariants.{Partial};
-ghost use Rattle.reply_buf.specs.Fronts.{BeginsAtPlaces, BeginsReply, Looks};
+ghost use Rattle.reply_buf.specs.Fronts.{Begun, BeginsReply, Looks};
 ghost use Rattle.reply_buf.specs.Searches.{IsSearched, Finds};
 
 use imap_replies::reading::read_reply;
@@ -53,7 +53,7 @@ impl Search {
     pub(crate) fn look(&mut self, alloc: Global, bytes: &[u8]) -> Result<Read<()>, WireFault>
         requires { IsSearched self.old bytes.now }
         ensures looks { Looks bytes.now result }
-        ensures begun { result ≡ Ok Partial → BeginsAtPlaces bytes.now }
+        ensures begun { Begun bytes.now result }
         ensures searched { result ≡ Ok Partial → IsSearched self.new bytes.now }
     {
         for _ in 0..bytes.len() {

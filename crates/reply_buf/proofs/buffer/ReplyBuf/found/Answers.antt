@@ -1,7 +1,6 @@
 use Rattle.std.proofs.Common.{◌≡◌, ◌∙◌, ℕ, List, Ok, ap, refl, subst}
-use Rattle.wire_reader.specs.declared.answer.Read.TheVariants.{Partial}
 use Rattle.reply_buf.specs.Buffers.{Buffer}
-use Rattle.reply_buf.specs.Fronts.{Looks}
+use Rattle.reply_buf.specs.Fronts.{Begun, Looks}
 use Rattle.reply_buf.proofs.Exits.{slice_is}
 use Rattle.reply_buf.proofs.buffer.ReplyBuf.found.Goals as goal
 
@@ -11,6 +10,6 @@ returns-in_default c =
     let same = slice_is c.deref.result.now b.bytes.items b.next c.deref.ensures.value ∙ ap (λ (v : Buffer). v.unread) c.self.view_is in
     record {
       looks = subst (λ (l : List ℕ). Looks l (Ok c.in_ok-answer.answer)) same c.in_ok-answer.ensures.looks;
-      begun = λ e. absurd (c.in_default.not-Partial (let here : c.in_ok-answer.answer ≡ Partial = cc in here));
+      begun = subst (λ (l : List ℕ). Begun l (Ok c.in_ok-answer.answer)) same c.in_ok-answer.ensures.begun;
       same = refl;
     }
