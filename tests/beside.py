@@ -23,6 +23,7 @@ import time
 
 sys.path.insert(0, str(pathlib.Path(__file__).resolve().parents[1]))
 from tests.support.edge_scene import Edge
+from tests.support.explained import FINISHED
 from tests.support.maildir_side import NAME
 from tests.support.places import MBSYNC, TOP, must_run, parser_of
 from tests.support.scene import Scene, near_text
@@ -149,7 +150,7 @@ class Folder:
 def wrong_lines(told):
     """What a run prints and must not."""
     wrong = [line for line in told[1:] if line.split(" ", 1)[0] in ("gone", "expunge", "drop", "void", "new", "found", "unfit")]
-    wrong += [line for line in told[1:] if line.startswith("mbsync: ") and not line.endswith(": stopped")]
+    wrong += [line for line in told[1:] if line.startswith("mbsync: ") and line != FINISHED and not line.endswith(": stopped")]
     is_busy = told[0] == 1 and any(text in told[-1] for text in BUSY)
     return wrong + ([] if told[0] == 0 or is_busy else [f"status {told[0]}: {told[-2:]}"])
 
@@ -159,7 +160,7 @@ def unlike(folder):
     then is the work of one more."""
     flagged = {uid for uid, flags in folder.far().items() if "F" in flags}
     told = folder.scene.run("None")
-    if told[-1] == "finished":
+    if told[-1] == FINISHED:
         told = folder.scene.run("None")
     wrong = wrong_lines(told) + folder.wrong() + ([] if told[0] == 0 else [f"the further run: {told[-2:]}"])
     near, far = folder.near()[0], folder.far()

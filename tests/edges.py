@@ -17,6 +17,7 @@ sys.path.insert(0, str(pathlib.Path(__file__).resolve().parents[1]))
 from oracle.mail import escaped
 from tests.scenes import server_edges, session_edges
 from tests.support.edge_scene import EARLIER, FOUR, PAGE, QUICK, THREE, Edge, can_mount, disk, far, near, nobody_can_run, stopped
+from tests.support.explained import FINISHED
 from tests.support.places import MBSYNC, must_run, parser_of
 from tests.support.scene import ONE, TWO, Scene, near_text
 from tests.support.scripted_server import LISTING, Box
@@ -168,8 +169,8 @@ def flags_for_a_thing(tally):
 
 def in_the_way(tally):
     """A folder under the name of a file that is being written."""
-    for name, lines in (("tmp/mbsync.copy", ["new pull 1 -> 1", "finished"]), (".uidvalidity.new", ["new pull 1 -> 1", "ran"]),
-                        (".mbsyncstate.new", ["finished"])):
+    for name, lines in (("tmp/mbsync.copy", ["new pull 1 -> 1", "finished", FINISHED]), (".uidvalidity.new", ["new pull 1 -> 1", "ran"]),
+                        (".mbsyncstate.new", ["finished", FINISHED])):
         with Edge(ONE) as scene:
             scene.near()
             path = scene.path("inbox/" + name)
@@ -319,7 +320,7 @@ def no_permission(tally):
     for part, mode, named, lines in (
         ("inbox", 0, None, ["new pull 3 -> 3", "ran"]), ("inbox/cur", 0, "inbox", ["new pull 3 -> 3", "ran"]),
         ("inbox/.mbsyncstate", 0, "inbox/.mbsyncstate", ["new pull 3 -> 3", "ran"]),
-        ("inbox/tmp", 0o500, "inbox/tmp/mbsync.copy", ["new pull 3 -> 3", "finished"]),
+        ("inbox/tmp", 0o500, "inbox/tmp/mbsync.copy", ["new pull 3 -> 3", "finished", FINISHED]),
     ):
         with Edge(ONE, TWO) as scene:
             scene.run("c")
@@ -389,7 +390,7 @@ def full_disk(tally):
             tally.same(f"a disk of {pages} pages is full", got, stopped(f"{scene.path('inbox/' + place)}: {FULL}"))
             resize(scene.path("inbox"), 1000)
             again = scene.run("c")
-            tally.same("with more room the run goes on", [again[0], again[-1] in ("ran", "finished"), scene.sides()],
+            tally.same("with more room the run goes on", [again[0], again[-1] in ("ran", FINISHED), scene.sides()],
                        [0, True, [near(*messages), far(*messages)]])
             tally.same("then nothing to do", scene.run("c"), [0, "c:INBOX", "ran"])
     return None
@@ -413,7 +414,7 @@ def read_only_disk(tally):
             told = stopped(f"{scene.path('inbox/tmp/mbsync.copy')}: {READ_ONLY}")
             tally.same("tmp that can be read only is told", scene.run("c"), told)
         tally.same("the server has its message", scene.sides(), [{}, far(ONE)])
-        tally.same("then the run goes on", scene.run("c"), [0, "c:INBOX", "new pull 1 -> 1", "finished"])
+        tally.same("then the run goes on", scene.run("c"), [0, "c:INBOX", "new pull 1 -> 1", "finished", FINISHED])
         tally.same("the message is there once", scene.sides(), [near(ONE), far(ONE)])
     return None
 

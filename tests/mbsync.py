@@ -15,6 +15,7 @@ import time
 
 sys.path.insert(0, str(pathlib.Path(__file__).resolve().parents[1]))
 from tests.support import trial_imapd
+from tests.support.explained import FINISHED, UNFIT_NEAR
 from tests.support.places import TOP, parser_of
 from tests.support.scene import ONE, TWO, Scene, configuration, mode_of, near_text
 from tests.support.tally import Tally
@@ -155,7 +156,7 @@ def the_lock(tally):
         count = len(scene.near_messages())
         tally.same("the first one was killed", [first.returncode, count < 200], [-9, True])
         got = scene.run("c")
-        tally.same("the next run finishes", [got[0], got[1], got[-1]], [0, "c:INBOX", "finished"])
+        tally.same("the next run finishes", [got[0], got[1], *got[-2:]], [0, "c:INBOX", "finished", FINISHED])
         tally.same("all messages are there once", len(scene.near_messages()), 200)
         with open(scene.path("inbox/.mbsyncstate.lock"), "rb") as file:
             fcntl.flock(file, fcntl.LOCK_EX)
@@ -241,7 +242,7 @@ def states_of_others(tally):
 def messages_that_do_not_fit(tally):
     with Scene(ONE) as scene:
         scene.near().add("1.nul", b"Subject: nul\n\na\0b\n", frozenset())
-        tally.same("a NUL is not sent", scene.run("c"), [0, "c:INBOX", "new pull 1 -> 2", "unfit near 1", "ran"])
+        tally.same("a NUL is not sent", scene.run("c"), [0, "c:INBOX", "new pull 1 -> 2", "unfit near 1", "ran", UNFIT_NEAR])
         tally.same("and is skipped from then on", scene.run("c"), [0, "c:INBOX", "ran"])
 
 

@@ -12,6 +12,7 @@ import tempfile
 
 sys.path.insert(0, str(pathlib.Path(__file__).resolve().parents[1]))
 from tests.support.configuration import configured
+from tests.support.explained import FINISHED, VOID
 from tests.support.imap_side import ImapSide
 from tests.support.maildir_side import MaildirSide
 from tests.support.tally import Tally
@@ -68,7 +69,8 @@ class Place:
     def works(self, name, *lines):
         """A run that comes to its end with these lines. One with a void step has status 1."""
         told, status = self.run(), int(any(line.startswith("void ") for line in lines))
-        TALLY.check(name, told == (status, "".join(line + "\n" for line in ("box:INBOX", *lines)), ""), told)
+        first = VOID if status else FINISHED if "finished" in lines else ""
+        TALLY.check(name, told == (status, "".join(line + "\n" for line in ("box:INBOX", *lines)), first), told)
 
     def path(self, name):
         return os.path.join(self.near.path, name)

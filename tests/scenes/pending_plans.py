@@ -3,6 +3,7 @@ import os
 import signal
 
 from tests.support.edge_scene import far, near
+from tests.support.explained import FINISHED
 from tests.support.scene import ONE, TWO, near_text
 from tests.support.scripted_server import Box
 from tests.support.stale_scene import GIVEN_UP, Stale, all_far, all_near, given_up, names, numbered, says, told_of
@@ -115,7 +116,7 @@ def undeleted_far_alone(tally):
             tally.same("a run is cut before the expunge", scene.far_messages()[2][0], "T")
             scene.mark_far(2, "")
             tally.same("undeleted at the server, its file removed: the run ends, and UID EXPUNGE spares it", scene.run("c"),
-                       [0, "c:INBOX", "expunge far 2", "finished"])
+                       [0, "c:INBOX", "expunge far 2", "finished", FINISHED])
             tally.same(f"Expunge {expunge}: it is kept at the server alone", scene.sides(), [near(ONE), far(ONE, TWO)])
             for _ in range(2):
                 tally.same("then there is nothing to do", scene.run("c"), CLEAN)

@@ -6,6 +6,7 @@ import subprocess
 import time
 
 from tests.support.edge_scene import EARLIER, FOUR, THREE, Edge, far, near, stopped
+from tests.support.explained import FINISHED
 from tests.support.measured import peak_so_far
 from tests.support.scene import ONE, TWO, near_text
 from tests.support.scripted_server import BODY, HEAD, LISTING, body_told
@@ -54,7 +55,7 @@ def broken_off(tally):
             tally.same("three attempts were made", scene.server.counts[b"SELECT"], 3)
             tally.same("what was done is kept", scene.sides(), [near(ONE), far(ONE, TWO)])
             scene.server.script = None
-            tally.same("the next run goes on", scene.run("c"), [0, "c:INBOX", "new pull 2 -> 2", "finished"])
+            tally.same("the next run goes on", scene.run("c"), [0, "c:INBOX", "new pull 2 -> 2", "finished", FINISHED])
             tally.same("each message is there once", scene.sides(), [near(ONE, TWO), far(ONE, TWO)])
 
 
@@ -63,7 +64,7 @@ def broken_off_once(tally):
     with Edge(ONE, TWO) as scene:
         ended = []
         scene.server.script = lambda talk, command: command.asks(BODY, 2) and not ended and (ended.append(1), talk.hang_up())
-        tally.same("a connection that ends once", scene.run("c"), [0, "c:INBOX", "new pull 2 -> 2", "finished"])
+        tally.same("a connection that ends once", scene.run("c"), [0, "c:INBOX", "new pull 2 -> 2", "finished", FINISHED])
         tally.same("each message is there once", scene.sides(), [near(ONE, TWO), far(ONE, TWO)])
 
 
@@ -184,7 +185,7 @@ def earlier_midway(tally):
             tally.same("an earlier server is told in the midst of a plan", scene.run(*words), stopped(EARLIER % (3, 3)))
             tally.same("nothing is done or sent", [scene.own(), scene.sides(), scene.server.counts[b"APPEND"]], before)
         scene.server.boxes["INBOX"] = box
-        tally.same("put right, it is taken, and the run goes on", scene.run("c"), [0, "c:INBOX", "new push 4 -> 4", "finished"])
+        tally.same("put right, it is taken, and the run goes on", scene.run("c"), [0, "c:INBOX", "new push 4 -> 4", "finished", FINISHED])
         tally.same("each message is there once", scene.sides(), [near(ONE, TWO, THREE, FOUR), far(ONE, TWO, THREE, FOUR)])
     with Edge(ONE) as scene:
         scene.run("c")
@@ -199,7 +200,7 @@ def earlier_midway(tally):
             tally.same("a server from before a copy of the plan is told", scene.run(*words), stopped(EARLIER % (2, 2)))
             tally.same("nothing is done", [scene.own(), scene.sides()], before)
         scene.server.boxes["INBOX"] = box
-        tally.same("put right, the rest is pushed", scene.run("c"), [0, "c:INBOX", "new push 3 -> 3", "finished"])
+        tally.same("put right, the rest is pushed", scene.run("c"), [0, "c:INBOX", "new push 3 -> 3", "finished", FINISHED])
         tally.same("each message is there once", scene.sides(), [near(ONE, TWO, THREE), far(ONE, TWO, THREE)])
 
 

@@ -7,6 +7,7 @@ from collections import Counter
 from tests.support.configuration import imap_store
 from tests.support.converted import convert
 from tests.support.edge_scene import THREE, Edge, far, near
+from tests.support.explained import FINISHED
 from tests.support.scene import HOME_STORE, ONE, TWO, near_text
 from tests.support.scripted_server import BODY, Box, body_told
 from tests.support.stale_scene import Stale, numbered, says, told_of
@@ -69,7 +70,7 @@ def refused_flag(tally):
             tally.check("a flag that is refused for good shuts the mailbox, and says so", "mbsync: c:INBOX: refused step 1" in told, told)
         tally.same("the line for the journal is printed", follow_journal_line(scene, told), "d 1")
         told = scene.run("c")
-        tally.check("with this line the run goes on", told[0] == 0 and told[-1] == "finished", told)
+        tally.check("with this line the run goes on", told[0] == 0 and told[-1] == FINISHED, told)
         tally.same("the other flag is carried over", scene.far_messages(), {1: ("", ONE), 2: ("F", TWO)})
         told = [scene.run("c") for _ in range(2)]
         tally.same("later runs are not shut", [told[-1], twice(scene)], [CLEAN, []])

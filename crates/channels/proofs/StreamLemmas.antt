@@ -1,5 +1,5 @@
 -- Streams that are written to several times.
-use Rattle.std.proofs.Common.{◌≡◌, ℕ, zero, suc, ◌≤◌, List, [], ◌∷◌, length, take, Option, None, Some, Result, Ok, Err, IfOk, refl, ap, sym, ◌∙◌, ◌++◌, append_assoc, append-nil, subst, arith}
+use Rattle.std.proofs.Common.{◌≡◌, ℕ, zero, suc, ◌≤◌, List, [], ◌∷◌, length, take, Option, None, Some, Result, Ok, Err, IfOk, refl, ap, map, flat_map, sym, ◌∙◌, ◌++◌, append_assoc, append-nil, subst, arith}
 use Rattle.std.proofs.lemmas.Grind.{flat_map-append}
 use Rattle.std.proofs.lemmas.List.{length-take, take_all}
 use Rattle.std.specs.Io.KnownBytes.{Appends}
@@ -7,7 +7,9 @@ use Rattle.channels.specs.declared.notice.Notice.{Notice}
 use Rattle.channels.specs.declared.verdict.Verdict.{Verdict}
 use Rattle.channels.specs.declared.verdict.Verdict.TheVariants.{Clean, Faulty, Over}
 use Rattle.channels.specs.Lines.{notice_line}
-use Rattle.channels.specs.Streams.{Extends, HasNotices, IsQuiet}
+use Rattle.channels.specs.declared.explanation.Explanation.{Explanation}
+use Rattle.channels.specs.Explanations.{explanation_line}
+use Rattle.channels.specs.Streams.{Extends, HasNotices, IsQuiet, Explained, Noticed, remark_line}
 use Rattle.channels.specs.Verdicts.{both}
 
 front : {X : Type 0} (m n : ℕ) (xs : List X) → m ≤ n → take m (take n xs) ≡ take m xs
@@ -47,19 +49,28 @@ Appends-more (Some xs) (Some ys) (Some zs) bs cs h k = k ∙ ap (λ s. s ++ cs) 
 
 -- nothing was written
 pub HasNotices-same : (known : Option (List ℕ)) → HasNotices known known
-HasNotices-same known = record { notices = []; lines = Appends-none known }
+HasNotices-same known = record { remarks = []; lines = Appends-none known }
 
 -- the line of one notice was written
 pub HasNotices-one : (old new : Option (List ℕ)) (notice : Notice) → Appends old new (notice_line notice) → HasNotices old new
 HasNotices-one old new notice h =
-    record { notices = notice ∷ []; lines = subst (λ bs. Appends old new bs) (sym (append-nil (notice_line notice))) h }
+    record { remarks = Noticed notice ∷ []; lines = subst (λ bs. Appends old new bs) (sym (append-nil (notice_line notice))) h }
+
+explained : (explanations : List Explanation) → flat_map explanation_line explanations ≡ flat_map remark_line (map Explained explanations)
+explained [] = refl
+explained (e ∷ es) = ap (λ (rest : List ℕ). explanation_line e ++ rest) (explained es)
+
+-- the lines of explanations were written
+pub HasNotices-explained : (old new : Option (List ℕ)) (explanations : List Explanation) → Appends old new (flat_map explanation_line explanations) → HasNotices old new
+HasNotices-explained old new explanations h =
+    record { remarks = map Explained explanations; lines = subst (λ bs. Appends old new bs) (explained explanations) h }
 
 -- nothing but notices was written, and then again
 pub HasNotices-more : (first then last : Option (List ℕ)) → HasNotices first then → HasNotices then last → HasNotices first last
 HasNotices-more first then last h k =
     record {
-      notices = h.notices ++ k.notices;
-      lines = subst (λ bs. Appends first last bs) (sym (flat_map-append notice_line h.notices k.notices))
+      remarks = h.remarks ++ k.remarks;
+      lines = subst (λ bs. Appends first last bs) (sym (flat_map-append remark_line h.remarks k.remarks))
           (Appends-more first then last _ _ h.lines k.lines);
     }
 
@@ -105,7 +116,7 @@ IsQuiet-from other first last verdict e h = subst (λ known. IsQuiet known last 
 pub ruleset stream_steps = (Extends-same, Extends-more)
 
 -- the lines of notices, several times
-pub ruleset notice_steps = (HasNotices-same, HasNotices-one, HasNotices-more)
+pub ruleset notice_steps = (HasNotices-same, HasNotices-one, HasNotices-explained, HasNotices-more)
 
 -- what is reported several times
 pub ruleset quiet_steps = (HasNotices-same, IsQuiet-more)

@@ -12,4 +12,5 @@ pub mod Steps
 pub mod Founds
 pub mod Asks
 pub mod Outcomes
+pub mod Explanations
 pub mod Courses

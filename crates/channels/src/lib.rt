@@ -7,6 +7,7 @@ pub mod boxes;
 pub mod channel_box;
 pub mod chosen;
 mod course;
+pub mod explanation;
 mod fault;
 mod finding;
 mod giving_up;

@@ -2,11 +2,13 @@
 
 ghost use Rattle.std.specs.Prelude.{◌≡◌, ◌∷◌, [], false, true, is_some, option_map, IfErr, IfOk, OnOk, string_bytes};
 ghost use Rattle.std.specs.Io.KnownBytes.{Appends};
+ghost use Rattle.std.specs.List.{flat_map};
 ghost use Rattle.rules.specs.Options.{covers};
 ghost use Rattle.channels.specs.Asked.{Ended, Failed, FarListed, FoundNew, GaveUp, Made, NearListed, Ran, names_of, outcome_of_making, outcome_of_state, place_of};
 ghost use Rattle.channels.specs.declared.verdict.Verdict.TheVariants.{Over};
 ghost use Rattle.channels.specs.Asks.{Asks, run_attempts};
 ghost use Rattle.channels.specs.Boxes.{Rises};
+ghost use Rattle.channels.specs.Explanations.{explanation_line, explanations};
 ghost use Rattle.channels.specs.Lines.{box_line};
 ghost use Rattle.channels.specs.Courses.{giving_asked, settled_asked};
 ghost use Rattle.channels.specs.Outcomes.{is_stale, outcome_of_box_fault, outcome_of_giving, outcome_of_run, verdict_of};
@@ -17,11 +19,11 @@ use crate::fault::{BoxFailure, GivingUp, RunFailure};
 use crate::giving_up::GiveUp;
 use crate::lent::RunOnce;
 use crate::notice::Notice;
-use crate::reporting;
 use crate::stop_cause::StopCause;
 use crate::store_fault::{ListFault, StoreFault};
 use crate::stores::{BoxLists, Stores};
 use crate::verdict::Verdict;
+use crate::{explanation, reporting};
 use config::config::{Channel, ImapStore, MaildirStore};
 use mailcore::mailbox_name::MailboxName;
 use mailcore::side::Side;
@@ -106,6 +108,21 @@ impl<'a, S: BoxLists, O: Write, E: Write> RunStores<'a, S, O, E> {
         ensures failed { Notes self.old.write_failed self.new.write_failed result }
     {
         let written = reporting::print_text(self.out, text);
+        self.write_failed |= written.is_err();
+        written
+    }
+
+    /// Explains an answer.
+    #[tactic(auto, using(crate::proofs::StreamLemmas::notice_steps))]
+    pub(crate) fn explain(&mut self, pass: &Pass) -> io::Result<()>
+        ensures others { self.new ≡ record self.old { err = self.new.err; write_failed = self.new.write_failed } }
+        ensures err { self.new.err.ghost_name ≡ self.old.err.ghost_name }
+        ensures lines { OnOk result (Appends (E.contents self.old.err.now) (E.contents self.new.err.now)
+            (flat_map explanation_line (explanations pass.now))) }
+        ensures notices { OnOk result (HasNotices (E.contents self.old.err.now) (E.contents self.new.err.now)) }
+        ensures failed { Notes self.old.write_failed self.new.write_failed result }
+    {
+        let written = explanation::explain(self.err, pass);
         self.write_failed |= written.is_err();
         written
     }

@@ -1,7 +1,7 @@
 //! The mailboxes of channels as they are synchronised.
 
 ghost use Rattle.std.specs.Prelude.{◌≡◌, ◌∷◌, ◌||◌, [], false, true, is_some, IfOk, IfSome, OnOk};
-ghost use Rattle.std.specs.List.{fold, list_any};
+ghost use Rattle.std.specs.List.{flat_map, fold};
 ghost use Rattle.channels.specs.Scope.{uncovered};
 ghost use Rattle.rules.specs.Options.{covers};
 ghost use Rattle.channels.specs.Asked.{Done, Failed, FoundNew, Made, Ran, joined_of, place_of};
@@ -9,11 +9,13 @@ ghost use Rattle.channels.specs.declared.verdict.Verdict.TheVariants.{Clean};
 ghost use Rattle.channels.specs.Asks.{Asks, AsksIfClean, Settles, SettlesFound, box_asked, boxes_asked, makings, run_attempts};
 ghost use Rattle.channels.specs.Boxes.{Rises};
 ghost use Rattle.channels.specs.Courses.{FindsAbsence, Follows, Goes, InOrder, IsBoxAsked, IsChannelAsked, IsFoundAsked, IsNamedAsked, IsRunAsked, Makes, SoFar, asking_if, is_over};
-ghost use Rattle.channels.specs.Outcomes.{IsAbsence, IsAbsenceOf, IsReportedOf, has_void, is_void, outcome_of, outcome_of_box_fault, outcome_of_pass};
-ghost use Rattle.channels.specs.Streams.{Extends, IsPrinted, IsQuiet, Notes};
+ghost use Rattle.channels.specs.Explanations.{explanation_line, explanations};
+ghost use Rattle.channels.specs.Outcomes.{IsAbsence, IsAbsenceOf, IsReportedOf, outcome_of, outcome_of_box_fault, outcome_of_pass};
+ghost use Rattle.channels.specs.Streams.{Extends, IsAnswered, IsQuiet, Notes};
 ghost use Rattle.reports.specs.Answers.{answer_of};
 
 use crate::channel_box::{ChannelBox, ChannelStores};
+use crate::explanation::has_void;
 use crate::fault::BoxFailure;
 use crate::finding::Found;
 use crate::run_stores::RunStores;
@@ -28,7 +30,6 @@ use reports::answer::answer_text;
 use rules::options::{Options, Sides};
 use runner::fault::RunFault;
 use runner::pass::Pass;
-use runner::performed::{Performed, StepResult};
 use std::alloc::Global;
 use std::io;
 use std::io::Write;
@@ -388,13 +389,15 @@ fn print_answer<S: Stores, O: Write, E: Write>(
     ensures quiet { IfOk result (IsQuiet (E.contents stores.old.err.now) (E.contents stores.new.err.now)) }
     ensures whole { OnOk result (Extends (O.contents stores.old.out.now) (O.contents stores.new.out.now)) }
     ensures failed { Notes false stores.new.write_failed result }
-    ensures text { IfOk result (IsPrinted (answer_of pass.now) (O.contents stores.old.out.now) (O.contents stores.new.out.now)) }
+    ensures text { IfOk result (IsAnswered (answer_of pass.now) (O.contents stores.old.out.now) (O.contents stores.new.out.now)
+        (flat_map explanation_line (explanations pass.now)) (E.contents stores.old.err.now) (E.contents stores.new.err.now)) }
     ensures asks { Asks S.noted S.asked stores.old.stores stores.new.stores [] }
     ensures states { IfOk result (IsReportedOf (outcome_of_pass pass.now)) }
 {
     match answer_text(alloc, pass) {
         Ok(text) => {
             stores.print_text(text.as_str())?;
+            stores.explain(pass)?;
             Ok(if has_void(pass) {
                 Verdict::Faulty
             } else {
@@ -403,28 +406,4 @@ fn print_answer<S: Stores, O: Write, E: Write>(
         }
         Err(_) => stores.report(place, &BoxFailure::Run(RunFault::NoMemory)),
     }
-}
-
-/// Whether a step of a run was void.
-fn has_void(pass: &Pass) -> bool
-    ensures { result ≡ has_void pass.now }
-{
-    match pass {
-        Pass::Already => false,
-        Pass::Ran(steps, _) => any_void(steps),
-        Pass::Finished(steps) => any_void(steps),
-    }
-}
-
-fn any_void(steps: &[Performed]) -> bool
-    ensures { result ≡ list_any is_void steps.now }
-{
-    steps.iter().any(|performed| is_void(performed))
-}
-
-/// Whether a message that was to be copied is not there any more, or not fit to be copied.
-fn is_void(performed: &Performed) -> bool
-    ensures { result ≡ is_void performed.now }
-{
-    matches!(performed.result, StepResult::Void)
 }

@@ -1,14 +1,16 @@
 -- How much is kept.
-use Rattle.std.proofs.Common.{◌≡◌, ◌≤◌, ◌<◌, inl, inr, ℕ, ◌+◌, Bool, true, false, List, [], ◌∷◌, ◌++◌, refl, sym, ◌∙◌, ap, subst, arith, append_assoc, append-nil, length, take, drop, take-append-drop, length-append, length-drop}
+use Rattle.std.proofs.Common.{◌≡◌, ◌≢◌, ◌≤◌, ◌<◌, inl, inr, Ok, ℕ, ◌+◌, Bool, true, false, List, [], ◌∷◌, ◌++◌, refl, sym, ◌∙◌, ap, subst, arith, append_assoc, append-nil, length, take, drop, take-append-drop, length-append, length-drop}
 use Rattle.std.specs.Prelude.{filter, max, if◌then◌else◌}
 use Rattle.std.proofs.lemmas.Bool.{cases_lt}
 use Rattle.std.proofs.lemmas.List.{take-append-le}
 use Rattle.std.proofs.Math.Seq.{take-append_seam}
 use Rattle.std.proofs.Transfers.{drop-appended}
 use Rattle.imap_replies.specs.declared.reply.Reply.{Reply}
+use Rattle.wire_reader.specs.declared.answer.Read.{Read}
+use Rattle.wire_reader.specs.declared.answer.Read.TheVariants.{Whole, WantsLiteral, Partial}
 use Rattle.imap_session.specs.Heard.{AreReplies}
-use Rattle.reply_buf.specs.Buffers.{Buffer, held_in, reads}
-use Rattle.reply_buf.specs.Fronts.{Spells, NoneWhole, IsWhole, BeginsAtPlaces}
+use Rattle.reply_buf.specs.Buffers.{Buffer, Moves, held_in, reads}
+use Rattle.reply_buf.specs.Fronts.{Spells, NoneWhole, IsWhole, Begun, BeginsAtPlaces, Looks}
 use Rattle.reply_buf.proofs.Begun.{begins_empty}
 use Rattle.reply_buf.proofs.Fitting.{fits_at_places}
 use Rattle.reply_buf.proofs.Searched.{none_empty}
@@ -21,6 +23,18 @@ more_may a b bytes le o = record { begun = o.begun; piece = o.piece; parts = o.p
 
 pub first_more : (most : ℕ) (bytes : List ℕ) → length bytes ≤ most → OneMore most bytes
 first_more most bytes le = record { begun = []; piece = bytes; parts = refl; none = none_empty; begins = begins_empty; fits = omega arith; short = le }
+
+-- where a look found no whole reply, nothing changed, and one was begun at each place
+pub waits_as_before : (old new : Buffer) (answer : Read (Unit {0})) → Looks old.unread (Ok answer) → Moves (Ok answer) old new → ((x : Unit {0}) (len : ℕ) → answer ≢ Whole x len) → new ≡ old
+waits_as_before old new (Whole x len) l m n = absurd (n x len refl)
+waits_as_before old new (WantsLiteral count) l m n = m
+waits_as_before old new Partial l m n = m
+
+pub begun_by : (bytes : List ℕ) (answer : Read (Unit {0})) → Looks bytes (Ok answer) → Begun bytes (Ok answer) → ((x : Unit {0}) (len : ℕ) → answer ≢ Whole x len)
+    → NoneWhole bytes × BeginsAtPlaces bytes
+begun_by bytes (Whole x len) l b n = absurd (n x len refl)
+begun_by bytes (WantsLiteral count) l b n = absurd l
+begun_by bytes Partial l b n = (l, b)
 
 -- a piece came where a look found no whole reply
 pub late_more : (most : ℕ) (bytes now piece : List ℕ) → now ≡ bytes ++ piece → length piece ≤ 4096 → NoneWhole bytes → BeginsAtPlaces bytes → OneMore (max 4096 most) now

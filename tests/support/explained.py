@@ -1,0 +1,6 @@
+"""What mbsync says on standard error of an answer."""
+
+FINISHED = "mbsync: finished the interrupted run; run again for later changes"
+VOID = "mbsync: void: gone, or not fit, when it was fetched; it is not copied later either"
+UNFIT_FAR = "mbsync: unfit far: more than 16777216 bytes, so it stays there alone"
+UNFIT_NEAR = "mbsync: unfit near: a NUL, or more than 16777216 bytes with line ends CR LF, so it stays there alone"
