@@ -1,5 +1,5 @@
 -- What of an outside has been opened, and what its calls ask of that.
-use Rattle.std.specs.Prelude.{◌≡◌, ℕ, Bool, true, List, [], ◌∷◌, Option, None, Some}
+use Rattle.std.specs.Prelude.{◌≡◌, ℕ, IsSome, List, [], ◌∷◌, Option, None, Some}
 use Rattle.mailcore.specs.declared.side.Side.{Side}
 use Rattle.mailcore.specs.declared.side.Side.TheVariants.{Far, Near}
 use Rattle.rules.specs.declared.plan.Plan.{Plan}
@@ -15,12 +15,13 @@ use Rattle.book.specs.GivingUp.{LeftOf}
 use Rattle.book.specs.LostSides.{Lost}
 use Rattle.outside.specs.Devices.{Device}
 
--- what was read of the shelf, which boxes are open, and which device each listing of a run has shown, the last first
+-- What was read of the shelf; of each box that is open the UIDVALIDITY that opening or listing it has answered last; and which device each
+-- listing of a run has shown, the last first.
 pub record Opened : Type 0 where
   pub state : SyncState
   pub pending : Pending
-  pub far : Bool
-  pub near : Bool
+  pub far : Option ℕ
+  pub near : Option ℕ
   pub listed : List Device
 
 -- ---- what it says
@@ -56,20 +57,21 @@ abbrev pub turned : (Pending → Pending) → Option Opened → Option Opened
 turned f None = None
 turned f (Some o) = Some (record o { pending = f o.pending })
 
--- with the box of a side open
-abbrev pub with_box : Side → Option Opened → Option Opened
-with_box side None = None
-with_box Far (Some o) = Some (record o { far = true })
-with_box Near (Some o) = Some (record o { near = true })
+-- with the box of a side open, which has answered this UIDVALIDITY
+abbrev pub with_box : Side → (validity : ℕ) → Option Opened → Option Opened
+with_box side validity None = None
+with_box Far validity (Some o) = Some (record o { far = Some validity })
+with_box Near validity (Some o) = Some (record o { near = Some validity })
 
 -- a listing of the far mailbox shows it as it stands, under the next UID that it reports
 abbrev pub shown_far : (next : ℕ) → Device → Device
 shown_far next d = record d { far = record d.far { next = next } }
 
--- with a listing that has shown this device
-abbrev pub with_listing : Device → Option Opened → Option Opened
-with_listing d None = None
-with_listing d (Some o) = Some (record o { listed = d ∷ o.listed })
+-- with a listing of the box of a side, which has answered this UIDVALIDITY and shown this device
+abbrev pub with_listing : Side → (validity : ℕ) → Device → Option Opened → Option Opened
+with_listing side validity d None = None
+with_listing Far validity d (Some o) = Some (record o { far = Some validity; listed = d ∷ o.listed })
+with_listing Near validity d (Some o) = Some (record o { near = Some validity; listed = d ∷ o.listed })
 
 abbrev pub listed_of : Option Opened → List Device
 listed_of None = []
@@ -110,8 +112,8 @@ IsRead (Some o) = Unit {0}
 -- the box of this side is open
 abbrev pub IsOpen : Side → Option Opened → Type 0
 IsOpen side None = ⊥
-IsOpen Far (Some o) = o.far ≡ true
-IsOpen Near (Some o) = o.near ≡ true
+IsOpen Far (Some o) = IsSome o.far
+IsOpen Near (Some o) = IsSome o.near
 
 -- no plan is pending: the journal may go
 abbrev pub TakesDiscard : Option Opened → Type 0

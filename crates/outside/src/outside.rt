@@ -66,7 +66,7 @@ pub trait Outside {
     /// The device, whether a call has failed since it was opened, what was counted, and how the device was each time it was opened again.
     ghost seen: { Self → Seen };
 
-    /// What was read of the shelf, once it was, which boxes are open, and which devices were listed.
+    /// What was read of the shelf, once it was, which UIDVALIDITY each open box has answered last, and which devices were listed.
     ghost opened: { Self → Option Opened };
 
     /// Reads the shelf. `BadState` and `BadJournal`: its files hold no book, and this is the first line that shows it.
@@ -164,7 +164,7 @@ pub trait Outside {
     fn open_box(&mut self, side: Side) -> Result<u32, OutsideFault>
         ensures was_honest { honest self.new → honest self.old }
         ensures keywords { keywords self.new ≡ keywords self.old }
-        ensures opened { OnOk result (opened self.new ≡ with_box side (opened self.old)) }
+        ensures opened { IfOk result (λ validity. opened self.new ≡ with_box side validity (opened self.old)) }
         ensures call { Opens (honest self.new) (Arrives ours alone) (λ validity d. validity ≡ (box d side).validity) (seen self.old)
             (seen self.new) result };
 
@@ -184,7 +184,8 @@ pub trait Outside {
         requires is_open { IsOpen Side.Far (opened self.old) }
         ensures was_honest { honest self.new → honest self.old }
         ensures keywords { keywords self.new ≡ keywords self.old }
-        ensures opened { IfOk result (λ listing. opened self.new ≡ with_listing (shown_far listing.next (seen self.new).device) (opened self.old)) }
+        ensures opened { IfOk result (λ listing. opened self.new ≡ with_listing Side.Far listing.validity
+            (shown_far listing.next (seen self.new).device) (opened self.old)) }
         ensures unlisted { OnErr result (opened self.new ≡ opened self.old) }
         ensures numbers { IfOk result HasNumbers }
         ensures within { honest self.new → IfOk result (ListsWithin (keywords self.old)) }
@@ -207,7 +208,8 @@ pub trait Outside {
         requires is_open { IsOpen Side.Near (opened self.old) }
         ensures was_honest { honest self.new → honest self.old }
         ensures keywords { keywords self.new ≡ keywords self.old }
-        ensures opened { OnOk result (opened self.new ≡ with_listing (seen self.new).device (opened self.old)) }
+        ensures opened { IfOk result (λ listing. opened self.new ≡ with_listing Side.Near listing.validity (seen self.new).device
+            (opened self.old)) }
         ensures unlisted { OnErr result (opened self.new ≡ opened self.old) }
         ensures numbers { IfOk result HasNumbers }
         ensures within { honest self.new → IfOk result (ListsWithin (keywords self.old)) }

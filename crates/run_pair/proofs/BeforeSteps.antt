@@ -1,6 +1,6 @@
 -- A call before the steps of a plan, whose refusal is a fault of the mailbox.
 use Rattle.std.proofs.Common.{◌≡◌, inl, inr, refl, sym, subst, ℕ, Result, Ok, Err}
-use Rattle.std.specs.Prelude.{IfOk, OnOk}
+use Rattle.std.specs.Prelude.{IfOk}
 use Rattle.device.specs.Calls.{Effect, Follows}
 use Rattle.mailcore.specs.declared.side.Side.{Side}
 use Rattle.mailcore.specs.Mailboxes.{Mailbox}
@@ -61,10 +61,3 @@ if_answered P (Err boxes.Stopped) h = tt
 if_answered P (Err boxes.Refused) h = tt
 if_answered P (Err (boxes.Own number)) h = tt
 if_answered P (Err boxes.NoMemory) h = tt
-
-pub on_answer : {T : Type 0} (P : Type 0) (answer : Result T BoxFault) → OnOk answer P → OnOk (unstepped answer) P
-on_answer P (Ok x) h = h
-on_answer P (Err boxes.Stopped) h = tt
-on_answer P (Err boxes.Refused) h = tt
-on_answer P (Err (boxes.Own number)) h = tt
-on_answer P (Err boxes.NoMemory) h = tt

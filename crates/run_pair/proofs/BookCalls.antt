@@ -1,5 +1,5 @@
 -- From the clauses of the book's part to those of the outside's.
-use Rattle.std.proofs.Common.{◌≡◌, ◌<◌, ◌⊎◌, inl, inr, ap, refl, subst, sym, ◌∙◌, ℕ, Bool, true, false, List, Option, None, Some, Result, Ok, Err}
+use Rattle.std.proofs.Common.{◌≡◌, ◌<◌, ◌⊎◌, inl, inr, ap, refl, subst, sym, ◌∙◌, ℕ, true, false, List, Option, None, Some, Result, Ok, Err}
 use Rattle.std.specs.Prelude.{IfErr, IsErrOf, ◌&&◌}
 use Rattle.book.specs.declared.shelf.Shelf as shelf
 use Rattle.mailbox.specs.declared.mailbox.Mailbox as mailbox
@@ -32,7 +32,7 @@ use Rattle.run_pair.specs.declared.book_part.BookPart.{BookPart}
 use Rattle.run_pair.specs.BookParts.{files_of, kept_of, standing_of}
 use Rattle.run_pair.specs.Kept.{Kept, AreCommitted, AreGivenUp, FromLog, IsBook, IsHeld, IsRead, LeavesUnread, OfKept, ReadsFiles, TakesCommit, TakesGivingUp, TakesLog, TakesPlan, journal_of, state_of, turned}
 use Rattle.run_pair.specs.declared.pair.Pair.{Pair}
-use Rattle.run_pair.specs.Pairs.{Failed, device_of, opened_of}
+use Rattle.run_pair.specs.Pairs.{Failed, device_of, far_answered, near_answered, opened_of}
 use Rattle.run_pair.specs.Parts.{both, device_with, opened_with}
 use Rattle.run_pair.specs.Tallies.{Counts, Tallied, ended, no_copies, seen_with}
 use Rattle.run_pair.proofs.Arriving.{alone_right, arrives_at, less_right, quiet}
@@ -41,63 +41,63 @@ use Rattle.run_pair.proofs.Ending.{done_call, failed_call, tallied, tally}
 
 -- ---- what was read
 
-pub is_read : (f n : Bool) (l : List Device) (k : Option Kept) → opened.IsRead (opened_with f n l k) → IsRead k
+pub is_read : (f n : Option ℕ) (l : List Device) (k : Option Kept) → opened.IsRead (opened_with f n l k) → IsRead k
 is_read f n l None h = h
 is_read f n l (Some k) h = h
 
-pub discard_read : (f n : Bool) (l : List Device) (k : Option Kept) → opened.TakesDiscard (opened_with f n l k) → IsRead k
+pub discard_read : (f n : Option ℕ) (l : List Device) (k : Option Kept) → opened.TakesDiscard (opened_with f n l k) → IsRead k
 discard_read f n l None h = h
 discard_read f n l (Some k) h = tt
 
-pub takes_plan : (f n : Bool) (l : List Device) (k : Option Kept) (plan : Plan) → opened.TakesPlan (opened_with f n l k) plan → TakesPlan k plan
+pub takes_plan : (f n : Option ℕ) (l : List Device) (k : Option Kept) (plan : Plan) → opened.TakesPlan (opened_with f n l k) plan → TakesPlan k plan
 takes_plan f n l None plan h = h
 takes_plan f n l (Some k) plan h = h
 
-pub takes_log : (f n : Bool) (l : List Device) (k : Option Kept) (step : ℕ) (logged : Logged) → opened.TakesLog (opened_with f n l k) step logged → TakesLog k step logged
+pub takes_log : (f n : Option ℕ) (l : List Device) (k : Option Kept) (step : ℕ) (logged : Logged) → opened.TakesLog (opened_with f n l k) step logged → TakesLog k step logged
 takes_log f n l None step logged h = h
 takes_log f n l (Some k) step logged h = h
 
-pub takes_commit : (f n : Bool) (l : List Device) (k : Option Kept) → opened.TakesCommit (opened_with f n l k) → TakesCommit k
+pub takes_commit : (f n : Option ℕ) (l : List Device) (k : Option Kept) → opened.TakesCommit (opened_with f n l k) → TakesCommit k
 takes_commit f n l None h = h
 takes_commit f n l (Some k) h = h
 
-pub takes_giving_up : (f n : Bool) (l : List Device) (k : Option Kept) → opened.TakesGivingUp (opened_with f n l k) → TakesGivingUp k
+pub takes_giving_up : (f n : Option ℕ) (l : List Device) (k : Option Kept) → opened.TakesGivingUp (opened_with f n l k) → TakesGivingUp k
 takes_giving_up f n l None h = h
 takes_giving_up f n l (Some k) h = h
 
-pub is_book : (f n : Bool) (l : List Device) (k : Option Kept) → IsBook k → opened.IsBook (opened_with f n l k)
+pub is_book : (f n : Option ℕ) (l : List Device) (k : Option Kept) → IsBook k → opened.IsBook (opened_with f n l k)
 is_book f n l None h = h
 is_book f n l (Some k) h = h
 
-pub is_held : (f n : Bool) (l : List Device) (k : Option Kept) (d : Device) → IsHeld k d.files → opened.IsHeld (opened_with f n l k) d
+pub is_held : (f n : Option ℕ) (l : List Device) (k : Option Kept) (d : Device) → IsHeld k d.files → opened.IsHeld (opened_with f n l k) d
 is_held f n l None d h = h
 is_held f n l (Some k) d h = h
 
-pub state_is : (f n : Bool) (l : List Device) (k : Option Kept) (s : SyncState) → state_of k ≡ Some s → opened.state_of (opened_with f n l k) ≡ Some s
+pub state_is : (f n : Option ℕ) (l : List Device) (k : Option Kept) (s : SyncState) → state_of k ≡ Some s → opened.state_of (opened_with f n l k) ≡ Some s
 state_is f n l None s h = h
 state_is f n l (Some k) s h = h
 
-pub journal_is : (f n : Bool) (l : List Device) (k : Option Kept) → journal_of k ≡ opened.journal_of (opened_with f n l k)
+pub journal_is : (f n : Option ℕ) (l : List Device) (k : Option Kept) → journal_of k ≡ opened.journal_of (opened_with f n l k)
 journal_is f n l None = refl
 journal_is f n l (Some k) = refl
 
-pub is_turned : (f n : Bool) (l : List Device) (change : Pending → Pending) (k k' : Option Kept) → k' ≡ turned change k → opened_with f n l k' ≡ opened.turned change (opened_with f n l k)
+pub is_turned : (f n : Option ℕ) (l : List Device) (change : Pending → Pending) (k k' : Option Kept) → k' ≡ turned change k → opened_with f n l k' ≡ opened.turned change (opened_with f n l k)
 is_turned f n l change None k' h = ap (opened_with f n l) h
 is_turned f n l change (Some k) k' h = ap (opened_with f n l) h
 
-pub are_committed : (f n : Bool) (l : List Device) (k k' : Option Kept) → AreCommitted k k' → opened.AreCommitted (opened_with f n l k) (opened_with f n l k')
+pub are_committed : (f n : Option ℕ) (l : List Device) (k k' : Option Kept) → AreCommitted k k' → opened.AreCommitted (opened_with f n l k) (opened_with f n l k')
 are_committed f n l None k' h = absurd h
 are_committed f n l (Some k) None h = absurd h
 are_committed f n l (Some k) (Some k') h = record { made = h.made; pending = h.pending; far = refl; near = refl; listed = refl }
 
-pub are_given_up : (lost : Lost) (f n : Bool) (l : List Device) (k k' : Option Kept) → AreGivenUp lost k k' → opened.AreGivenUp lost (opened_with f n l k) (opened_with f n l k')
+pub are_given_up : (lost : Lost) (f n : Option ℕ) (l : List Device) (k k' : Option Kept) → AreGivenUp lost k k' → opened.AreGivenUp lost (opened_with f n l k) (opened_with f n l k')
 are_given_up lost f n l None k' h = absurd h
 are_given_up lost f n l (Some k) None h = absurd h
 are_given_up lost f n l (Some k) (Some k') h = record { left = h.left; pending = h.pending; far = refl; near = refl }
 
 -- ---- a call of the book that was read
 
-of_book : (f n : Bool) (l : List Device) (k : Option Kept) (does : Pending → Effect Files) (far : Store) (near : Mailbox) (files files' : Files) (named : List Named) → OfKept does k files files'
+of_book : (f n : Option ℕ) (l : List Device) (k : Option Kept) (does : Pending → Effect Files) (far : Store) (near : Mailbox) (files files' : Files) (named : List Named) → OfKept does k files files'
     → there.OfBook does (opened_with f n l k) (record { far = far; near = near; files = files; named = named }) (record { far = far; near = near; files = files'; named = named })
 of_book f n l None does far near files files' named h = h
 of_book f n l (Some k) does far near files files' named h = record { far = refl; near = refl; named = refl; files = h }
@@ -139,7 +139,7 @@ why {T} old new answer result same ready h is = in_this (subst (λ (a : Result T
     in_this (inl failed) = absurd (cc)
     in_this (inr rose) = rose
 
-from_log : (f n : Bool) (l : List Device) (k : Option Kept) (logged : Logged) (e : OutsideFault) → FromLog k logged e → there.FromLog (opened_with f n l k) logged e
+from_log : (f n : Option ℕ) (l : List Device) (k : Option Kept) (logged : Logged) (e : OutsideFault) → FromLog k logged e → there.FromLog (opened_with f n l k) logged e
 from_log f n l k logged fault.Stopped h = tt
 from_log f n l k logged fault.Refused h = absurd h
 from_log f n l k logged (fault.Box side number) h = absurd h
@@ -148,13 +148,13 @@ from_log f n l (Some k) logged (fault.BadState line) h = h
 from_log f n l k logged (fault.BadJournal line) h = absurd h
 from_log f n l k logged fault.NoMemory h = tt
 
-pub reports_log : (f n : Bool) (l : List Device) (k : Option Kept) (logged : Logged) (answer : Result (Unit {0}) OutsideFault) → IfErr answer (FromLog k logged) → IfErr answer (there.FromLog (opened_with f n l k) logged)
+pub reports_log : (f n : Option ℕ) (l : List Device) (k : Option Kept) (logged : Logged) (answer : Result (Unit {0}) OutsideFault) → IfErr answer (FromLog k logged) → IfErr answer (there.FromLog (opened_with f n l k) logged)
 reports_log f n l k logged (Ok x) h = tt
 reports_log f n l k logged (Err e) h = from_log f n l k logged e h
 
 -- ---- the book is read
 
-reads_so : (f n : Bool) (l : List Device) (k : Option Kept) (far : Store) (near : Mailbox) (files files' : Files) (named : List Named) → ReadsFiles k files files'
+reads_so : (f n : Option ℕ) (l : List Device) (k : Option Kept) (far : Store) (near : Mailbox) (files files' : Files) (named : List Named) → ReadsFiles k files files'
     → there.ReadsBook (opened_with f n l k) (record { far = far; near = near; files = files; named = named }) (record { far = far; near = near; files = files'; named = named })
 reads_so f n l k far near files files' named h =
     (ap (λ (x : Files). record { far = far; near = near; files = x; named = named }) h.0, is_held f n l k (record { far = far; near = near; files = files; named = named }) h.1)
@@ -182,11 +182,11 @@ module _ {F N S : Type 0} {fars : mailbox.Ghosts F} {nears : mailbox.Ghosts N} {
     tallied = tally (ended no_copies) answer result p.tally c' whole same now;
   }
     where
-      f : Bool
-      f = fars.is_open p.far
+      f : Option ℕ
+      f = far_answered p
 
-      n : Bool
-      n = nears.is_open p.near
+      n : Option ℕ
+      n = near_answered p
 
       l : List Device
       l = p.listed.devices
@@ -229,7 +229,7 @@ module _ {F N S : Type 0} {fars : mailbox.Ghosts F} {nears : mailbox.Ghosts N} {
       → p.tally.is_broken ≡ false → result ≡ answer → c' ≡ ended no_copies answer p.tally → IfErr answer FromShelf
       → Part (shelves.is_honest ≡ true) (λ (x : Unit {0}). ReadsFiles (kept_of book)) LeavesUnread (files_of p.book) (files_of book) answer
       → Call (fars.honest p.far × nears.honest p.near × (shelves.is_honest ≡ true)) (Arrives (both fars.ours nears.ours) (fars.alone && nears.alone)) (λ (x : Unit {0}). 0) FromShelf
-      (λ (x : Unit {0}). there.ReadsBook (opened_with (fars.is_open p.far) (nears.is_open p.near) p.listed.devices (kept_of book))) there.LeavesUnread
+      (λ (x : Unit {0}). there.ReadsBook (opened_with (far_answered p) (near_answered p) p.listed.devices (kept_of book))) there.LeavesUnread
       (seen_with (device_of p) p.tally) (seen_with (device_with (fars.seen p.far).stored (nears.seen p.near).stored (files_of book) c'.named) c') result
   open_ends book c' answer result whole same now may reads =
       tallied honest others (λ _. 0) FromShelf does there.LeavesUnread (device_of p) (device_with (fars.seen p.far).stored (nears.seen p.near).stored (files_of book)) p.tally c' answer result same now (by_answer answer may reads)
@@ -244,7 +244,7 @@ module _ {F N S : Type 0} {fars : mailbox.Ghosts F} {nears : mailbox.Ghosts N} {
       with_files files = device_with (fars.seen p.far).stored (nears.seen p.near).stored files p.tally.named
 
       does : Unit {0} → Effect Device
-      does x = there.ReadsBook (opened_with (fars.is_open p.far) (nears.is_open p.near) p.listed.devices (kept_of book))
+      does x = there.ReadsBook (opened_with (far_answered p) (near_answered p) p.listed.devices (kept_of book))
 
       sparing : AreSparing others does there.LeavesUnread
       sparing = record {
@@ -257,7 +257,7 @@ module _ {F N S : Type 0} {fars : mailbox.Ghosts F} {nears : mailbox.Ghosts N} {
           → Call honest others (λ _. 0) FromShelf does there.LeavesUnread (seen_with (device_of p) p.tally) (seen_with (with_files (files_of book)) (ended (λ _. 0) a p.tally)) a
       by_answer (Ok x) h r =
           done_call honest others (λ _. 0) FromShelf does there.LeavesUnread (device_of p) (with_files (files_of book)) p.tally whole sparing (λ y. files_stay (files_of p.book) (files_of book) (r y.2).0) x
-          (λ y. record { mid = device_of p; before = quiet _ _ _; following = reads_so (fars.is_open p.far) (nears.is_open p.near) p.listed.devices (kept_of book) _ _ (files_of p.book) (files_of book) p.tally.named (r y.2) })
+          (λ y. record { mid = device_of p; before = quiet _ _ _; following = reads_so (far_answered p) (near_answered p) p.listed.devices (kept_of book) _ _ (files_of p.book) (files_of book) p.tally.named (r y.2) })
       by_answer (Err e) h r =
           failed_call honest others (λ _. 0) FromShelf does there.LeavesUnread (device_of p) (with_files (files_of book)) p.tally whole sparing (λ y. files_stay (files_of p.book) (files_of book) (r y.2).0) e h
           (λ y. record { mid = device_of p; before = quiet _ _ _; following = (ap with_files (r y.2).0, (r y.2).1) })

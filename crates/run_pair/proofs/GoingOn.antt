@@ -131,7 +131,7 @@ is_at b ready honest = is_at_if b.is_open b.book.is_ready _ b.book.state b.book.
 
 -- ---- which calls lead on
 
-pub discards : (f n : Bool) (l : List Device) (k : Option Kept) → opened.TakesDiscard (opened_with f n l k) → LeadsOn (λ p. Turns p Missing) k × LeadsOn (λ p. TurnsHalf p Missing) k
+pub discards : (f n : Option ℕ) (l : List Device) (k : Option Kept) → opened.TakesDiscard (opened_with f n l k) → LeadsOn (λ p. Turns p Missing) k × LeadsOn (λ p. TurnsHalf p Missing) k
 discards f n l None takes = (tt, tt)
 discards f n l (Some k) takes = (
   λ old new held fits h. turned k.state k.pending Missing old new (keeps_none k.pending Missing takes) held h,

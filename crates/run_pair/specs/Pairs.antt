@@ -22,7 +22,7 @@ use Rattle.outside.specs.Opened.{Opened}
 use Rattle.run_pair.specs.BookParts.{files_of, kept_of, standing_of}
 use Rattle.run_pair.specs.declared.pair.Pair.{Pair}
 use Rattle.run_pair.specs.Faults.{IsReported}
-use Rattle.run_pair.specs.Parts.{both, device_with, opened_with}
+use Rattle.run_pair.specs.Parts.{answered, both, device_with, opened_with}
 use Rattle.run_pair.specs.Tallies.{seen_with}
 
 module _ {F N S : Type 0} {fars : mailbox.Ghosts F} {nears : mailbox.Ghosts N} {shelves : shelf.Ghosts S} where
@@ -38,9 +38,16 @@ module _ {F N S : Type 0} {fars : mailbox.Ghosts F} {nears : mailbox.Ghosts N} {
   abbrev pub seen_of : Pair F N S fars nears shelves → Seen
   seen_of p = seen_with (device_of p) p.tally
 
-  -- what was read of the shelf, which boxes are open, and which devices were listed
+  -- the last UIDVALIDITY that each open mailbox has answered
+  abbrev pub far_answered : Pair F N S fars nears shelves → Option ℕ
+  far_answered p = answered (fars.is_open p.far) p.far_validities.items
+
+  abbrev pub near_answered : Pair F N S fars nears shelves → Option ℕ
+  near_answered p = answered (nears.is_open p.near) p.near_validities.items
+
+  -- what was read of the shelf, which UIDVALIDITYs the open boxes have answered, and which devices were listed
   abbrev pub opened_of : Pair F N S fars nears shelves → Option Opened
-  opened_of p = opened_with (fars.is_open p.far) (nears.is_open p.near) p.listed.devices (kept_of p.book)
+  opened_of p = opened_with (far_answered p) (near_answered p) p.listed.devices (kept_of p.book)
 
   -- ---- what a call does, in the words of the trait
 

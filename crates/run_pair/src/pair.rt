@@ -7,13 +7,14 @@ ghost use Rattle.run_pair.specs.BookParts.{standing_of};
 use crate::book_part::BookPart;
 use crate::copying::copy;
 use crate::device_history::DeviceHistory;
-use crate::listings::{note_far, note_near};
+use crate::listings::{note_far, note_near, note_opened};
 use crate::plan_written::begin_synced;
 use crate::run_ended::commit_synced;
 use crate::run_given_up::give_up_synced;
 use crate::tally::Tally;
 use book::lost_sides::LostSides;
 use book::shelf::Shelf;
+use device::history::History;
 use mailbox::mailbox::Mailbox;
 use mailcore::flags::Flags;
 use mailcore::listing::Listing;
@@ -40,6 +41,8 @@ pub struct Pair<F: Mailbox, N: Mailbox, S: Shelf> {
     pub(crate) book: BookPart<S>,
     pub(crate) tally: Tally,
     pub(crate) listed: DeviceHistory,
+    pub(crate) far_validities: History<u32>,
+    pub(crate) near_validities: History<u32>,
     pub ghost far_is: { F.side ≡ sides.Far },
     pub ghost near_is: { N.side ≡ sides.Near },
     pub ghost one_map: { F.keywords far ≡ N.keywords near },
@@ -234,7 +237,7 @@ impl<F: Mailbox + Drop, N: Mailbox + Drop, S: Shelf + Drop> Outside for Pair<F, 
     fn open_box(&mut self, side: Side) -> Result<u32, OutsideFault>
         ensures was_honest { honest_of self.new → honest_of self.old }
         ensures keywords { F.keywords self.new.far ≡ F.keywords self.old.far }
-        ensures opened { OnOk result (opened_of self.new ≡ with_box side (opened_of self.old)) }
+        ensures opened { IfOk result (λ validity. opened_of self.new ≡ with_box side validity (opened_of self.old)) }
         ensures call { BoxOpens (λ validity d. validity ≡ (box d side).validity) self.old self.new result }
         ensures why { IfErr result (ByBox side (OrRefusal (CannotOpen side self.old)) self.old self.new) }
         ensures tallied { Tallied (ended no_copies) result self.old.tally self.new.tally }
@@ -245,10 +248,12 @@ impl<F: Mailbox + Drop, N: Mailbox + Drop, S: Shelf + Drop> Outside for Pair<F, 
         match side {
             Side::Far => {
                 let answer = self.far.open();
+                note_opened(&mut self.far_validities, &answer);
                 self.tally.end_opening(Side::Far, answer)
             }
             Side::Near => {
                 let answer = self.near.open();
+                note_opened(&mut self.near_validities, &answer);
                 self.tally.end_opening(Side::Near, answer)
             }
         }
@@ -276,8 +281,8 @@ impl<F: Mailbox + Drop, N: Mailbox + Drop, S: Shelf + Drop> Outside for Pair<F, 
         requires is_open { IsOpen Side.Far (opened_of self.old) }
         ensures was_honest { honest_of self.new → honest_of self.old }
         ensures keywords { F.keywords self.new.far ≡ F.keywords self.old.far }
-        ensures opened { IfOk result (λ listing. opened_of self.new ≡ with_listing (shown_far listing.next (device_of self.new))
-            (opened_of self.old)) }
+        ensures opened { IfOk result (λ listing. opened_of self.new ≡ with_listing Side.Far listing.validity
+            (shown_far listing.next (device_of self.new)) (opened_of self.old)) }
         ensures unlisted { OnErr result (opened_of self.new ≡ opened_of self.old) }
         ensures numbers { IfOk result HasNumbers }
         ensures within { honest_of self.new → IfOk result (ListsWithin (F.keywords self.old.far)) }
@@ -294,6 +299,7 @@ impl<F: Mailbox + Drop, N: Mailbox + Drop, S: Shelf + Drop> Outside for Pair<F, 
             &self.tally,
             &listing,
         );
+        self.far_validities = self.far_validities.and(&listing.validity);
         Ok(listing)
     }
 
@@ -319,7 +325,8 @@ impl<F: Mailbox + Drop, N: Mailbox + Drop, S: Shelf + Drop> Outside for Pair<F, 
         requires is_open { IsOpen Side.Near (opened_of self.old) }
         ensures was_honest { honest_of self.new → honest_of self.old }
         ensures keywords { F.keywords self.new.far ≡ F.keywords self.old.far }
-        ensures opened { OnOk result (opened_of self.new ≡ with_listing (device_of self.new) (opened_of self.old)) }
+        ensures opened { IfOk result (λ listing. opened_of self.new ≡ with_listing Side.Near listing.validity (device_of self.new)
+            (opened_of self.old)) }
         ensures unlisted { OnErr result (opened_of self.new ≡ opened_of self.old) }
         ensures numbers { IfOk result HasNumbers }
         ensures within { honest_of self.new → IfOk result (ListsWithin (F.keywords self.old.far)) }
@@ -335,6 +342,7 @@ impl<F: Mailbox + Drop, N: Mailbox + Drop, S: Shelf + Drop> Outside for Pair<F, 
             &self.book,
             &self.tally,
         );
+        self.near_validities = self.near_validities.and(&listing.validity);
         Ok(listing)
     }
 

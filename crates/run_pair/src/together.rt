@@ -9,6 +9,7 @@ use crate::device_history::DeviceHistory;
 use crate::pair::Pair;
 use crate::tally::Tally;
 use book::shelf::Shelf;
+use device::history::History;
 use mailbox::mailbox::Mailbox;
 use std::alloc::Global;
 
@@ -43,6 +44,8 @@ impl<F: Mailbox + Drop, N: Mailbox + Drop, S: Shelf + Drop> Pair<F, N, S> {
             book,
             tally: Tally::new(),
             listed: DeviceHistory::new(),
+            far_validities: History::new(),
+            near_validities: History::new(),
         }
     }
 

@@ -2,6 +2,7 @@
 use Rattle.std.proofs.Common.{◌≡◌, ◌⊎◌, inl, inr, ℕ, Bool, true, false, List, ◌++◌, length, take, Option, Some, None, refl, sym, ◌∙◌, ap, subst}
 use Rattle.std.specs.Prelude.{Contains}
 use Rattle.std.proofs.lemmas.Bool.{both_ways}
+use Rattle.mailcore.specs.declared.side.Side.{Side}
 use Rattle.mailcore.specs.declared.side.Side.TheVariants.{Far, Near as NearSide}
 use Rattle.mailcore.specs.declared.listing.Listing.{Listing}
 use Rattle.mailcore.specs.Listed.{item_of}
@@ -98,9 +99,9 @@ module _ {ours : List ℕ → Bool} {alone : Bool} (opening : Opening ours alone
   -- ---- the listings
 
   -- another listing changes nothing else of what was read
-  clear_listed : (x : Device) (opened : Option Opened) (is_admitted : Bool) (d : Device) → IsClear opening opened is_admitted d → IsClear opening (with_listing x opened) is_admitted d
-  clear_listed x opened is_admitted d c = record {
-    state = listed_state x opened ∙ c.state;
+  clear_listed : (side : Side) (v : ℕ) (x : Device) (opened : Option Opened) (is_admitted : Bool) (d : Device) → IsClear opening opened is_admitted d → IsClear opening (with_listing side v x opened) is_admitted d
+  clear_listed side v x opened is_admitted d c = record {
+    state = listed_state side v x opened ∙ c.state;
     files = c.files;
     chosen = c.chosen;
     below = c.below;
@@ -111,13 +112,13 @@ module _ {ours : List ℕ → Bool} {alone : Bool} (opening : Opening ours alone
     admitted = c.admitted;
   }
 
-  pub far_listed : (opened : Option Opened) (far : Listing) (d m d' : Device) → ListsWithin opening.options.keywords far → Arrives ours alone d m → IsClear opening opened true d → d' ≡ m → ListsFar alone d.far.next far m → FarListed opening (with_listing (shown_far far.next d') opened) far d'
+  pub far_listed : (opened : Option Opened) (far : Listing) (d m d' : Device) → ListsWithin opening.options.keywords far → Arrives ours alone d m → IsClear opening opened true d → d' ≡ m → ListsFar alone d.far.next far m → FarListed opening (with_listing Far far.validity (shown_far far.next d') opened) far d'
   far_listed opened far d m d' within a c is l =
       let g = c.grows in
-      let last = listed_last (shown_far far.next m) opened opening.world.state c.state in
-      rw is (record { clear = clear_listed (shown_far far.next m) opened true m (clear_arrives opened true d m a c); lists = lists_since alone d.far.next opening.world.far.next far m.far g.far_next l; within = within; earlier = last.0; last = last.1 })
+      let last = listed_last Far far.validity (shown_far far.next m) opened opening.world.state c.state in
+      rw is (record { clear = clear_listed Far far.validity (shown_far far.next m) opened true m (clear_arrives opened true d m a c); lists = lists_since alone d.far.next opening.world.far.next far m.far g.far_next l; within = within; earlier = last.0; last = last.1 })
 
-  pub near_listed : (opened : Option Opened) (far near : Listing) (spared : ℕ → Bool) (d m d' : Device) → ListsWithin opening.options.keywords near → AreOld opening.world.state.max_pushed opening.world.state.entries spared → Arrives ours alone d m → FarListed opening opened far d → d' ≡ m → ShowsSparing NearSide spared m.near.store near → BothListed opening (with_listing d' opened) far near d'
+  pub near_listed : (opened : Option Opened) (far near : Listing) (spared : ℕ → Bool) (d m d' : Device) → ListsWithin opening.options.keywords near → AreOld opening.world.state.max_pushed opening.world.state.entries spared → Arrives ours alone d m → FarListed opening opened far d → d' ≡ m → ShowsSparing NearSide spared m.near.store near → BothListed opening (with_listing NearSide near.validity d' opened) far near d'
   near_listed opened far near spared d m d' within old a f is l =
       let c = clear_arrives opened true d m a f.clear in
       let s = opening.world.state in
@@ -126,7 +127,7 @@ module _ {ours : List ℕ → Bool} {alone : Bool} (opening : Opening ours alone
       let grows = both.0 in
       let most = reported_most alone opening.world.far.next far d.far reported in
       let here = listed_world s far.next d m in
-      let shown : world_shown (with_listing m opened) ≡ here = both_shown opened s far.next d m f.earlier c.state f.last in
+      let shown : world_shown (with_listing NearSide near.validity m opened) ≡ here = both_shown near.validity opened s far.next d m f.earlier c.state f.last in
       let since : Since (once_listed opening here) (λ w. AreShown w far near × Listed ours alone opening.named w m) = record {
         world = here;
         listed = λ w e. let same : here ≡ w = cc in same;
@@ -138,7 +139,7 @@ module _ {ours : List ℕ → Bool} {alone : Bool} (opening : Opening ours alone
         holds = (record { far_is = f.lists.shows; spared = spared; old = old; near_is = l }, listed_here ours alone opening.world s far.next d m grows most (λ e. c.admitted refl e) a c.files c.named);
       } in
       let so = subst (λ (w : World). Since (once_listed opening w) (λ v. AreShown v far near × Listed ours alone opening.named v m)) (sym shown) since in
-      rw is (record { clear = clear_listed m opened true m c; since = so })
+      rw is (record { clear = clear_listed NearSide near.validity m opened true m c; since = so })
 
   -- ---- the plan
 

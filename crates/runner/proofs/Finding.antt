@@ -251,9 +251,9 @@ mended_plan (Some o) = of_pending o.pending
     of_pending Useless = refl
     of_pending (Planned written) = refl
 
-pub boxed_plan : (opened : Option Opened) → plan_at (with_box Near (with_box Far opened)) ≡ plan_at opened
-boxed_plan None = refl
-boxed_plan (Some o) = refl
+pub boxed_plan : (v w : ℕ) (opened : Option Opened) → plan_at (with_box Near w (with_box Far v opened)) ≡ plan_at opened
+boxed_plan v w None = refl
+boxed_plan v w (Some o) = refl
 
 same_plan : (a b : Option Opened) (d : Device) (pass : Pass) → plan_at a ≡ plan_at b → FindsBy a d pass → FindsBy b d pass
 same_plan a b d Already e k = tt

@@ -41,12 +41,12 @@ given_from ours alone before j d m d' pending boxes l = record {
   held = l.held;
 }
 
-read_ready : (ours : List ℕ → Bool) (alone : Bool) (opened : Option Opened) (d m d' : Device) (pending : Pending) → KeepsBoxes ours alone d m → IsGivenUpRead ours alone (ready opened) m d' pending → IsGivenUpRead ours alone opened d d' pending
-read_ready ours alone opened d m d' pending boxes k = record {
+read_ready : (ours : List ℕ → Bool) (alone : Bool) (v w : ℕ) (opened : Option Opened) (d m d' : Device) (pending : Pending) → KeepsBoxes ours alone d m → IsGivenUpRead ours alone (ready v w opened) m d' pending → IsGivenUpRead ours alone opened d d' pending
+read_ready ours alone v w opened d m d' pending boxes k = record {
   before = k.before;
   journal = k.journal;
-  before_is = sym (ready_state opened) ∙ k.before_is;
-  journal_is = sym (ready_journal opened) ∙ k.journal_is;
+  before_is = sym (ready_state v w opened) ∙ k.before_is;
+  journal_is = sym (ready_journal v w opened) ∙ k.journal_is;
   given_up = given_from ours alone k.before k.journal d m d' pending boxes k.given_up;
 }
 
@@ -59,10 +59,10 @@ read_pending ours alone opened d d' e k = record {
   gives_up = inl (record { written = k.written; goes_on = k.goes_on; held = k.held });
 }
 
-pub read_left : (ours : List ℕ → Bool) (alone : Bool) (opened : Option Opened) (d m d' : Device) (e : RunFault) → KeepsBoxes ours alone d m → LeavesRead {T = Unit {0}} ours alone (ready opened) m d' (Err e) → GivesUpRead {T = Bool} ours alone opened d d' (Err e)
-read_left ours alone opened d m d' e boxes (inl k) = read_pending ours alone opened d d' e (still_ready opened d' k)
-read_left ours alone opened d m d' e boxes (inr k) =
-    let l = read_ready ours alone opened d m d' k.0 boxes k.2 in
+pub read_left : (ours : List ℕ → Bool) (alone : Bool) (v w : ℕ) (opened : Option Opened) (d m d' : Device) (e : RunFault) → KeepsBoxes ours alone d m → LeavesRead {T = Unit {0}} ours alone (ready v w opened) m d' (Err e) → GivesUpRead {T = Bool} ours alone opened d d' (Err e)
+read_left ours alone v w opened d m d' e boxes (inl k) = read_pending ours alone opened d d' e (still_ready v w opened d' k)
+read_left ours alone v w opened d m d' e boxes (inr k) =
+    let l = read_ready ours alone v w opened d m d' k.0 boxes k.2 in
     record { before = l.before; journal = l.journal; before_is = l.before_is; journal_is = l.journal_is; gives_up = inr (k.0, k.1, l.given_up) }
 
 validity_of : (opened : Option Opened) (j : Journal) (side : Side) (d : Device) → journal_of opened ≡ Some j → HasSame opened side d → plan_validity j.plan side ≡ (box d side).validity
@@ -74,10 +74,10 @@ validity_of (Some o) j side d e h = by_pending o.pending e h
     by_pending Useless e h = cc
     by_pending (Planned w) e h = let same : w.journal ≡ j = cc in ap (λ (k : Journal). plan_validity k.plan side) (sym same) ∙ h
 
-pub read_done : (ours : List ℕ → Bool) (alone : Bool) (opened : Option Opened) (d m d' : Device) (answer : Bool) → KeepsBoxes ours alone d m → BothSame opened m → KeepsBoxes ours alone m d' → IsGivenUpRead ours alone (ready opened) m d' Missing
+pub read_done : (ours : List ℕ → Bool) (alone : Bool) (v w : ℕ) (opened : Option Opened) (d m d' : Device) (answer : Bool) → KeepsBoxes ours alone d m → BothSame opened m → KeepsBoxes ours alone m d' → IsGivenUpRead ours alone (ready v w opened) m d' Missing
     → GivesUpRead {T = Bool} ours alone opened d d' (Ok answer)
-read_done ours alone opened d m d' answer before same after k =
-    let l = read_ready ours alone opened d m d' Missing before k in
+read_done ours alone v w opened d m d' answer before same after k =
+    let l = read_ready ours alone v w opened d m d' Missing before k in
     record {
       before = l.before;
       journal = l.journal;
@@ -148,8 +148,8 @@ pub in_look : (number : ℕ) (opened : Option Opened) (honest from : Type 0) (d 
 in_look number opened honest from d = steps_reported (λ step. (step ≡ number) × (honest → from → RefusedAt (number_at opened) d)) (InLook number) (λ step k. k.0)
 
 -- what is ready has the same number
-pub ready_number : (opened : Option Opened) → number_at (ready opened) ≡ number_at opened
-ready_number opened = ap (λ (j : Option Journal). (let k = unwrap_or j no_journal in length k.log + 1)) (ready_journal opened)
+pub ready_number : (v w : ℕ) (opened : Option Opened) → number_at (ready v w opened) ≡ number_at opened
+ready_number v w opened = ap (λ (j : Option Journal). (let k = unwrap_or j no_journal in length k.log + 1)) (ready_journal v w opened)
 
 -- the answer of a part, by another word for it
 pub answered : (r : Result Bool RunFault) (b b' : Bool) → b ≡ b' → IfOk r (λ x. x ≡ b) → IfOk r (λ x. x ≡ b')

@@ -24,8 +24,9 @@ use Rattle.runner.specs.Before.{HasPlan}
 use Rattle.runner.specs.Finding.{FindsSame}
 use Rattle.runner.specs.Going.{HasUntorn, IsGoing, IsUntorn, next_at, plan_at}
 use Rattle.runner.specs.declared.fault.RunFault.{RunFault}
-use Rattle.runner.specs.GivingUp.{HoldsLeft, HoldsLeftOf, IsGivenUpRead, KeepsBoxes, LeavesRead, LosesBy, NotesCopy, StillPending, copy_of_next, next_copy, with_found}
+use Rattle.runner.specs.GivingUp.{HoldsLeft, HoldsLeftOf, IsGivenUpRead, IsReady, KeepsBoxes, LeavesRead, LosesBy, NotesCopy, StillPending, copy_of_next, next_copy, with_found}
 use Rattle.runner.specs.HalfEntries.{lost_at}
+use Rattle.runner.specs.Validities.{OpensBoth}
 use Rattle.runner.proofs.Readings.{both_open, plan_read, turned_open, turned_state}
 use Rattle.runner.proofs.KeptBoxes.{boxes_next, held_same, Did, Nothing, All, Part}
 
@@ -94,25 +95,25 @@ pub logged_on : (logged : Logged) (w : WrittenJournal) → ContinuesIn w.journal
 logged_on logged w = record { plan = refl; since = logged ∷ []; log = refl }
 
 -- an open box has the same book
-pub boxed_plan : (side : Side) (opened : Option Opened) → HasPlan opened → HasPlan (with_box side opened)
-boxed_plan side None h = h
-boxed_plan Far (Some o) h = h
-boxed_plan Near (Some o) h = h
+pub boxed_plan : (side : Side) (v : ℕ) (opened : Option Opened) → HasPlan opened → HasPlan (with_box side v opened)
+boxed_plan side v None h = h
+boxed_plan Far v (Some o) h = h
+boxed_plan Near v (Some o) h = h
 
-pub boxed_held : (side : Side) (opened : Option Opened) (d : Device) → IsHeld opened d → IsHeld (with_box side opened) d
-boxed_held side None d h = h
-boxed_held Far (Some o) d h = h
-boxed_held Near (Some o) d h = h
+pub boxed_held : (side : Side) (v : ℕ) (opened : Option Opened) (d : Device) → IsHeld opened d → IsHeld (with_box side v opened) d
+boxed_held side v None d h = h
+boxed_held Far v (Some o) d h = h
+boxed_held Near v (Some o) d h = h
 
-pub boxed_state : (side : Side) (opened : Option Opened) → state_of (with_box side opened) ≡ state_of opened
-boxed_state side None = refl
-boxed_state Far (Some o) = refl
-boxed_state Near (Some o) = refl
+pub boxed_state : (side : Side) (v : ℕ) (opened : Option Opened) → state_of (with_box side v opened) ≡ state_of opened
+boxed_state side v None = refl
+boxed_state Far v (Some o) = refl
+boxed_state Near v (Some o) = refl
 
-pub boxed_journal : (side : Side) (opened : Option Opened) → journal_of (with_box side opened) ≡ journal_of opened
-boxed_journal side None = refl
-boxed_journal Far (Some o) = refl
-boxed_journal Near (Some o) = refl
+pub boxed_journal : (side : Side) (v : ℕ) (opened : Option Opened) → journal_of (with_box side v opened) ≡ journal_of opened
+boxed_journal side v None = refl
+boxed_journal Far v (Some o) = refl
+boxed_journal Near v (Some o) = refl
 
 mended_journal_in : (p : Pending) → journal_in (mended p) ≡ journal_in p
 mended_journal_in Missing = refl
@@ -326,29 +327,33 @@ leaves_noted ours alone opened now d m d' (Err e) plan n boxes done (inl k) = in
 leaves_noted ours alone opened now d m d' (Err e) plan n boxes done (inr k) = inr (k.0, k.1, left_noted ours alone opened now d m d' k.0 plan n boxes k.2)
 
 -- what is ready: the boxes are open, and no torn line stands after the plan
-abbrev pub ready : Option Opened → Option Opened
-ready opened = turned mended (with_box Near (with_box Far opened))
+abbrev pub ready : (v w : ℕ) → Option Opened → Option Opened
+ready v w opened = turned mended (with_box Near w (with_box Far v opened))
 
-pub ready_state : (opened : Option Opened) → state_of (ready opened) ≡ state_of opened
-ready_state opened = turned_state mended (with_box Near (with_box Far opened)) ∙ boxed_state Near (with_box Far opened) ∙ boxed_state Far opened
+pub ready_after : (opened mid now : Option Opened) (r : Result (Unit {0}) RunFault) → OpensBoth opened mid → OnOk r (now ≡ turned mended mid) → OnOk r (IsReady opened now)
+ready_after opened mid now (Ok x) both is = record { far = both.far; near = both.near; opened = is ∙ ap (turned mended) both.opened }
+ready_after opened mid now (Err f) both is = tt
 
-pub ready_journal : (opened : Option Opened) → journal_of (ready opened) ≡ journal_of opened
-ready_journal opened = mended_journal (with_box Near (with_box Far opened)) ∙ boxed_journal Near (with_box Far opened) ∙ boxed_journal Far opened
+pub ready_state : (v w : ℕ) (opened : Option Opened) → state_of (ready v w opened) ≡ state_of opened
+ready_state v w opened = turned_state mended (with_box Near w (with_box Far v opened)) ∙ boxed_state Near w (with_box Far v opened) ∙ boxed_state Far v opened
 
-pub ready_plan : (opened : Option Opened) → HasPlan opened → HasPlan (with_box Near (with_box Far opened))
-ready_plan opened h = boxed_plan Near (with_box Far opened) (boxed_plan Far opened h)
+pub ready_journal : (v w : ℕ) (opened : Option Opened) → journal_of (ready v w opened) ≡ journal_of opened
+ready_journal v w opened = mended_journal (with_box Near w (with_box Far v opened)) ∙ boxed_journal Near w (with_box Far v opened) ∙ boxed_journal Far v opened
 
-pub ready_going : (opened : Option Opened) → HasPlan opened → IsGoing (ready opened)
-ready_going opened h = record {
-  untorn = mended_untorn (with_box Near (with_box Far opened)) (ready_plan opened h);
-  boxes = turned_open mended (with_box Near (with_box Far opened)) (both_open opened (plan_read opened h));
+pub ready_plan : (v w : ℕ) (opened : Option Opened) → HasPlan opened → HasPlan (with_box Near w (with_box Far v opened))
+ready_plan v w opened h = boxed_plan Near w (with_box Far v opened) (boxed_plan Far v opened h)
+
+pub ready_going : (v w : ℕ) (opened : Option Opened) → HasPlan opened → IsGoing (ready v w opened)
+ready_going v w opened h = record {
+  untorn = mended_untorn (with_box Near w (with_box Far v opened)) (ready_plan v w opened h);
+  boxes = turned_open mended (with_box Near w (with_box Far v opened)) (both_open v w opened (plan_read opened h));
 }
 
-pub ready_held : (opened : Option Opened) (d d' : Device) → d'.files ≡ d.files → IsHeld opened d → IsHeld (with_box Near (with_box Far opened)) d'
-ready_held opened d d' same h = boxed_held Near (with_box Far opened) d' (boxed_held Far opened d' (held_same opened d d' same h))
+pub ready_held : (v w : ℕ) (opened : Option Opened) (d d' : Device) → d'.files ≡ d.files → IsHeld opened d → IsHeld (with_box Near w (with_box Far v opened)) d'
+ready_held v w opened d d' same h = boxed_held Near w (with_box Far v opened) d' (boxed_held Far v opened d' (held_same opened d d' same h))
 
-pub still_boxed : (opened : Option Opened) (d : Device) → StillPending (with_box Near (with_box Far opened)) d → StillPending opened d
-still_boxed opened d k = still_same opened (with_box Near (with_box Far opened)) d (boxed_state Near (with_box Far opened) ∙ boxed_state Far opened) (boxed_journal Near (with_box Far opened) ∙ boxed_journal Far opened) k
+pub still_boxed : (v w : ℕ) (opened : Option Opened) (d : Device) → StillPending (with_box Near w (with_box Far v opened)) d → StillPending opened d
+still_boxed v w opened d k = still_same opened (with_box Near w (with_box Far v opened)) d (boxed_state Near w (with_box Far v opened) ∙ boxed_state Far v opened) (boxed_journal Near w (with_box Far v opened) ∙ boxed_journal Far v opened) k
 
-pub still_ready : (opened : Option Opened) (d : Device) → StillPending (ready opened) d → StillPending opened d
-still_ready opened d k = still_same opened (ready opened) d (ready_state opened) (ready_journal opened) k
+pub still_ready : (v w : ℕ) (opened : Option Opened) (d : Device) → StillPending (ready v w opened) d → StillPending opened d
+still_ready v w opened d k = still_same opened (ready v w opened) d (ready_state v w opened) (ready_journal v w opened) k

@@ -73,18 +73,18 @@ pub turned_run : (f : Pending → Pending) (opened : Option Opened) → run_of (
 turned_run f None = refl
 turned_run f (Some o) = refl
 
-pub boxed_run : (opened : Option Opened) → run_of (with_box Near (with_box Far opened)) ≡ run_of opened
-boxed_run None = refl
-boxed_run (Some o) = refl
+pub boxed_run : (v w : ℕ) (opened : Option Opened) → run_of (with_box Near w (with_box Far v opened)) ≡ run_of opened
+boxed_run v w None = refl
+boxed_run v w (Some o) = refl
 
-pub boxed_book : (opened : Option Opened) → IsBook opened → IsBook (with_box Near (with_box Far opened))
-boxed_book None b = b
-boxed_book (Some o) b = b
+pub boxed_book : (v w : ℕ) (opened : Option Opened) → IsBook opened → IsBook (with_box Near w (with_box Far v opened))
+boxed_book v w None b = b
+boxed_book v w (Some o) b = b
 
-pub boxed_answers : (run : ℕ) (opened : Option Opened) (r : Result Pass RunFault) → IfOk r (AnswersTo run (with_box Near (with_box Far opened))) → IfOk r (AnswersTo run opened)
-boxed_answers run None r a = a
-boxed_answers run (Some o) (Ok pass) a = a
-boxed_answers run (Some o) (Err e) a = tt
+pub boxed_answers : (v w : ℕ) (run : ℕ) (opened : Option Opened) (r : Result Pass RunFault) → IfOk r (AnswersTo run (with_box Near w (with_box Far v opened))) → IfOk r (AnswersTo run opened)
+boxed_answers v w run None r a = a
+boxed_answers v w run (Some o) (Ok pass) a = a
+boxed_answers v w run (Some o) (Err e) a = tt
 
 same_run : (a b : Option Opened) (options : Options) (stream : Stream) (steps : List Step) (unfit : List (Side × ℕ)) → state_of a ≡ state_of b → IsRun a options stream steps unfit → IsRun b options stream steps unfit
 same_run None b options stream steps unfit e k = absurd k.drawn
@@ -99,21 +99,21 @@ same_runs a b options stream (Ran performed unfit) e m k = same_run a b options 
 same_runs a b options stream (Finished performed) e m k = m k
 
 -- an open box is of the same plan
-pub boxed_map : (keywords : List Keyword) (opened : Option Opened) → HasMapIn keywords (with_box Near (with_box Far opened)) → HasMapIn keywords opened
-boxed_map keywords None m = m
-boxed_map keywords (Some o) m = m
+pub boxed_map : (v w : ℕ) (keywords : List Keyword) (opened : Option Opened) → HasMapIn keywords (with_box Near w (with_box Far v opened)) → HasMapIn keywords opened
+boxed_map v w keywords None m = m
+boxed_map v w keywords (Some o) m = m
 
-pub boxed_other_map : (keywords : List Keyword) (opened : Option Opened) → HasOtherMapIn keywords (with_box Near (with_box Far opened)) → HasOtherMapIn keywords opened
-boxed_other_map keywords None m = m
-boxed_other_map keywords (Some o) m = m
+pub boxed_other_map : (v w : ℕ) (keywords : List Keyword) (opened : Option Opened) → HasOtherMapIn keywords (with_box Near w (with_box Far v opened)) → HasOtherMapIn keywords opened
+boxed_other_map v w keywords None m = m
+boxed_other_map v w keywords (Some o) m = m
 
-boxed_state : (opened : Option Opened) → state_of (with_box Near (with_box Far opened)) ≡ state_of opened
-boxed_state None = refl
-boxed_state (Some o) = refl
+boxed_state : (v w : ℕ) (opened : Option Opened) → state_of (with_box Near w (with_box Far v opened)) ≡ state_of opened
+boxed_state v w None = refl
+boxed_state v w (Some o) = refl
 
-pub boxed_runs : (opened : Option Opened) (options : Options) (stream : Stream) (r : Result Pass RunFault) → IfOk r (RunsBy (with_box Near (with_box Far opened)) options stream) → IfOk r (RunsBy opened options stream)
-boxed_runs opened options stream (Ok pass) k = same_runs (with_box Near (with_box Far opened)) opened options stream pass (boxed_state opened) (boxed_map options.keywords opened) k
-boxed_runs opened options stream (Err e) k = tt
+pub boxed_runs : (v w : ℕ) (opened : Option Opened) (options : Options) (stream : Stream) (r : Result Pass RunFault) → IfOk r (RunsBy (with_box Near w (with_box Far v opened)) options stream) → IfOk r (RunsBy opened options stream)
+boxed_runs v w opened options stream (Ok pass) k = same_runs (with_box Near w (with_box Far v opened)) opened options stream pass (boxed_state v w opened) (boxed_map v w options.keywords opened) k
+boxed_runs v w opened options stream (Err e) k = tt
 
 pub run_here : (opened now : Option Opened) (options : Options) (stream : Stream) (far near : Listing) (plan : Plan) (steps : List Step) (unfit : List (Side × ℕ)) → state_of now ≡ state_of opened → steps ≡ plan.steps → IsDrawn now stream far near options plan.steps → AreUnfit now far near options unfit → IsRun opened options stream steps unfit
 run_here opened now options stream far near plan steps unfit e s d u =

@@ -99,20 +99,20 @@ turned_open f None h side = h side
 turned_open f (Some o) h Far = h Far
 turned_open f (Some o) h Near = h Near
 
-pub both_open : (opened : Option Opened) → IsRead opened → AreOpen (with_box Near (with_box Far opened))
-both_open None h side = absurd h
-both_open (Some o) h Far = refl
-both_open (Some o) h Near = refl
+pub both_open : (v w : ℕ) (opened : Option Opened) → IsRead opened → AreOpen (with_box Near w (with_box Far v opened))
+both_open v w None h side = absurd h
+both_open v w (Some o) h Far = refl
+both_open v w (Some o) h Near = refl
 
-pub boxed_read : (side : Side) (opened : Option Opened) → IsRead opened → IsRead (with_box side opened)
-boxed_read side None h = h
-boxed_read Far (Some o) h = tt
-boxed_read Near (Some o) h = tt
+pub boxed_read : (side : Side) (v : ℕ) (opened : Option Opened) → IsRead opened → IsRead (with_box side v opened)
+boxed_read side v None h = h
+boxed_read Far v (Some o) h = tt
+boxed_read Near v (Some o) h = tt
 
-boxed_held : (side : Side) (opened : Option Opened) (d : Device) → IsHeld opened d → IsHeld (with_box side opened) d
-boxed_held side None d h = h
-boxed_held Far (Some o) d h = h
-boxed_held Near (Some o) d h = h
+boxed_held : (side : Side) (v : ℕ) (opened : Option Opened) (d : Device) → IsHeld opened d → IsHeld (with_box side v opened) d
+boxed_held side v None d h = h
+boxed_held Far v (Some o) d h = h
+boxed_held Near v (Some o) d h = h
 
 pub turned_state : (f : Pending → Pending) (opened : Option Opened) → state_of (turned f opened) ≡ state_of opened
 turned_state f None = refl
@@ -174,8 +174,8 @@ module _ {ours : List ℕ → Bool} {alone : Bool} (opening : Opening ours alone
   pub read_known : (opened : Option Opened) (d m d' : Device) → Underway opening d → Arrives ours alone d m → d' ≡ m → IsHeld opened m → ReadUnderway opening opened d'
   read_known opened d m d' u a is h = rw is (record { underway = underway_arrives opening d m a u; held = h })
 
-  pub opened_known : (side : Side) (opened now : Option Opened) (d m d' : Device) → now ≡ with_box side opened → ReadUnderway opening opened d → Arrives ours alone d m → d' ≡ m → ReadUnderway opening now d'
-  opened_known side opened now d m d' e k a is = rw (e, is) (let n = known_arrives opened d m a k in record { underway = n.underway; held = boxed_held side opened m n.held })
+  pub opened_known : (side : Side) (v : ℕ) (opened now : Option Opened) (d m d' : Device) → now ≡ with_box side v opened → ReadUnderway opening opened d → Arrives ours alone d m → d' ≡ m → ReadUnderway opening now d'
+  opened_known side v opened now d m d' e k a is = rw (e, is) (let n = known_arrives opened d m a k in record { underway = n.underway; held = boxed_held side v opened m n.held })
 
   -- ---- another journal
 

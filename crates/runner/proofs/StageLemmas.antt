@@ -1,14 +1,13 @@
 -- How the stages of a pass join, and what leads from one to another.
 use Rattle.std.proofs.Common.{◌≡◌, ◌∙◌, ◌≤◌, ◌+◌, ℕ, Option, Some, None, Result, Ok, Err, IfOk, OnOk, ap, sym, subst, arith}
 use Rattle.rand_core.specs.Stream.{Stream}
-use Rattle.mailcore.specs.declared.side.Side.TheVariants.{Far, Near}
 use Rattle.rules.specs.declared.options.Options.{Options}
 use Rattle.outside.specs.declared.outside.Outside.{Ghosts}
 use Rattle.book.specs.declared.book.Pending.{Pending}
 use Rattle.book.specs.declared.book.Pending.TheVariants.{Missing, Useless, Planned}
 use Rattle.book.specs.Books.{IsPlanned as HasPlanned}
 use Rattle.outside.specs.Devices.{Device}
-use Rattle.outside.specs.Opened.{IsHeld, IsRead, Opened, with_box}
+use Rattle.outside.specs.Opened.{IsHeld, IsRead, Opened}
 use Rattle.run_states.specs.Conditions.{Underway}
 use Rattle.run_states.specs.Openings.{IsIdle, Opening}
 use Rattle.runner.specs.declared.fault.RunFault.{RunFault}
@@ -24,7 +23,7 @@ use Rattle.runner.specs.Naming.{NamesBy}
 use Rattle.runner.specs.Parts.{Left, Never}
 use Rattle.runner.specs.PassStages.{DrawnStage, Frame, LeavesSkipped, Stage, StageAnswer}
 use Rattle.runner.specs.Results.{HasResults, Report}
-use Rattle.runner.specs.Validities.{LeavesBoxes}
+use Rattle.runner.specs.Validities.{LeavesBoxes, OpensBoth}
 use Rattle.runner.proofs.Finding.{boxed_plan, finds_from}
 use Rattle.runner.proofs.Naming.{names_from}
 use Rattle.runner.proofs.Passes.{boxed_answers}
@@ -131,7 +130,7 @@ module _ {O : Type 0} (o : Ghosts O) where
   runs_resumed opening options stream from old new (Err f) plan m a = tt
 
   -- a stage after both boxes were opened, by another opening that is the same
-  pub answer_after : (x y : Opening o.ours o.alone) (run : ℕ) (from start : Device → Type 0) (old mid new : O) (r : Result Pass RunFault) → (o.honest new → o.honest mid) → o.opened mid ≡ with_box Near (with_box Far (o.opened old))
+  pub answer_after : (x y : Opening o.ours o.alone) (run : ℕ) (from start : Device → Type 0) (old mid new : O) (r : Result Pass RunFault) → (o.honest new → o.honest mid) → OpensBoth (o.opened old) (o.opened mid)
       → (o.honest mid → FindsSame o.ours (o.seen old).device (o.seen mid).device) → (o.honest mid → (o.seen mid).device.named ≡ (o.seen old).device.named)
       → (o.honest new → start (o.seen old).device → from (o.seen mid).device × (x ≡ y)) → IfOk r (StageAnswer o x run from mid new) → IfOk r (StageAnswer o y run start old new)
   answer_after x y run from start old mid new (Ok pass) honest opened same named leads a =
@@ -139,9 +138,9 @@ module _ {O : Type 0} (o : Ghosts O) where
       let d0 = (o.seen old).device in
       let d1 = (o.seen mid).device in
       let d2 = (o.seen new).device in
-      let plan : plan_at (o.opened mid) ≡ plan_at before = ap plan_at opened ∙ boxed_plan before in
+      let plan : plan_at (o.opened mid) ≡ plan_at before = ap plan_at opened.opened ∙ boxed_plan opened.far opened.near before in
       record {
-        by_files = boxed_answers run before (Ok pass) (subst (λ (b : Option Opened). AnswersTo run b pass) opened a.by_files);
+        by_files = boxed_answers opened.far opened.near run before (Ok pass) (subst (λ (b : Option Opened). AnswersTo run b pass) opened.opened a.by_files);
         results = a.results;
         reported = λ h at. let l = leads h at in subst (λ (z : Opening o.ours o.alone). Report z (o.opened new) pass d2) l.1 (a.reported h l.0);
         found = finds_from o.ours before (o.opened mid) d0 d1 (Ok pass) (o.honest mid) (o.honest new) (from d1) (start d0) plan honest (λ h at. (leads h at).0) same a.found;

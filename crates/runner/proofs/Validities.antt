@@ -21,30 +21,29 @@ use Rattle.rules.specs.Outcome.{changed_side}
 use Rattle.outside.specs.BookCalls.{OfBook}
 use Rattle.outside.specs.BoxCalls.{Admits}
 use Rattle.outside.specs.Devices.{Device, box}
-use Rattle.outside.specs.Opened.{IsHeld, IsOpen, Opened, state_of, turned, with_box}
+use Rattle.outside.specs.Opened.{IsHeld, Opened, state_of, turned, with_box, with_listing}
 use Rattle.runner.specs.Before.{HasNoJournal, HasNoPlan}
 use Rattle.runner.specs.Answers.{as_read}
 use Rattle.runner.specs.ChangedMaps.{ReportsMap, ReportsOtherMap}
-use Rattle.runner.specs.Going.{AreOpen}
-use Rattle.runner.specs.Validities.{BothSame, HasChanged, HasOther, HasSame, HaveValidities, IsCompared, IsKept, IsOther, IsSame, KeepsValidities, ListsChanged, ReportsChange, ReportsChanged, ReportsOther, ReportsUnlessSame, after_run, named_after, plan_validity, recorded, recorded_in, state_validity}
+use Rattle.runner.specs.Validities.{BothSame, HasChanged, HasOther, HasSame, HaveValidities, AnswersChanged, AnswersOther, IsKept, IsOther, IsSame, KeepsValidities, ListsChanged, OpensBoth, OpensBox, ReportsChange, ReportsChanged, ReportsOther, ReportsUnlessSame, after_run, named_after, recorded, recorded_in}
 
 -- ---- which one is recorded
 
 -- an open box records no other
-boxed_recorded : (side at : Side) (opened : Option Opened) → recorded_in (with_box side opened) at ≡ recorded_in opened at
-boxed_recorded side at None = refl
-boxed_recorded Far at (Some o) = refl
-boxed_recorded Near at (Some o) = refl
+boxed_recorded : (side at : Side) (v : ℕ) (opened : Option Opened) → recorded_in (with_box side v opened) at ≡ recorded_in opened at
+boxed_recorded side at v None = refl
+boxed_recorded Far at v (Some o) = refl
+boxed_recorded Near at v (Some o) = refl
 
-pub boxed_same : (side at : Side) (opened : Option Opened) (d : Device) → HasSame (with_box side opened) at d → HasSame opened at d
-boxed_same side at opened d h = subst (λ (r : Option ℕ). IsSame r (box d at).validity) (boxed_recorded side at opened) h
+pub boxed_same : (side at : Side) (v : ℕ) (opened : Option Opened) (d : Device) → HasSame (with_box side v opened) at d → HasSame opened at d
+boxed_same side at v opened d h = subst (λ (r : Option ℕ). IsSame r (box d at).validity) (boxed_recorded side at v opened) h
 
-pub boxed_other : (side at : Side) (opened : Option Opened) (d : Device) → HasOther (with_box side opened) at d → HasOther opened at d
-boxed_other side at opened d h = subst (λ (r : Option ℕ). IsOther r (box d at).validity) (boxed_recorded side at opened) h
+pub boxed_other : (side at : Side) (v : ℕ) (opened : Option Opened) (d : Device) → HasOther (with_box side v opened) at d → HasOther opened at d
+boxed_other side at v opened d h = subst (λ (r : Option ℕ). IsOther r (box d at).validity) (boxed_recorded side at v opened) h
 
-pub same_boxed : (opened : Option Opened) (d : Device) → BothSame opened d → BothSame (with_box Near (with_box Far opened)) d
-same_boxed None d h = h
-same_boxed (Some o) d h = h
+pub same_boxed : (v w : ℕ) (opened : Option Opened) (d : Device) → BothSame opened d → BothSame (with_box Near w (with_box Far v opened)) d
+same_boxed v w None d h = h
+same_boxed v w (Some o) d h = h
 
 -- the box of a side has the recorded one, or another
 pub has_same : (opened : Option Opened) (side : Side) (d : Device) (before validity : ℕ) → recorded_in opened side ≡ Some before → validity ≡ (box d side).validity → before ≡ validity → HasSame opened side d
@@ -162,29 +161,77 @@ side_reported (Some o) s far near reported side is e changed =
     let here : o.state ≡ s = cc in
     subst (λ (x : SyncState). changed_side far near x ≡ Some side) (sym here) (changed ∙ ap (λ (x : Side). Some x) same)
 
--- ---- what was compared, on each outside
+-- ---- what was answered, on each outside
 
-pub compared_here : (side : Side) (opened now : Option Opened) (before : ℕ) → now ≡ with_box side opened → recorded_in opened side ≡ Some before → IsCompared now side
-compared_here side None now before e is = cc
-compared_here side (Some o) now before e is = subst (λ (x : Option Opened). IsCompared x side) (sym e) (record { is_open = by_side side; before = before; is_recorded = boxed_recorded side side (Some o) ∙ is })
+-- the answer is the recorded one, or another, or none is recorded
+pub same_as : (r : Option ℕ) (before validity : ℕ) → r ≡ Some before → before ≡ validity → IsSame r validity
+same_as r before validity is same = subst (λ (x : Option ℕ). IsSame x validity) (sym is) same
+
+pub any_as : (r : Option ℕ) (validity : ℕ) → r ≡ None → IsSame r validity
+any_as r validity is = subst (λ (x : Option ℕ). IsSame x validity) (sym is) tt
+
+pub other_as : (r : Option ℕ) (before validity : ℕ) → r ≡ Some before → (before ≡ validity → ⊥) → IsOther r validity
+other_as r before validity is other = subst (λ (x : Option ℕ). IsOther x validity) (sym is) other
+
+-- one box was opened after the other
+pub both_boxed : (opened mid now : Option Opened) (r : Result (Unit {0}) RunFault) → OpensBox IsSame Far opened mid → OnOk r (OpensBox IsSame Near mid now) → OnOk r (OpensBoth opened now)
+both_boxed opened mid now (Ok x) far near = record { far = far.validity; near = near.validity; opened = near.opened ∙ ap (λ (x : Option Opened). with_box Near near.validity x) far.opened }
+both_boxed opened mid now (Err f) far near = tt
+
+-- the box that was opened first
+pub far_answers : (opened now : Option Opened) (side : Side) → side ≡ Far → OpensBox IsOther Far opened now → AnswersChanged now side
+far_answers None now side is o = absurd o.compared
+far_answers (Some b) now side is o = subst (λ (s : Side). AnswersChanged now s) (sym is) (subst (λ (x : Option Opened). AnswersOther x Far) (sym o.opened) o.compared)
+
+-- the box that was opened after it
+pub near_answers : (opened mid now : Option Opened) (side : Side) → side ≡ Near → OpensBox IsSame Far opened mid → OpensBox IsOther Near mid now → AnswersChanged now side
+near_answers opened mid now side is far near = subst (λ (s : Side). AnswersChanged now s) (sym is) (subst (λ (x : Option Opened). AnswersChanged x Near) (sym near.opened)
+    (by_opened opened near.validity far.validity mid far.opened far.compared near.compared))
   where
-    by_side : (side : Side) → IsOpen side (with_box side (Some o))
-    by_side Far = refl
-    by_side Near = refl
+    by_opened : (opened : Option Opened) (w v : ℕ) (mid : Option Opened) → mid ≡ with_box Far v opened → IsSame (recorded_in opened Far) v → IsOther (recorded_in mid Near) w → AnswersChanged (with_box Near w mid) Near
+    by_opened None w v mid e same other = absurd (subst (λ (x : Option Opened). IsOther (recorded_in x Near) w) e other)
+    by_opened (Some b) w v mid e same other =
+        subst (λ (x : Option Opened). AnswersChanged (with_box Near w x) Near) (sym e) (same, subst (λ (x : Option Opened). IsOther (recorded_in x Near) w) e other)
 
 -- a listing that names another than the state
-pub compared_listed : (opened : Option Opened) (far near : Listing) (side : Side) → AreOpen opened → ListsChanged opened far near side → IsCompared opened side
-compared_listed None far near side are reported = absurd reported
-compared_listed (Some o) far near side are reported = let r = by_pending o.pending (after_one o.state.run far.validity o.state.far_validity near.validity o.state.near_validity (state_validity o.state side) reported) in record { is_open = are side; before = r.0; is_recorded = r.1 }
-  where
-    after_one : (run f g n m validity : ℕ) → (if run == 0 then None else if not (f == g) then Some Far else if not (n == m) then Some Near else None) ≡ Some side → named_after run validity ≡ Some validity
-    after_one zero f g n m validity reported = cc
-    after_one (suc run) f g n m validity reported = grind (arith, common_steps)
+abbrev first_changed : (run f g n m : ℕ) → Option Side
+first_changed run f g n m = if run == 0 then None else if not (f == g) then Some Far else if not (n == m) then Some Near else None
 
-    by_pending : (p : Pending) → after_run o.state side ≡ Some (state_validity o.state side) → (before : ℕ) × (recorded o.state p side ≡ Some before)
-    by_pending Missing e = (state_validity o.state side, e)
-    by_pending Useless e = (state_validity o.state side, e)
-    by_pending (Planned written) e = (plan_validity written.journal.plan side, refl)
+some_run : (run f g n m validity : ℕ) (side : Side) → first_changed run f g n m ≡ Some side → named_after run validity ≡ Some validity
+some_run zero f g n m validity side changed = cc
+some_run (suc run) f g n m validity side changed = grind (arith, common_steps)
+
+far_differs : (run f g n m : ℕ) → first_changed run f g n m ≡ Some Far → g ≡ f → ⊥
+far_differs zero f g n m changed e = cc
+far_differs (suc run) f g n m changed e = grind (arith, common_steps)
+
+far_agrees : (run f g n m : ℕ) → first_changed run f g n m ≡ Some Near → g ≡ f
+far_agrees zero f g n m changed = cc
+far_agrees (suc run) f g n m changed = grind (arith, common_steps)
+
+near_differs : (run f g n m : ℕ) → first_changed run f g n m ≡ Some Near → m ≡ n → ⊥
+near_differs zero f g n m changed e = cc
+near_differs (suc run) f g n m changed e = grind (arith, common_steps)
+
+pub listed_answers : (opened : Option Opened) (far near : Listing) (x y : Device) (side : Side) → HasNoJournal opened → ListsChanged opened far near side
+    → AnswersChanged (with_listing Near near.validity y (with_listing Far far.validity x opened)) side
+listed_answers None far near x y side none changed = absurd changed
+listed_answers (Some o) far near x y Far none changed =
+    let r = o.state.run in
+    let f = far.validity in
+    let g = o.state.far_validity in
+    let n = near.validity in
+    let m = o.state.near_validity in
+    subst (λ (p : Pending). IsOther (recorded o.state p Far) f) (sym none) (other_as (named_after r g) g f (some_run r f g n m g Far changed) (far_differs r f g n m changed))
+listed_answers (Some o) far near x y Near none changed =
+    let r = o.state.run in
+    let f = far.validity in
+    let g = o.state.far_validity in
+    let n = near.validity in
+    let m = o.state.near_validity in (
+      subst (λ (p : Pending). IsSame (recorded o.state p Far) f) (sym none) (same_as (named_after r g) g f (some_run r f g n m g Near changed) (far_agrees r f g n m changed)),
+      subst (λ (p : Pending). IsOther (recorded o.state p Near) n) (sym none) (other_as (named_after r m) m n (some_run r f g n m m Near changed) (near_differs r f g n m changed)),
+    )
 
 -- ---- what is reported
 
@@ -192,22 +239,22 @@ pub far_reported : (honest : Type 0) (alone : Bool) (opened : Option Opened) (a 
 far_reported honest alone opened a b side reported = λ h. let t = reported.1 h in (rw reported.0 t.0, t.1)
 
 -- the far box has the recorded one, and the near one has not
-pub near_reported : (h0 h1 : Type 0) (alone : Bool) (opened now : Option Opened) (a b c : Device) (side : Side) → (h1 → h0) → now ≡ with_box Far opened → (h0 → HasSame opened Far b × IsKept alone a b) → ReportsOther h1 alone now Near b c side → ReportsChange h1 alone opened a c side
-near_reported h0 h1 alone opened now a b c side honest e before reported = λ h.
+pub near_reported : (h0 h1 : Type 0) (alone : Bool) (v : ℕ) (opened now : Option Opened) (a b c : Device) (side : Side) → (h1 → h0) → now ≡ with_box Far v opened → (h0 → HasSame opened Far b × IsKept alone a b) → ReportsOther h1 alone now Near b c side → ReportsChange h1 alone opened a c side
+near_reported h0 h1 alone v opened now a b c side honest e before reported = λ h.
     let p = before (honest h) in
     let q = reported.1 h in
     let k = p.1 in
-    let other : HasOther (with_box Far opened) Near b = subst (λ (x : Option Opened). HasOther x Near b) e q.0 in
-    (rw reported.0 (same_before opened Far a b k.validities p.0, other_before opened Near a b k.validities (boxed_other Far Near opened b other)), kept_next alone a b c k q.1)
+    let other : HasOther (with_box Far v opened) Near b = subst (λ (x : Option Opened). HasOther x Near b) e q.0 in
+    (rw reported.0 (same_before opened Far a b k.validities p.0, other_before opened Near a b k.validities (boxed_other Far Near v opened b other)), kept_next alone a b c k q.1)
 
-pub both_opened : (h0 h1 : Type 0) (alone : Bool) (opened now : Option Opened) (a b c : Device) (r : Result (Unit {0}) RunFault) → (h1 → h0) → now ≡ with_box Far opened → (h0 → HasSame opened Far b × IsKept alone a b) → OnOk r (h1 → HasSame now Near c × IsKept alone b c) → OnOk r (h1 → BothSame opened c × IsKept alone a c)
-both_opened h0 h1 alone opened now a b c (Ok x) honest e before here = λ h.
+pub both_opened : (h0 h1 : Type 0) (alone : Bool) (v : ℕ) (opened now : Option Opened) (a b c : Device) (r : Result (Unit {0}) RunFault) → (h1 → h0) → now ≡ with_box Far v opened → (h0 → HasSame opened Far b × IsKept alone a b) → OnOk r (h1 → HasSame now Near c × IsKept alone b c) → OnOk r (h1 → BothSame opened c × IsKept alone a c)
+both_opened h0 h1 alone v opened now a b c (Ok x) honest e before here = λ h.
     let p = before (honest h) in
     let q = here h in
     let k = q.1 in
-    let same : HasSame (with_box Far opened) Near c = subst (λ (x : Option Opened). HasSame x Near c) e q.0 in
-    ((same_kept opened Far b c k.validities p.0, boxed_same Far Near opened c same), kept_next alone a b c p.1 k)
-both_opened h0 h1 alone opened now a b c (Err f) honest e before here = tt
+    let same : HasSame (with_box Far v opened) Near c = subst (λ (x : Option Opened). HasSame x Near c) e q.0 in
+    ((same_kept opened Far b c k.validities p.0, boxed_same Far Near v opened c same), kept_next alone a b c p.1 k)
+both_opened h0 h1 alone v opened now a b c (Err f) honest e before here = tt
 
 -- a plan is not refused so where both boxes have what is recorded
 pub unless_same : (h0 h2 : Type 0) (opened now : Option Opened) (far near : Listing) (side : Side) (a b : Device) → now ≡ turned (λ _. Missing) opened → HasNoPlan opened → (h2 → h0) → (h0 → KeepsValidities a b) → (h2 → HaveValidities far near b) → ListsChanged now far near side → ReportsUnlessSame h2 opened a side
@@ -218,11 +265,11 @@ unless_same h0 h2 opened now far near side a b e none honest keeps have reported
     let both : HaveValidities far near a = record { far_is = v.far_is ∙ k.far; near_is = v.near_is ∙ k.near } in
     lists_same (turned (λ _. Missing) opened) far near side a (missing_here opened none) at both (subst (λ (x : Option Opened). ListsChanged x far near side) e reported)
 
-pub same_reported : (h0 h1 : Type 0) (alone : Bool) (opened now : Option Opened) (a b c : Device) (side : Side) → (h1 → h0) → now ≡ with_box Near (with_box Far opened) → (h0 → BothSame opened b × IsKept alone a b) → ReportsUnlessSame h1 now b side → ReportsChange h1 alone opened a c side
+pub same_reported : (h0 h1 : Type 0) (alone : Bool) (opened now : Option Opened) (a b c : Device) (side : Side) → (h1 → h0) → OpensBoth opened now → (h0 → BothSame opened b × IsKept alone a b) → ReportsUnlessSame h1 now b side → ReportsChange h1 alone opened a c side
 same_reported h0 h1 alone opened now a b c side honest e before reported = λ h.
     let p = before (honest h) in
     let q = p.0 in
-    let at : BothSame now b = subst (λ (x : Option Opened). BothSame x b) (sym e) (same_boxed opened b q) in
+    let at : BothSame now b = subst (λ (x : Option Opened). BothSame x b) (sym e.opened) (same_boxed e.far e.near opened b q) in
     absurd (reported h at)
 
 -- by the files that were read

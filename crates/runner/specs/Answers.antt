@@ -1,5 +1,5 @@
 -- What a run answers, and where it leads.
-use Rattle.std.specs.Prelude.{◌≡◌, ◌≢◌, ◌≤◌, ◌<◌, ◌+◌, ◌^◌, All, AllPairs, ℕ, Bool, true, false, List, [], drop, length, Option, None, Some}
+use Rattle.std.specs.Prelude.{◌≡◌, ◌≢◌, ◌≤◌, ◌<◌, ◌+◌, ◌^◌, All, AllPairs, ℕ, Bool, true, List, [], drop, length, Option, None, Some}
 use Rattle.rand_core.specs.Stream.{Stream}
 use Rattle.mailcore.specs.declared.side.Side.{Side}
 use Rattle.mailcore.specs.declared.listing.Listing.{Listing}
@@ -114,7 +114,7 @@ IsRestOf (Some o) performed = IsRest o.pending performed
 
 -- what is read of files that hold this
 abbrev pub as_read : SyncState → Pending → Option Opened
-as_read s p = Some (record { state = s; pending = p; far = false; near = false; listed = [] })
+as_read s p = Some (record { state = s; pending = p; far = None; near = None; listed = [] })
 
 abbrev pub run_of : Option Opened → ℕ
 run_of None = 0

@@ -17,7 +17,7 @@ use Rattle.runner.specs.Naming.{NamesAt}
 use Rattle.runner.specs.Parts.{IsStuck, RunPart}
 use Rattle.runner.specs.PassStages.{Frame}
 use Rattle.runner.specs.Results.{HasResults, Report}
-use Rattle.runner.specs.Validities.{IsCompared, ReportsChanged}
+use Rattle.runner.specs.Validities.{AnswersChanged, ReportsChanged}
 
 module _ {O : Type 0} (o : Ghosts O) (opening : Opening o.ours o.alone) where
   -- What is said of an answer, by the files that the attempt found. If it began with the run still to do: the report, which copies were
@@ -43,7 +43,7 @@ module _ {O : Type 0} (o : Ghosts O) (opening : Opening o.ours o.alone) where
       let d = (o.seen old).device in
       let d' = (o.seen new).device in
       or_unread (ReportsUnread h d') (or_greatest (ReportsLastRun now h d') (or_beyond (IsRead now × (h → IsReached fixed d.files → ⊥))
-      (or_keywords (ReportsOtherMap now h o.alone options.keywords d d') (because (λ side. ReportsChanged h o.alone d d' side × IsCompared now side) (HasRepeats opening now h (AttemptStart opening options stream fixed d) options stream)))))
+      (or_keywords (ReportsOtherMap now h o.alone options.keywords d d') (because (λ side. ReportsChanged h o.alone d d' side × AnswersChanged now side) (HasRepeats opening now h (AttemptStart opening options stream fixed d) options stream)))))
 
   -- An attempt, between two numbers of the run, where one is fixed, and two places of the generator. If it succeeds, the run is over. After
   -- an error it is still to do. On an outside that had failed before, it stops.

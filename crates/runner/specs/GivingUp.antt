@@ -11,14 +11,15 @@ use Rattle.sync_state.specs.declared.journal.Logged.TheVariants.{Copied}
 use Rattle.sync_state.specs.declared.journal.WrittenJournal.{WrittenJournal}
 use Rattle.book.specs.declared.book.Pending.{Pending}
 use Rattle.book.specs.declared.book.Pending.TheVariants.{Missing, Planned}
-use Rattle.book.specs.Books.{Holds}
 use Rattle.book.specs.BookLogs.{with_logged}
 use Rattle.book.specs.GivingUp.{GivesUp}
 use Rattle.book.specs.LostSides.{Lost}
 use Rattle.outside.specs.Calls.{Seen}
 use Rattle.outside.specs.Devices.{Device}
 use Rattle.outside.specs.GoingOn.{Continues}
-use Rattle.outside.specs.Opened.{Opened, journal_of, state_of}
+use Rattle.book.specs.Books.{Holds, mended}
+use Rattle.mailcore.specs.declared.side.Side.TheVariants.{Far, Near}
+use Rattle.outside.specs.Opened.{Opened, journal_of, state_of, turned, with_box}
 use Rattle.run_states.specs.Openings.{IsIdle}
 use Rattle.run_states.specs.Plans.{next_of}
 use Rattle.runner.specs.declared.fault.RunFault.{RunFault}
@@ -26,7 +27,7 @@ use Rattle.runner.specs.Faults.{Reasons, ReportsUnread, because, or_refused, or_
 use Rattle.runner.specs.Finding.{FindsSame, copy_at}
 use Rattle.runner.specs.HalfEntries.{lost_at, lost_between, removes_some}
 use Rattle.runner.specs.Parts.{PartOr, Never}
-use Rattle.runner.specs.Validities.{ReportsChanged}
+use Rattle.runner.specs.Validities.{AnswersChanged, ReportsChanged}
 
 -- Both mailboxes are as they were, but for what others added: no call has named a message, and under a mark that nobody else writes the
 -- same copies stand there.
@@ -161,6 +162,12 @@ pub record LosesBy (ours : List ℕ → Bool) (alone : Bool) (opened : Option Op
 abbrev pub RemovesSome : Option Opened → Bool → Type 0
 RemovesSome opened removes = (j : Journal) → journal_of opened ≡ Some j → removes ≡ removes_some j
 
+-- both boxes were opened, and no torn line stands after the plan
+pub record IsReady (old new : Option Opened) : Type 0 where
+  pub far : ℕ
+  pub near : ℕ
+  pub opened : new ≡ turned mended (with_box Near near (with_box Far far old))
+
 -- ---- why giving up may report a fault, and what it counts
 
 abbrev pub Nowhere : Device → Type 0
@@ -179,7 +186,9 @@ abbrev pub ReportsNext : (honest : Type 0) → Device → (step : ℕ) → Type 
 ReportsNext honest d step = honest → (s : SyncState) (w : WrittenJournal) → Holds d.files s (Planned w) → step ≡ length w.journal.log + 1
 
 -- Why giving up may report a fault: `ValidityChanged` comes only where that side's UIDVALIDITY is not the plan's, far before near, and
--- nothing has changed then; a line of the state or the journal only where the files that stand there hold no book, but line 0 of the state,
--- which the outside has reported last, of a copy whose UID is taken; and a refusal only of the step after the logged ones.
-abbrev pub giving_up_reasons : (honest : Type 0) → (alone : Bool) → (old new : Device) → Reasons
-giving_up_reasons honest alone old new = or_unread (ReportsUnread honest new) (or_refused (ReportsNext honest old) (because (ReportsChanged honest alone old new) ⊥))
+-- nothing has changed then; on each outside, only where opening its box answered another than the plan's; a line of the state or the
+-- journal only where the files that stand there hold no book, but line 0 of the state, which the outside has reported last, of a copy
+-- whose UID is taken; and a refusal only of the step after the logged ones.
+abbrev pub giving_up_reasons : (now : Option Opened) → (honest : Type 0) → (alone : Bool) → (old new : Device) → Reasons
+giving_up_reasons now honest alone old new =
+    or_unread (ReportsUnread honest new) (or_refused (ReportsNext honest old) (because (λ side. ReportsChanged honest alone old new side × AnswersChanged now side) ⊥))

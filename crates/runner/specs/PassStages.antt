@@ -22,7 +22,7 @@ use Rattle.runner.specs.Going.{AreOpen, BeforeStep, IsGoing, log_at, plan_at}
 use Rattle.runner.specs.Naming.{NamesBy}
 use Rattle.runner.specs.Parts.{RunPart}
 use Rattle.runner.specs.Results.{EndsBy, HasResults, Report}
-use Rattle.runner.specs.Validities.{IsCompared, LeavesBoxes, ReportsChange, ReportsUnlessSame}
+use Rattle.runner.specs.Validities.{AnswersChanged, LeavesBoxes, ReportsChange, ReportsUnlessSame}
 
 module _ {O : Type 0} (o : Ghosts O) where
   -- ---- what each call keeps
@@ -36,14 +36,14 @@ module _ {O : Type 0} (o : Ghosts O) where
 
   -- that a listing names another UIDVALIDITY than the state, which it does not where both mailboxes have the recorded one
   abbrev pub plan_reasons : (old new : O) → Reasons
-  plan_reasons old new = because (λ side. ReportsUnlessSame (o.honest new) (o.opened old) (o.seen old).device side × IsCompared (o.opened new) side) ⊥
+  plan_reasons old new = because (λ side. ReportsUnlessSame (o.honest new) (o.opened old) (o.seen old).device side × AnswersChanged (o.opened new) side) ⊥
 
   -- that a UIDVALIDITY has changed, or that a plan goes by another map, once the shelf was read; nothing else has changed then
   abbrev pub read_reasons : List Keyword → (old new : O) → Reasons
   read_reasons keywords old new =
       let d = (o.seen old).device in
       let d' = (o.seen new).device in
-      or_keywords (ReportsMap (o.honest new) o.alone (o.opened old) (o.opened new) keywords d d') (because (λ side. ReportsChange (o.honest new) o.alone (o.opened old) d d' side × IsCompared (o.opened new) side) ⊥)
+      or_keywords (ReportsMap (o.honest new) o.alone (o.opened old) (o.opened new) keywords d d') (because (λ side. ReportsChange (o.honest new) o.alone (o.opened old) d d' side × AnswersChanged (o.opened new) side) ⊥)
 
   -- that, or that the run is beyond the next one
   abbrev pub run_reasons : (run : ℕ) → List Keyword → (old new : O) → Reasons

@@ -18,7 +18,7 @@ use Rattle.runner.specs.ChangedMaps.{ReportsOtherMap}
 use Rattle.runner.specs.Finding.{FindsAt}
 use Rattle.runner.specs.Naming.{NamesAt, OthersStand}
 use Rattle.runner.specs.Results.{Report}
-use Rattle.runner.specs.Validities.{IsCompared, LeavesBoxes, ReportsChanged}
+use Rattle.runner.specs.Validities.{AnswersChanged, LeavesBoxes, ReportsChanged}
 
 -- Of a run that was underway. The steps reported are those of the plan of the world that the run is over for, in order: all of them, or the
 -- last where the plan was pending; each new message is reported with the UID of a copy; the messages that were skipped are those of the
@@ -43,9 +43,9 @@ pub record LeavesMade (honest : Type 0) (alone : Bool) (old new : Device) : Type
 -- `MarksRepeat` only where the generator's draws do, before there is a mark for each new message of some world since the opening; a line of
 -- the state or the journal only where the outside has reported it last, and the files that stand there hold no book, but line 0 of the
 -- state: where the run is beyond the next one, or the outside has reported it last. That a run is beyond the next one, and that a plan goes
--- by another map, is so of what was read on each outside; and on each `ValidityChanged` comes only for a box that was opened and has a
--- recorded UIDVALIDITY: never in a first run.
+-- by another map, is so of what was read on each outside; and on each `ValidityChanged` comes only for the first box, far before near,
+-- that has answered another UIDVALIDITY than is recorded for it, when it was opened or listed: never in a first run.
 abbrev pub pass_reasons : (now : Option Opened) → (honest : Type 0) → {ours : List ℕ → Bool} {alone : Bool} → Opening ours alone → (run : ℕ) → Options → Stream → (old new : Device) → Reasons
 pass_reasons now honest {ours} {alone} opening run options stream old new =
     or_unread (ReportsUnread honest new) (or_beyond (ReportsBeyond now honest run old) (or_keywords (ReportsOtherMap now honest alone options.keywords old new)
-    (because (λ side. ReportsChanged honest alone old new side × IsCompared now side) (HasRepeats opening now honest (PassStart opening run options stream old) options stream))))
+    (because (λ side. ReportsChanged honest alone old new side × AnswersChanged now side) (HasRepeats opening now honest (PassStart opening run options stream old) options stream))))

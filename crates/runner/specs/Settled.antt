@@ -24,7 +24,7 @@ use Rattle.runner.specs.Finding.{FindsAt}
 use Rattle.runner.specs.Maps.{HasOtherMapIn}
 use Rattle.runner.specs.Naming.{NamesAt, OthersStand}
 use Rattle.runner.specs.Results.{Report}
-use Rattle.runner.specs.Validities.{IsCompared}
+use Rattle.runner.specs.Validities.{AnswersChanged}
 
 -- An answer. The run is over; where nobody else adds messages, both mailboxes and the state are alike to the outcome that the rules name
 -- for the opening. What is reported is what the last attempt answered: by the files of the device on which it began, the run was made
@@ -54,15 +54,15 @@ pub record IsUnsettled {ours : List ℕ → Bool} {alone : Bool} (opening : Open
   pub refused : (step : ℕ) → fault ≡ run.Refused step → RefusedAt step new.device
 
 -- Why several attempts report a fault that is no stop. A step is reported as refused only where it is the next one of the plan that is
--- pending then. A UIDVALIDITY is reported as changed only of a box that was opened, and for which one is recorded. Marks repeat only where
--- the draws of an attempt do, and the map of keywords has changed only where the plan that was read goes by another one. A line of the
--- state or the journal is reported only where the outside has reported it last, and the files that stand there hold no book from it on, but
--- line 2 of the state, where the state that was read has the greatest run, and line 0: of a copy whose UID is taken, or of a state that was
--- read and is not the one before the run, which no outside shows that behaves as specified.
+-- pending then. A UIDVALIDITY is reported as changed only of the first box that has answered another than is recorded for it. Marks repeat
+-- only where the draws of an attempt do, and the map of keywords has changed only where the plan that was read goes by another one. A line
+-- of the state or the journal is reported only where the outside has reported it last, and the files that stand there hold no book from it
+-- on, but line 2 of the state, where the state that was read has the greatest run, and line 0: of a copy whose UID is taken, or of a state
+-- that was read and is not the one before the run, which no outside shows that behaves as specified.
 abbrev pub settle_reasons : (now : Option Opened) → (honest : Type 0) → {ours : List ℕ → Bool} {alone : Bool} → Opening ours alone → Options → (stream after : Stream) → (old new : Device) → Reasons
 settle_reasons now honest {ours} {alone} opening options stream after old new =
     or_unread (ReportsUnread honest new) (or_greatest (ReportsLastRun now honest new) (or_refused (IsNextOf now) (or_beyond (IsRead now × (honest → ⊥))
-    (or_keywords (HasOtherMapIn options.keywords now × (honest → HoldsOtherMap options.keywords new)) (because (IsCompared now) (HaveRepeated honest opening now options stream after old))))))
+    (or_keywords (HasOtherMapIn options.keywords now × (honest → HoldsOtherMap options.keywords new)) (because (AnswersChanged now) (HaveRepeated honest opening now options stream after old))))))
 
 -- a fault that is no stop has its reason; a refusal or a fault of a box is the last that was reported, unless it is that of a copy that was
 -- lost

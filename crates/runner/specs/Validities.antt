@@ -1,5 +1,5 @@
 -- The UIDVALIDITY of a side that a run goes by, and when it is reported to have changed.
-use Rattle.std.specs.Prelude.{◌≡◌, ◌≢◌, ◌==◌, if◌then◌else◌, ℕ, Bool, true, Option, None, Some}
+use Rattle.std.specs.Prelude.{◌≡◌, ◌≢◌, ◌==◌, if◌then◌else◌, ℕ, Bool, true, IsSomeAnd, Option, None, Some}
 use Rattle.mailcore.specs.declared.side.Side.{Side}
 use Rattle.mailcore.specs.declared.side.Side.TheVariants.{Far, Near}
 use Rattle.mailcore.specs.declared.listing.Listing.{Listing}
@@ -10,7 +10,7 @@ use Rattle.book.specs.declared.book.Pending.{Pending}
 use Rattle.book.specs.declared.book.Pending.TheVariants.{Missing, Useless, Planned}
 use Rattle.book.specs.Books.{Holds}
 use Rattle.outside.specs.Devices.{Device, box}
-use Rattle.outside.specs.Opened.{IsOpen, Opened}
+use Rattle.outside.specs.Opened.{Opened, with_box}
 use Rattle.runner.specs.Answers.{as_read}
 
 -- ---- which one is recorded
@@ -40,6 +40,12 @@ abbrev pub recorded_in : Option Opened → Side → Option ℕ
 recorded_in None side = None
 recorded_in (Some o) side = recorded o.state o.pending side
 
+-- the UIDVALIDITY that this side's box has answered last, if it is open
+abbrev pub answered_in : Option Opened → Side → Option ℕ
+answered_in None side = None
+answered_in (Some o) Far = o.far
+answered_in (Some o) Near = o.near
+
 -- ---- whether a mailbox has it
 
 abbrev pub IsSame : Option ℕ → (validity : ℕ) → Type 0
@@ -64,6 +70,31 @@ BothSame opened d = HasSame opened Far d × HasSame opened Near d
 abbrev pub HasChanged : Option Opened → Side → Device → Type 0
 HasChanged opened Far d = HasOther opened Far d
 HasChanged opened Near d = HasSame opened Far d × HasOther opened Near d
+
+-- on each outside: this side's box has answered it
+abbrev pub AnswersSame : Option Opened → Side → Type 0
+AnswersSame now side = IsSomeAnd (answered_in now side) (IsSame (recorded_in now side))
+
+-- or another one
+abbrev pub AnswersOther : Option Opened → Side → Type 0
+AnswersOther now side = IsSomeAnd (answered_in now side) (IsOther (recorded_in now side))
+
+-- this side's box is the first that has answered another, far before near
+abbrev pub AnswersChanged : Option Opened → Side → Type 0
+AnswersChanged now Far = AnswersOther now Far
+AnswersChanged now Near = AnswersSame now Far × AnswersOther now Near
+
+-- this box was opened, and what it answered is so to the recorded one
+pub record OpensBox (is : Option ℕ → (validity : ℕ) → Type 0) (side : Side) (old new : Option Opened) : Type 0 where
+  pub validity : ℕ
+  pub opened : new ≡ with_box side validity old
+  pub compared : is (recorded_in old side) validity
+
+-- both boxes were opened
+pub record OpensBoth (old new : Option Opened) : Type 0 where
+  pub far : ℕ
+  pub near : ℕ
+  pub opened : new ≡ with_box Near near (with_box Far far old)
 
 -- both listings name those of the mailboxes
 pub record HaveValidities (far near : Listing) (d : Device) : Type 0 where
@@ -94,12 +125,6 @@ abbrev pub LeavesBoxes : (honest : Type 0) → (alone : Bool) → (d d' : Device
 LeavesBoxes honest alone d d' = honest → (d'.named ≡ d.named) × (alone ≡ true → (d'.far ≡ d.far) × (d'.near ≡ d.near))
 
 -- ---- when a change is reported
-
--- On each outside: this side's box was opened, and one is recorded for it, so that it was compared.
-pub record IsCompared (now : Option Opened) (side : Side) : Type 0 where
-  pub is_open : IsOpen side now
-  pub before : ℕ
-  pub is_recorded : recorded_in now side ≡ Some before
 
 -- only where this side has changed, and nothing else has
 abbrev pub ReportsChange : (honest : Type 0) → (alone : Bool) → Option Opened → (d d' : Device) → Side → Type 0

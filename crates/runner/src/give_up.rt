@@ -11,15 +11,15 @@ ghost use Rattle.book.specs.Books.{Holds, mended};
 ghost use Rattle.book.specs.BookLogs.{logged_more};
 ghost use Rattle.book.specs.LostSides.{AreRising};
 ghost use Rattle.outside.specs.Devices.{box};
-ghost use Rattle.outside.specs.Opened.{IsBook, IsHeld, journal_in, turned, with_box};
+ghost use Rattle.outside.specs.Opened.{IsBook, IsHeld, journal_in, turned};
 ghost use Rattle.run_states.specs.Openings.{IsIdle};
 ghost use Rattle.run_states.specs.Plans.{first_uid as first_of};
 ghost use Rattle.runner.specs.Before.{HasPlan};
 ghost use Rattle.runner.specs.Faults.{ReportsUnread, because, or_refused, or_unread};
-ghost use Rattle.runner.specs.GivingUp.{Counted, GivesUpRead, GivesUpSo, HoldsLeft, HoldsLeftOf, InLook, KeepsAll, KeepsBoxes, LeavesRead, NotesCopy, StillPending, giving_up_reasons};
+ghost use Rattle.runner.specs.GivingUp.{Counted, GivesUpRead, GivesUpSo, HoldsLeft, HoldsLeftOf, InLook, IsReady, KeepsAll, KeepsBoxes, LeavesRead, NotesCopy, StillPending, giving_up_reasons};
 ghost use Rattle.runner.specs.Going.{AreOpen, CopiesUnder, FitsNext, IsGoing, next_at, number_at, plan_at};
 ghost use Rattle.runner.specs.Parts.{IsStuck, Never};
-ghost use Rattle.runner.specs.Validities.{BothSame, HasSame, IsKept, ReportsChange, ReportsOther};
+ghost use Rattle.runner.specs.Validities.{AnswersChanged, BothSame, HasSame, IsKept, IsOther, IsSame, OpensBoth, OpensBox, ReportsChange, ReportsOther};
 
 use crate::fault::{RunFault, call_fault, step_fault};
 use crate::half_entries::lost_sides;
@@ -56,12 +56,12 @@ fn open_same<O: Outside>(outside: &mut O, side: Side) -> Result<(), RunFault>
     requires plan { HasPlan (O.opened outside.old) }
     ensures was_honest { O.honest outside.new → O.honest outside.old }
     ensures keywords { O.keywords outside.new ≡ O.keywords outside.old }
-    ensures opened { OnOk result (O.opened outside.new ≡ with_box side (O.opened outside.old)) }
+    ensures opened { OnOk result (OpensBox IsSame side (O.opened outside.old) (O.opened outside.new)) }
     ensures same { OnOk result (O.honest outside.new → HasSame (O.opened outside.old) side (O.seen outside.new).device × IsKept O.alone
         (O.seen outside.old).device (O.seen outside.new).device) }
     ensures kept { O.honest outside.new → KeepsAll O.ours O.alone (O.seen outside.old).device (O.seen outside.new).device }
-    ensures counted { Counted (because (ReportsOther (O.honest outside.new) O.alone (O.opened outside.old) side (O.seen outside.old).device
-        (O.seen outside.new).device) ⊥) (O.honest outside.new) (O.seen outside.old) (O.seen outside.new) result }
+    ensures counted { Counted (because (λ at. ReportsOther (O.honest outside.new) O.alone (O.opened outside.old) side (O.seen outside.old).device
+        (O.seen outside.new).device at × OpensBox IsOther side (O.opened outside.old) (O.opened outside.new)) ⊥) (O.honest outside.new) (O.seen outside.old) (O.seen outside.new) result }
 {
     let recorded = recorded_validity(outside, side);
     match outside.open_box(side) {
@@ -270,12 +270,12 @@ fn open_both<O: Outside>(outside: &mut O) -> Result<(), RunFault>
     requires plan { HasPlan (O.opened outside.old) }
     ensures was_honest { O.honest outside.new → O.honest outside.old }
     ensures keywords { O.keywords outside.new ≡ O.keywords outside.old }
-    ensures opened { OnOk result (O.opened outside.new ≡ with_box Side.Near (with_box Side.Far (O.opened outside.old))) }
+    ensures opened { OnOk result (OpensBoth (O.opened outside.old) (O.opened outside.new)) }
     ensures same { OnOk result (O.honest outside.new → BothSame (O.opened outside.old) (O.seen outside.new).device × IsKept O.alone
         (O.seen outside.old).device (O.seen outside.new).device) }
     ensures kept { O.honest outside.new → KeepsAll O.ours O.alone (O.seen outside.old).device (O.seen outside.new).device }
-    ensures counted { Counted (because (ReportsChange (O.honest outside.new) O.alone (O.opened outside.old) (O.seen outside.old).device
-        (O.seen outside.new).device) ⊥) (O.honest outside.new) (O.seen outside.old) (O.seen outside.new) result }
+    ensures counted { Counted (because (λ at. ReportsChange (O.honest outside.new) O.alone (O.opened outside.old) (O.seen outside.old).device
+        (O.seen outside.new).device at × AnswersChanged (O.opened outside.new) at) ⊥) (O.honest outside.new) (O.seen outside.old) (O.seen outside.new) result }
 {
     open_same(outside, Side::Far)?;
     open_same(outside, Side::Near)
@@ -286,15 +286,15 @@ fn get_ready<O: Outside>(outside: &mut O) -> Result<(), RunFault>
     requires plan { HasPlan (O.opened outside.old) }
     ensures was_honest { O.honest outside.new → O.honest outside.old }
     ensures keywords { O.keywords outside.new ≡ O.keywords outside.old }
-    ensures opened { OnOk result (O.opened outside.new ≡ turned mended (with_box Side.Near (with_box Side.Far (O.opened outside.old)))) }
+    ensures opened { OnOk result (IsReady (O.opened outside.old) (O.opened outside.new)) }
     ensures same { OnOk result (O.honest outside.new → BothSame (O.opened outside.old) (O.seen outside.new).device) }
     ensures held { OnOk result (O.honest outside.new → IsHeld (O.opened outside.old) (O.seen outside.old).device
         → IsHeld (O.opened outside.new) (O.seen outside.new).device) }
     ensures left { OnErr result (O.honest outside.new → IsHeld (O.opened outside.old) (O.seen outside.old).device
         → StillPending (O.opened outside.old) (O.seen outside.new).device) }
     ensures boxes { O.honest outside.new → KeepsBoxes O.ours O.alone (O.seen outside.old).device (O.seen outside.new).device }
-    ensures counted { Counted (because (ReportsChange (O.honest outside.new) O.alone (O.opened outside.old) (O.seen outside.old).device
-        (O.seen outside.new).device) ⊥) (O.honest outside.new) (O.seen outside.old) (O.seen outside.new) result }
+    ensures counted { Counted (because (λ at. ReportsChange (O.honest outside.new) O.alone (O.opened outside.old) (O.seen outside.old).device
+        (O.seen outside.new).device at × AnswersChanged (O.opened outside.new) at) ⊥) (O.honest outside.new) (O.seen outside.old) (O.seen outside.new) result }
 {
     open_both(outside)?;
     mend_plan(outside)
@@ -326,8 +326,9 @@ fn leave_plan<O: Outside>(alloc: Global, outside: &mut O) -> Result<bool, RunFau
     ensures gives_up { O.honest outside.new → IsHeld (O.opened outside.old) (O.seen outside.old).device
         → GivesUpRead O.ours O.alone (O.opened outside.old) (O.seen outside.old).device (O.seen outside.new).device result }
     ensures boxes { O.honest outside.new → KeepsBoxes O.ours O.alone (O.seen outside.old).device (O.seen outside.new).device }
-    ensures counted { Counted (or_refused (λ step. step ≡ number_at (O.opened outside.old)) (because (ReportsChange (O.honest outside.new)
-        O.alone (O.opened outside.old) (O.seen outside.old).device (O.seen outside.new).device) ⊥)) (O.honest outside.new)
+    ensures counted { Counted (or_refused (λ step. step ≡ number_at (O.opened outside.old)) (because (λ at. ReportsChange
+        (O.honest outside.new) O.alone (O.opened outside.old) (O.seen outside.old).device (O.seen outside.new).device at
+        × AnswersChanged (O.opened outside.new) at) ⊥)) (O.honest outside.new)
         (O.seen outside.old) (O.seen outside.new) result }
 {
     get_ready(outside)?;
@@ -362,8 +363,8 @@ pub fn give_up<O: Outside>(alloc: Global, outside: &mut O) -> Result<bool, RunFa
 
     // On an outside that had failed before, it stops and changes nothing. Else an error has its cause, and success counts none.
     ensures stuck { IsStuck (O.seen outside.old) (O.seen outside.new) result }
-    ensures counted { Counted (giving_up_reasons (O.honest outside.new) O.alone (O.seen outside.old).device (O.seen outside.new).device)
-        (O.honest outside.new) (O.seen outside.old) (O.seen outside.new) result }
+    ensures counted { Counted (giving_up_reasons (O.opened outside.new) (O.honest outside.new) O.alone (O.seen outside.old).device
+        (O.seen outside.new).device) (O.honest outside.new) (O.seen outside.old) (O.seen outside.new) result }
 {
     read_book(outside)?;
     if outside.pending().is_some() {

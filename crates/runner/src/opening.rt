@@ -6,12 +6,12 @@ ghost use Rattle.book.specs.Books.{mended};
 ghost use Rattle.book.specs.BookLogs.{begun};
 ghost use Rattle.mailbox.specs.Operations.{HasNumbers};
 ghost use Rattle.mailcore.specs.Spared.{spares};
-ghost use Rattle.outside.specs.Opened.{IsBook, IsHeld, IsOpen, IsRead, TakesPlan, shown_far, state_of, turned, with_box, with_listing};
+ghost use Rattle.outside.specs.Opened.{IsBook, IsHeld, IsOpen, IsRead, TakesPlan, shown_far, state_of, turned, with_listing};
 ghost use Rattle.run_states.specs.Conditions.{Underway};
 ghost use Rattle.run_states.specs.Openings.{Opening, once_listed};
 ghost use Rattle.runner.specs.Faults.{ReportsUnread, because, or_unread};
 ghost use Rattle.runner.specs.Parts.{IsStuck, Part, PartOr, Never};
-ghost use Rattle.runner.specs.Validities.{BothSame, HasSame, HaveValidities, IsCompared, IsKept, KeepsValidities, LeavesBoxes, ReportsChange, ReportsOther, recorded_in};
+ghost use Rattle.runner.specs.Validities.{AnswersChanged, BothSame, HasSame, HaveValidities, IsKept, IsOther, IsSame, KeepsValidities, LeavesBoxes, OpensBoth, OpensBox, ReportsChange, ReportsOther, recorded_in};
 ghost use Rattle.runner.specs.Going.{AreOpen, BeforeStep};
 ghost use Rattle.runner.specs.Finding.{FindsSame};
 ghost use Rattle.runner.specs.Before.{BothListed, FarListed, SparesOld, HasNoJournal, HasNoPlan, HasNone, HasPlan, IsClear, IsEmptied, ReadUnderway, IsMade, Resumed, world_shown};
@@ -144,7 +144,8 @@ fn list_far<O: Outside>(outside: &mut O) -> Result<Listing, RunFault>
     requires map { opening.options.keywords ≡ O.keywords outside.old }
     ensures was_honest { O.honest outside.new → O.honest outside.old }
     ensures keywords { O.keywords outside.new ≡ O.keywords outside.old }
-    ensures opened { IfOk result (λ far. O.opened outside.new ≡ with_listing (shown_far far.next (O.seen outside.new).device) (O.opened outside.old)) }
+    ensures opened { IfOk result (λ far. O.opened outside.new ≡ with_listing Side.Far far.validity
+        (shown_far far.next (O.seen outside.new).device) (O.opened outside.old)) }
     ensures numbers { IfOk result HasNumbers }
     ensures validities { OnOk result (O.honest outside.new → KeepsValidities (O.seen outside.old).device (O.seen outside.new).device) }
     ensures validity { IfOk result (λ far. O.honest outside.new → far.validity ≡ (O.seen outside.new).device.far.validity) }
@@ -169,7 +170,8 @@ fn list_near<O: Outside>(
     requires map { opening.options.keywords ≡ O.keywords outside.old }
     ensures was_honest { O.honest outside.new → O.honest outside.old }
     ensures keywords { O.keywords outside.new ≡ O.keywords outside.old }
-    ensures opened { OnOk result (O.opened outside.new ≡ with_listing (O.seen outside.new).device (O.opened outside.old)) }
+    ensures opened { IfOk result (λ near. O.opened outside.new ≡ with_listing Side.Near near.validity (O.seen outside.new).device
+        (O.opened outside.old)) }
     ensures numbers { IfOk result HasNumbers }
     ensures validities { OnOk result (O.honest outside.new → KeepsValidities (O.seen outside.old).device (O.seen outside.new).device) }
     ensures validity { IfOk result (λ near. O.honest outside.new → near.validity ≡ (O.seen outside.new).device.near.store.validity) }
@@ -200,7 +202,8 @@ pub(crate) fn list_both<O: Outside>(alloc: Global, outside: &mut O) -> Result<Li
     requires map { opening.options.keywords ≡ O.keywords outside.old }
     ensures was_honest { O.honest outside.new → O.honest outside.old }
     ensures keywords { O.keywords outside.new ≡ O.keywords outside.old }
-    ensures opened { OnOk result ((far near : Device) × (O.opened outside.new ≡ with_listing near (with_listing far (O.opened outside.old)))) }
+    ensures opened { IfOk result (λ both. (far near : Device) × (O.opened outside.new ≡ with_listing Side.Near both.near.validity near
+        (with_listing Side.Far both.far.validity far (O.opened outside.old)))) }
     ensures far_numbers { IfOk result (λ both. HasNumbers both.far) }
     ensures near_numbers { IfOk result (λ both. HasNumbers both.near) }
     ensures validities { IfOk result (λ both. O.honest outside.new → HaveValidities both.far both.near (O.seen outside.old).device) }
@@ -259,12 +262,12 @@ fn open_one<O: Outside>(outside: &mut O, side: Side) -> Result<(), RunFault>
     requires read { IsRead (O.opened outside.old) }
     ensures was_honest { O.honest outside.new → O.honest outside.old }
     ensures keywords { O.keywords outside.new ≡ O.keywords outside.old }
-    ensures opened { OnOk result (O.opened outside.new ≡ with_box side (O.opened outside.old)) }
+    ensures opened { OnOk result (OpensBox IsSame side (O.opened outside.old) (O.opened outside.new)) }
     ensures kept { OnOk result (O.honest outside.new → HasSame (O.opened outside.old) side (O.seen outside.new).device × IsKept O.alone
         (O.seen outside.old).device (O.seen outside.new).device) }
     ensures same { OnOk result (O.honest outside.new → FindsSame O.ours (O.seen outside.old).device (O.seen outside.new).device) }
     ensures part { PartOr (because (λ at. ReportsOther (O.honest outside.new) O.alone (O.opened outside.old) side (O.seen outside.old).device
-        (O.seen outside.new).device at × IsCompared (O.opened outside.new) at) ⊥) (O.honest outside.new) (ReadUnderway opening (O.opened outside.old))
+        (O.seen outside.new).device at × OpensBox IsOther side (O.opened outside.old) (O.opened outside.new)) ⊥) (O.honest outside.new) (ReadUnderway opening (O.opened outside.old))
         (Underway opening) (λ _. 0) (λ _. ReadUnderway opening (O.opened outside.new)) (O.seen outside.old)
         (O.seen outside.new) result }
 {
@@ -290,12 +293,12 @@ pub(crate) fn open_boxes<O: Outside>(outside: &mut O) -> Result<(), RunFault>
     requires read { IsRead (O.opened outside.old) }
     ensures was_honest { O.honest outside.new → O.honest outside.old }
     ensures keywords { O.keywords outside.new ≡ O.keywords outside.old }
-    ensures opened { OnOk result (O.opened outside.new ≡ with_box Side.Near (with_box Side.Far (O.opened outside.old))) }
+    ensures opened { OnOk result (OpensBoth (O.opened outside.old) (O.opened outside.new)) }
     ensures kept { OnOk result (O.honest outside.new → BothSame (O.opened outside.old) (O.seen outside.new).device × IsKept O.alone
         (O.seen outside.old).device (O.seen outside.new).device) }
     ensures same { OnOk result (O.honest outside.new → FindsSame O.ours (O.seen outside.old).device (O.seen outside.new).device) }
     ensures part { PartOr (because (λ at. ReportsChange (O.honest outside.new) O.alone (O.opened outside.old) (O.seen outside.old).device
-        (O.seen outside.new).device at × IsCompared (O.opened outside.new) at) ⊥) (O.honest outside.new) (ReadUnderway opening (O.opened outside.old))
+        (O.seen outside.new).device at × AnswersChanged (O.opened outside.new) at) ⊥) (O.honest outside.new) (ReadUnderway opening (O.opened outside.old))
         (Underway opening) (λ _. 0) (λ _. ReadUnderway opening (O.opened outside.new)) (O.seen outside.old)
         (O.seen outside.new) result }
 {

@@ -1,6 +1,6 @@
 use Rattle.std.proofs.lemmas.Result.{err_from_is_err_and}
 use Rattle.runner.proofs.KeptBoxes.{held_same}
-use Rattle.runner.proofs.GivingUp.{err_holds, still_here}
+use Rattle.runner.proofs.GivingUp.{err_holds, ready_after, still_here}
 use Rattle.runner.proofs.PartCalls.{part_after}
 use Rattle.runner.proofs.StepParts.{part_never}
 use Rattle.runner.proofs.give_up.get_ready.Goals as goal
@@ -20,3 +20,6 @@ pub returns-clause-counted : goal.returns-clause-counted
 returns-clause-counted g c =
     let s1 = g.O.Outside.seen c.open_both.new.outside in
     part_after _ _ _ _ _ _ _ _ _ s1 _ _ c.mend_plan.ensures.was_honest c.in_ok-open_both.ensures.counted (part_never _ _ _ _ _ _ _ _ _ c.mend_plan.ensures.counted)
+
+pub returns-clause-opened : goal.returns-clause-opened
+returns-clause-opened g c = ready_after (g.O.Outside.opened c.args.outside.now) (g.O.Outside.opened c.open_both.new.outside) (g.O.Outside.opened c.mend_plan.new.outside) c.mend_plan.result c.in_ok-open_both.ensures.opened c.mend_plan.ensures.opened

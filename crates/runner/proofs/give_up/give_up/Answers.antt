@@ -71,7 +71,7 @@ returns-then-is_some-clause-counted g c =
     let s2 = g.O.Outside.seen c.leave_plan.new.outside in
     let before = c.leave_plan.ensures.was_honest in
     part_after _ _ _ _ _ _ _ _ _ s1 _ _ before c.in_ok-read_book.ensures.counted (part_reported _ _ _ _ _ _ _ _ _ _ (record {
-      changed = λ side t. files_changed alone _ _ opened s0.device s1.device s2.device side before (λ h. let kept = c.read_book.ensures.kept h in held_same opened s1.device s0.device (sym kept.1) (c.in_ok-read_book.ensures.held h)) c.read_book.ensures.same t;
+      changed = λ side t. (files_changed alone _ _ opened s0.device s1.device s2.device side before (λ h. let kept = c.read_book.ensures.kept h in held_same opened s1.device s0.device (sym kept.1) (c.in_ok-read_book.ensures.held h)) c.read_book.ensures.same t.0, t.1);
       keywords = λ n. n;
       repeats = λ n. n;
       beyond = λ n. n;

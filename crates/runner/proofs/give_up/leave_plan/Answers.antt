@@ -8,7 +8,7 @@ use Rattle.runner.proofs.StepParts.{steps_reported, unrefused_reported}
 use Rattle.runner.proofs.give_up.leave_plan.Goals as goal
 
 pub finish_log-requires : goal.finish_log-requires
-finish_log-requires g c = let counted = c.in_ok-get_ready.ensures.counted in record { going = rw c.in_ok-get_ready.ensures.opened (ready_going (g.O.Outside.opened c.args.outside.now) c.requires.plan); whole = counted.is_whole }
+finish_log-requires g c = let counted = c.in_ok-get_ready.ensures.counted in let is = c.in_ok-get_ready.ensures.opened in record { going = rw is.opened (ready_going is.far is.near (g.O.Outside.opened c.args.outside.now) c.requires.plan); whole = counted.is_whole }
 
 pub returns-in_err-get_ready-clause-gives_up : goal.returns-in_err-get_ready-clause-gives_up
 returns-in_err-get_ready-clause-gives_up g c = λ honest held.
@@ -29,8 +29,9 @@ returns-in-Ok-clause-gives_up g c = λ honest held.
     let last = (g.O.Outside.seen c.finish_log.new.outside).device in
     let h = c.finish_log.ensures.was_honest honest in
     let held_now = c.in_ok-get_ready.ensures.held h held in
-    read_done g.O.Outside.ours g.O.Outside.alone opened d m last true (c.get_ready.ensures.boxes h) (c.in_ok-get_ready.ensures.same h) (c.finish_log.ensures.boxes honest)
-    (rw c.in_ok-get_ready.ensures.opened at (c.in-Ok.ensures.gives_up honest held_now))
+    let is = c.in_ok-get_ready.ensures.opened in
+    read_done g.O.Outside.ours g.O.Outside.alone is.far is.near opened d m last true (c.get_ready.ensures.boxes h) (c.in_ok-get_ready.ensures.same h) (c.finish_log.ensures.boxes honest)
+    (rw is.opened at (c.in-Ok.ensures.gives_up honest held_now))
 
 pub returns-in-Err-clause-gives_up : goal.returns-in-Err-clause-gives_up
 returns-in-Err-clause-gives_up g c = λ honest held.
@@ -40,8 +41,9 @@ returns-in-Err-clause-gives_up g c = λ honest held.
     let last = (g.O.Outside.seen c.finish_log.new.outside).device in
     let h = c.finish_log.ensures.was_honest honest in
     let held_now = c.in_ok-get_ready.ensures.held h held in
-    read_left g.O.Outside.ours g.O.Outside.alone opened d m last c.in-Err.fault (c.get_ready.ensures.boxes h)
-    (rw c.in_ok-get_ready.ensures.opened at (c.in-Err.ensures.gives_up honest held_now))
+    let is = c.in_ok-get_ready.ensures.opened in
+    read_left g.O.Outside.ours g.O.Outside.alone is.far is.near opened d m last c.in-Err.fault (c.get_ready.ensures.boxes h)
+    (rw is.opened at (c.in-Err.ensures.gives_up honest held_now))
 
 pub returns-in-Ok-clause-boxes : goal.returns-in-Ok-clause-boxes
 returns-in-Ok-clause-boxes g c = λ honest.
@@ -59,6 +61,7 @@ returns-in-Ok-clause-counted g c =
 pub returns-in-Err-clause-counted : goal.returns-in-Err-clause-counted
 returns-in-Err-clause-counted g c =
     let s1 = g.O.Outside.seen c.get_ready.new.outside in
-    let number = ready_number (g.O.Outside.opened c.args.outside.now) in
+    let is = c.in_ok-get_ready.ensures.opened in
+    let number = ready_number is.far is.near (g.O.Outside.opened c.args.outside.now) in
     left_after _ _ _ _ _ _ _ _ s1 _ c.finish_log.ensures.was_honest c.in_ok-get_ready.ensures.counted
-    (left_reported _ _ _ _ _ _ _ _ (steps_reported _ _ (λ step k. k ∙ number)) (rw c.in_ok-get_ready.ensures.opened at c.in-Err.ensures.counted))
+    (left_reported _ _ _ _ _ _ _ _ (steps_reported _ _ (λ step k. k ∙ number)) (rw is.opened at c.in-Err.ensures.counted))

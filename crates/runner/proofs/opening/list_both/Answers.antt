@@ -3,6 +3,7 @@ use Rattle.rules.specs.declared.state.SyncState.{SyncState}
 use Rattle.runner.specs.Before.{AreOld}
 use Rattle.std.proofs.lemmas.Result.{err_from_is_err_and}
 use Rattle.outside.specs.Opened.{shown_far, with_listing}
+use Rattle.mailcore.specs.declared.side.Side.TheVariants.{Far, Near}
 use Rattle.runner.proofs.Listings.{listed_open, listed_read}
 use Rattle.runner.proofs.PartCalls.{left_after, passed_after}
 use Rattle.runner.proofs.Validities.{both_validities}
@@ -22,7 +23,7 @@ list_near-requires g c κs within = (
   search rules,
   (
     (λ s is. same_old c.state.result.now s _ (sym c.state.ensures.state ∙ is) c.in-Ok.ensures),
-    (rw c.in_ok-far.ensures.opened (listed_open _ _ c.requires.1.1.0), c.requires.1.1.1 ∙ sym c.list_far.ensures.keywords),
+    (rw c.in_ok-far.ensures.opened (listed_open Far c.in_ok-far.far.validity (shown_far c.in_ok-far.far.next (g.O.Outside.seen c.list_far.new.outside).device) _ c.requires.1.1.0), c.requires.1.1.1 ∙ sym c.list_far.ensures.keywords),
   ),
 )
 
@@ -40,8 +41,8 @@ returns-clause-opened g c =
     let d2 = (g.O.Outside.seen c.list_near.new.outside).device in (
       shown_far c.in_ok-far.far.next d1,
       d2,
-      c.in_ok-near.ensures.opened ∙ ap (with_listing d2) c.in_ok-far.ensures.opened,
+      c.in_ok-near.ensures.opened ∙ ap (with_listing Near c.in_ok-near.near.validity d2) c.in_ok-far.ensures.opened,
     )
 
 pub state-requires : goal.state-requires
-state-requires g c = record { read = rw c.in_ok-far.ensures.opened (listed_read _ _ c.requires.1.0) }
+state-requires g c = record { read = rw c.in_ok-far.ensures.opened (listed_read Far c.in_ok-far.far.validity (shown_far c.in_ok-far.far.next (g.O.Outside.seen c.list_far.new.outside).device) _ c.requires.1.0) }

@@ -22,7 +22,8 @@ open_boxes-requires g c κs within = (search rules, book_read (g.O.Outside.opene
 pub same_map-requires : goal.same_map-requires
 same_map-requires g c =
     let old = g.O.Outside.opened c.args.outside.now in
-    record { read = rw c.in_ok-open_boxes.ensures.opened (book_read _ (boxed_book old c.requires.1.1.1.0)) }
+    let is = c.in_ok-open_boxes.ensures.opened in
+    record { read = rw is.opened (book_read _ (boxed_book is.far is.near old c.requires.1.1.1.0)) }
 
 pub work-requires : goal.work-requires
 work-requires g c κs within =
@@ -34,8 +35,8 @@ work-requires g c κs within =
         (
           search rules,
           (
-            rw is (boxed_book old c.requires.1.1.1.0),
-            (rw is (both_open old (book_read old c.requires.1.1.1.0)), (rw is (rw (boxed_run old) c.requires.1.1.1.1.0), (c.in_ok-same_map.ensures.same, sym (c.open_boxes.ensures.keywords ∙ c.requires.1.1.1.1.1)))),
+            rw is.opened (boxed_book is.far is.near old c.requires.1.1.1.0),
+            (rw is.opened (both_open is.far is.near old (book_read old c.requires.1.1.1.0)), (rw is.opened (rw (boxed_run is.far is.near old) c.requires.1.1.1.1.0), (c.in_ok-same_map.ensures.same, sym (c.open_boxes.ensures.keywords ∙ c.requires.1.1.1.1.1)))),
           ),
         ),
       ),
@@ -56,7 +57,8 @@ returns-in_err-same_map g c =
     let s1 = g.O.Outside.seen c.open_boxes.new.outside in
     let boxes = c.in_ok-open_boxes.ensures in
     let reported = c.in_err-same_map.ensures.other in
-    let other : HasOtherMapIn keywords old = boxed_other_map keywords old (subst (HasOtherMapIn keywords) boxes.opened reported.1) in
+    let is = boxes.opened in
+    let other : HasOtherMapIn keywords old = boxed_other_map is.far is.near keywords old (subst (HasOtherMapIn keywords) is.opened reported.1) in
     let frame = frame_of g.O.Outside _ _ boxes.was_honest boxes.keywords in
     let ready = passed_weaker _ _ (ReadPassStart g.opening old (run_of old + 1) c.args.options.now (g.R.Rng.stream c.args.rng.now)) _ (Underway g.opening) _ 0 _ s1 refl (λ d k. k.known) (λ d k. k.underway) boxes.part in
     rw (e.1, e.2, reported.0) (record { stage = drawn_left g.O.Outside g.opening _ _ _ _ _ _ _ _ _ _ frame (moved_none _) (left_here _ _ (Underway g.opening) (Underway g.opening) 0 run.KeywordsChanged s0 s1 ready (other, (reported.1, boxes.kept)) (λ k. k)) })
@@ -76,9 +78,10 @@ returns g c =
     let drawn = g.R.Rng.stream c.work.new.rng in
     let here = by_map options.keywords g.opening in
     let boxes = c.in_ok-open_boxes.ensures in
+    let is = boxes.opened in
     let with = passed_with ((run ≤ g.opening.world.state.run + 1) × Inputs g.opening options stream) _ _ _ _ _ _ boxes.part in
     let ready = passed_weaker _ _ (ReadPassStart g.opening old run options stream) _ (ReadPassStart g.opening new run options stream) _ 0 _ s1 refl (λ d k. ((k.most, k.asked), k.known)) (λ d k. record { most = k.0.0; asked = k.0.1; known = k.1 }) with in
-    let as_many : run_of new ≡ run_of old = rw boxes.opened (boxed_run old) in
+    let as_many : run_of new ≡ run_of old = rw is.opened (boxed_run is.far is.near old) in
     let same : g.O.Outside.honest c.work.new.outside → ReadPassStart g.opening new run options stream s1.device → here ≡ g.opening
     = (λ h k. let m = k.most in ap (λ (x : List Keyword). by_map x g.opening) (sym (known_map g.opening new options stream s1.device (omega (arith, as_many, m)) c.in_ok-same_map.ensures.same k.asked k.known))) in
     let there : g.O.Outside.honest c.work.new.outside → ReadPassStart g.opening new run options stream s1.device → ReadPassStart here new run options stream s1.device
@@ -104,7 +107,7 @@ returns g c =
               })
               (part_by here g.opening _ _ (λ o. ReadPassStart o new run options stream) (λ o. Underway o) (λ o. RunEnd o) _ s1 _ same c.work.result stage.part));
         };
-        runs = boxed_runs old _ _ c.work.result (rw (← boxes.opened) worked.runs);
+        runs = boxed_runs is.far is.near old _ _ c.work.result (rw (← is.opened) worked.runs);
         moved = worked.moved;
       };
     }

@@ -3,6 +3,7 @@ use Rattle.std.proofs.lemmas.Result.{err_from_is_err_and}
 use Rattle.book.specs.declared.book.Pending.TheVariants.{Missing}
 use Rattle.book.specs.BookLogs.{begun}
 use Rattle.outside.specs.Opened.{Opened, state_of, turned, with_listing}
+use Rattle.mailcore.specs.declared.side.Side.TheVariants.{Far, Near}
 use Rattle.planner.specs.Listed.{all_unfit}
 use Rattle.rules.specs.World.{World, scene_of}
 use Rattle.rules.specs.declared.plan.Plan.{Plan}
@@ -10,8 +11,8 @@ use Rattle.run_states.specs.Conditions.{Underway}
 use Rattle.runner.specs.Answers.{HasRepeats, Inputs, PlanStart}
 use Rattle.runner.specs.Before.{IsMade, IsShown, world_shown}
 use Rattle.runner.specs.Faults.{because}
-use Rattle.runner.specs.Going.{AreOpen, IsGoing, log_at, plan_at}
-use Rattle.runner.specs.Validities.{IsCompared, ListsChanged, ReportsUnlessSame}
+use Rattle.runner.specs.Going.{IsGoing, log_at, plan_at}
+use Rattle.runner.specs.Validities.{AnswersChanged, ListsChanged, ReportsUnlessSame}
 use Rattle.runner.proofs.StepParts.{left_never}
 use Rattle.runner.proofs.PartCalls.{left_after, left_here, left_weaker, passed_after, passed_weaker, passed_with}
 use Rattle.runner.proofs.Begun.{clear_underway}
@@ -19,7 +20,7 @@ use Rattle.runner.proofs.Passes.{after_plan, begun_going, begun_log, begun_plan,
 use Rattle.runner.proofs.PlanFacts.{moved_none}
 use Rattle.runner.proofs.Listings.{listed_no_journal, listed_open, listed_read, listed_run, listed_state, lists_changed, turned_is_shown, turned_shown, two_shown}
 use Rattle.runner.proofs.Readings.{none_read, turned_open, turned_read, turned_state}
-use Rattle.runner.proofs.Validities.{compared_listed, missing_here, unless_same}
+use Rattle.runner.proofs.Validities.{listed_answers, missing_here, unless_same}
 use Rattle.runner.proofs.run.propose.Goals as goal
 
 pub list_both-requires : goal.list_both-requires
@@ -30,10 +31,11 @@ list_both-requires g c κs within =
 pub make_plan-requires : goal.make_plan-requires
 make_plan-requires g c =
     let old = g.O.Outside.opened c.args.outside.now in
+    let both = c.in_ok-both.both in
     let listed = c.in_ok-both.ensures.opened in
     record {
-      journal = rw (listed.2, c.in_ok-clear.ensures.opened) (listed_no_journal _ _ (listed_no_journal _ _ (missing_here old c.requires.1.1.none)));
-      room = rw (listed.2, listed_run listed.1 (with_listing listed.0 (g.O.Outside.opened c.clear.new.outside)), listed_run listed.0 (g.O.Outside.opened c.clear.new.outside), c.in_ok-clear.ensures.opened, turned_run (λ _. Missing) old) c.requires.1.1.room;
+      journal = rw (listed.2, c.in_ok-clear.ensures.opened) (listed_no_journal Near both.near.validity listed.1 _ (listed_no_journal Far both.far.validity listed.0 _ (missing_here old c.requires.1.1.none)));
+      room = rw (listed.2, listed_run Near both.near.validity listed.1 (with_listing Far both.far.validity listed.0 (g.O.Outside.opened c.clear.new.outside)), listed_run Far both.far.validity listed.0 (g.O.Outside.opened c.clear.new.outside), c.in_ok-clear.ensures.opened, turned_run (λ _. Missing) old) c.requires.1.1.room;
       far_numbers = c.in_ok-both.ensures.far_numbers;
       near_numbers = c.in_ok-both.ensures.near_numbers;
     }
@@ -41,8 +43,9 @@ make_plan-requires g c =
 pub all_skipped-requires : goal.all_skipped-requires
 all_skipped-requires g c =
     let old = g.O.Outside.opened c.args.outside.now in
+    let both = c.in_ok-both.both in
     let listed = c.in_ok-both.ensures.opened in
-    record { read = rw (listed.2, c.in_ok-clear.ensures.opened) (listed_read _ _ (listed_read _ _ (turned_read (λ _. Missing) old (none_read old c.requires.1.1.none)))) }
+    record { read = rw (listed.2, c.in_ok-clear.ensures.opened) (listed_read Near both.near.validity listed.1 _ (listed_read Far both.far.validity listed.0 _ (turned_read (λ _. Missing) old (none_read old c.requires.1.1.none)))) }
 
 pub write_plan-requires : goal.write_plan-requires
 write_plan-requires g c κs within = (search rules, c.in_ok-plan.ensures.takes)
@@ -67,12 +70,11 @@ returns-in_err-plan-clause-part g c =
     let both = c.in_ok-both.both in
     let cleared = turned (λ _. Missing) old in
     let listed = c.in_ok-both.ensures.opened in
-    let emptied : g.O.Outside.opened c.list_both.new.outside ≡ with_listing listed.1 (with_listing listed.0 cleared) = listed.2 ∙ ap (λ (x : Option Opened). with_listing listed.1 (with_listing listed.0 x)) c.in_ok-clear.ensures.opened in
-    let shown = subst (λ (x : Option Opened). IsShown x (world_shown x)) (sym emptied) (two_shown listed.1 listed.0 cleared (turned_read (λ _. Missing) old (none_read old c.requires.1.1.none))) in
-    let opens : AreOpen (g.O.Outside.opened c.list_both.new.outside) = subst AreOpen (sym emptied) (listed_open _ _ (listed_open _ _ (turned_open (λ _. Missing) old c.requires.1.1.boxes))) in
+    let emptied : g.O.Outside.opened c.list_both.new.outside ≡ with_listing Near both.near.validity listed.1 (with_listing Far both.far.validity listed.0 cleared) = listed.2 ∙ ap (λ (x : Option Opened). with_listing Near both.near.validity listed.1 (with_listing Far both.far.validity listed.0 x)) c.in_ok-clear.ensures.opened in
+    let shown = subst (λ (x : Option Opened). IsShown x (world_shown x)) (sym emptied) (two_shown both.near.validity both.far.validity listed.1 listed.0 cleared (turned_read (λ _. Missing) old (none_read old c.requires.1.1.none))) in
     let s2 = g.O.Outside.seen c.list_both.new.outside in
-    let reasons = because (λ side. ReportsUnlessSame (g.O.Outside.honest c.list_both.new.outside) old (g.O.Outside.seen c.args.outside.now).device side × IsCompared (g.O.Outside.opened c.list_both.new.outside) side) (HasRepeats g.opening (g.O.Outside.opened c.list_both.new.outside) (g.O.Outside.honest c.list_both.new.outside) (PlanStart g.opening old c.args.options.now (g.R.Rng.stream c.args.rng.now) (g.O.Outside.seen c.args.outside.now).device) c.args.options.now (g.R.Rng.stream c.args.rng.now)) in
-    rw (e.1, e.2) (left_weaker _ _ _ _ _ _ _ (λ d k. k.none) (left_here _ _ _ _ _ _ _ _ so_far (caused_plan reasons _ s2 s2 c.in_err-plan.ensures.fault (λ side is. let lists = c.in_err-plan.ensures.changed side is in let before : ListsChanged cleared both.far both.near side = lists_changed listed.0 cleared both.far both.near side (lists_changed listed.1 (with_listing listed.0 cleared) both.far both.near side (subst (λ (x : Option Opened). ListsChanged x both.far both.near side) emptied lists)) in (unless_same _ _ old cleared both.far both.near side _ s1.device refl c.requires.1.1.none c.in_ok-both.ensures.was_honest c.in_ok-clear.ensures.validities c.in_ok-both.ensures.validities before, compared_listed _ both.far both.near side opens lists)) (λ is. repeats_since g.opening (g.O.Outside.opened c.list_both.new.outside) c.args.options.now (g.R.Rng.stream c.args.rng.now) both.far both.near _ _ s2.device shown (c.in_err-plan.ensures.repeats is) (λ h (k : PlanStart g.opening old c.args.options.now (g.R.Rng.stream c.args.rng.now) (g.O.Outside.seen c.args.outside.now).device). so_far.reaches h k.none))) (λ k. after_plan (Underway g.opening) _ _ _ c.in_err-plan.ensures.fault (clear_underway g.opening _ _ _ k.clear))))
+    let reasons = because (λ side. ReportsUnlessSame (g.O.Outside.honest c.list_both.new.outside) old (g.O.Outside.seen c.args.outside.now).device side × AnswersChanged (g.O.Outside.opened c.list_both.new.outside) side) (HasRepeats g.opening (g.O.Outside.opened c.list_both.new.outside) (g.O.Outside.honest c.list_both.new.outside) (PlanStart g.opening old c.args.options.now (g.R.Rng.stream c.args.rng.now) (g.O.Outside.seen c.args.outside.now).device) c.args.options.now (g.R.Rng.stream c.args.rng.now)) in
+    rw (e.1, e.2) (left_weaker _ _ _ _ _ _ _ (λ d k. k.none) (left_here _ _ _ _ _ _ _ _ so_far (caused_plan reasons _ s2 s2 c.in_err-plan.ensures.fault (λ side is. let lists = c.in_err-plan.ensures.changed side is in let before : ListsChanged cleared both.far both.near side = lists_changed Far both.far.validity listed.0 cleared both.far both.near side (lists_changed Near both.near.validity listed.1 (with_listing Far both.far.validity listed.0 cleared) both.far both.near side (subst (λ (x : Option Opened). ListsChanged x both.far both.near side) emptied lists)) in (unless_same _ _ old cleared both.far both.near side _ s1.device refl c.requires.1.1.none c.in_ok-both.ensures.was_honest c.in_ok-clear.ensures.validities c.in_ok-both.ensures.validities before, subst (λ (x : Option Opened). AnswersChanged x side) (sym emptied) (listed_answers cleared both.far both.near listed.0 listed.1 side (missing_here old c.requires.1.1.none) before))) (λ is. repeats_since g.opening (g.O.Outside.opened c.list_both.new.outside) c.args.options.now (g.R.Rng.stream c.args.rng.now) both.far both.near _ _ s2.device shown (c.in_err-plan.ensures.repeats is) (λ h (k : PlanStart g.opening old c.args.options.now (g.R.Rng.stream c.args.rng.now) (g.O.Outside.seen c.args.outside.now).device). so_far.reaches h k.none))) (λ k. after_plan (Underway g.opening) _ _ _ c.in_err-plan.ensures.fault (clear_underway g.opening _ _ _ k.clear))))
 
 pub returns-in_err-unfit-clause-part : goal.returns-in_err-unfit-clause-part
 returns-in_err-unfit-clause-part g c =
@@ -81,7 +83,7 @@ returns-in_err-unfit-clause-part g c =
     let so_far = passed_after _ _ _ _ _ _ _ _ s1 _ c.in_ok-both.ensures.was_honest c.in_ok-clear.ensures.part c.in_ok-both.ensures.part in
     let old = g.O.Outside.opened c.args.outside.now in
     let s2 = g.O.Outside.seen c.list_both.new.outside in
-    let reasons = because (λ side. ReportsUnlessSame (g.O.Outside.honest c.list_both.new.outside) old (g.O.Outside.seen c.args.outside.now).device side × IsCompared (g.O.Outside.opened c.list_both.new.outside) side) (HasRepeats g.opening (g.O.Outside.opened c.list_both.new.outside) (g.O.Outside.honest c.list_both.new.outside) (PlanStart g.opening old c.args.options.now (g.R.Rng.stream c.args.rng.now) (g.O.Outside.seen c.args.outside.now).device) c.args.options.now (g.R.Rng.stream c.args.rng.now)) in
+    let reasons = because (λ side. ReportsUnlessSame (g.O.Outside.honest c.list_both.new.outside) old (g.O.Outside.seen c.args.outside.now).device side × AnswersChanged (g.O.Outside.opened c.list_both.new.outside) side) (HasRepeats g.opening (g.O.Outside.opened c.list_both.new.outside) (g.O.Outside.honest c.list_both.new.outside) (PlanStart g.opening old c.args.options.now (g.R.Rng.stream c.args.rng.now) (g.O.Outside.seen c.args.outside.now).device) c.args.options.now (g.R.Rng.stream c.args.rng.now)) in
     rw (e.1, e.2) (left_weaker _ _ _ _ _ _ _ (λ d k. k.none) (left_here _ _ _ _ _ _ _ _ so_far (caused_memory reasons _ s2 s2 c.in_err-unfit.ensures.fault) (λ k. after_plan (Underway g.opening) _ _ _ (memory_plan _ c.in_err-unfit.ensures.fault) (clear_underway g.opening _ _ _ k.clear))))
 
 pub returns-in_err-write_plan-clause-part : goal.returns-in_err-write_plan-clause-part
@@ -129,20 +131,20 @@ returns-clause-proposed g c =
     let listed = c.in_ok-both.ensures.opened in
     let far = listed.0 in
     let near = listed.1 in
-    let start = with_listing near (with_listing far cleared) in
-    let emptied : now ≡ start = listed.2 ∙ ap (λ (x : Option Opened). with_listing near (with_listing far x)) c.in_ok-clear.ensures.opened in
+    let start = with_listing Near both.near.validity near (with_listing Far both.far.validity far cleared) in
+    let emptied : now ≡ start = listed.2 ∙ ap (λ (x : Option Opened). with_listing Near both.near.validity near (with_listing Far both.far.validity far x)) c.in_ok-clear.ensures.opened in
     let before = turned_read (λ _. Missing) old (none_read old c.requires.1.1.none) in
-    let read = listed_read near (with_listing far cleared) (listed_read far cleared before) in
-    let opens = listed_open near (with_listing far cleared) (listed_open far cleared (turned_open (λ _. Missing) old c.requires.1.1.boxes)) in
+    let read = listed_read Near both.near.validity near (with_listing Far both.far.validity far cleared) (listed_read Far both.far.validity far cleared before) in
+    let opens = listed_open Near both.near.validity near (with_listing Far both.far.validity far cleared) (listed_open Far both.far.validity far cleared (turned_open (λ _. Missing) old c.requires.1.1.boxes)) in
     let written : new ≡ turned (λ _. begun plan) start = c.in_ok-write_plan.ensures.opened ∙ ap (turned (λ _. begun plan)) emptied in
     let same : plan_at new ≡ plan = ap plan_at written ∙ begun_plan start plan read in
-    let state : state_of now ≡ state_of old = ap state_of emptied ∙ listed_state near (with_listing far cleared) ∙ listed_state far cleared ∙ turned_state (λ _. Missing) old in
+    let state : state_of now ≡ state_of old = ap state_of emptied ∙ listed_state Near both.near.validity near (with_listing Far both.far.validity far cleared) ∙ listed_state Far both.far.validity far cleared ∙ turned_state (λ _. Missing) old in
     let world : world_shown new ≡ world_shown now = ap world_shown c.in_ok-write_plan.ensures.opened ∙ turned_shown (λ _. begun plan) now in
     record {
       going = subst IsGoing (sym written) (begun_going start plan read opens);
       log = ap log_at written ∙ begun_log start plan read;
       run = run_here old now c.args.options.now _ both.far both.near plan _ _ state (ap (λ (p : Plan). p.steps) same) c.in_ok-plan.ensures.drawn c.in_ok-unfit.ensures.unfit;
-      shown = subst (λ (x : Option Opened). IsShown x (world_shown x)) (sym written) (subst (IsShown (turned (λ _. begun plan) start)) (sym (turned_shown (λ _. begun plan) start)) (turned_is_shown (λ _. begun plan) start (world_shown start) (two_shown near far cleared before)));
+      shown = subst (λ (x : Option Opened). IsShown x (world_shown x)) (sym written) (subst (IsShown (turned (λ _. begun plan) start)) (sym (turned_shown (λ _. begun plan) start)) (turned_is_shown (λ _. begun plan) start (world_shown start) (two_shown both.near.validity both.far.validity near far cleared before)));
       skipped = λ h k.
           let so_far = passed_after _ _ _ _ _ _ _ _ s1 _ c.in_ok-both.ensures.was_honest c.in_ok-clear.ensures.part c.in_ok-both.ensures.part in
           let shown = so_far.reaches (c.in_ok-write_plan.ensures.was_honest h) k.none in

@@ -5,7 +5,7 @@ use Rattle.mailcore.specs.Operations.{flags_added}
 use Rattle.mailcore.specs.FlagSet.{union}
 use Rattle.outside.proofs.Sparing.{flags_change_one}
 use Rattle.run_pair.specs.BookParts.{kept_of}
-use Rattle.run_pair.specs.Pairs.{device_of}
+use Rattle.run_pair.specs.Pairs.{device_of, far_answered, near_answered}
 use Rattle.run_pair.proofs.BoxCalls.{far_ends, near_ends, turning}
 use Rattle.run_pair.proofs.Ending.{stuck}
 use Rattle.run_pair.proofs.Opening.{far_open, far_stays, near_open, near_stays}
@@ -18,7 +18,7 @@ pub add_flags-answer-requires : goal.add_flags-answer-requires
 add_flags-answer-requires g c =
     let p = c.args.self.now in
     let whole = sym c.is_broken.ensures ∙ c.if-is_broken.false in
-    record { whole = p.far_whole whole; «open» = far_open _ (g.N.Mailbox.is_open p.near) p.listed.devices (kept_of p.book) (rw c.in-Far.is at c.requires.is_open) }
+    record { whole = p.far_whole whole; «open» = far_open _ _ (near_answered p) p.listed.devices (kept_of p.book) (rw c.in-Far.is at c.requires.is_open) }
 
 pub returns-in-Far : goal.returns-in-Far
 returns-in-Far g c =
@@ -30,7 +30,7 @@ returns-in-Far g c =
     record {
       was_honest = λ h. (b.ensures.was_honest h.0, h.1, h.2);
       keywords = b.ensures.keywords;
-      opened = far_stays _ _ (g.N.Mailbox.is_open p.near) p.listed.devices (kept_of p.book) (rw c.in-Far.is at c.requires.is_open) b.ensures.open;
+      opened = far_stays _ _ _ (near_answered p) p.listed.devices (kept_of p.book) (rw c.in-Far.is at c.requires.is_open) b.ensures.open;
       call = rw c.in-Far.is ends.call;
       why = rw c.in-Far.is ends.why;
       tallied = rw c.in-Far.is ends.tallied;
@@ -40,7 +40,7 @@ pub add_flags-answer-requires-in-Near : goal.add_flags-answer-requires-in-Near
 add_flags-answer-requires-in-Near g c =
     let p = c.args.self.now in
     let whole = sym c.is_broken.ensures ∙ c.if-is_broken.false in
-    record { whole = p.near_whole whole; «open» = near_open (g.F.Mailbox.is_open p.far) _ p.listed.devices (kept_of p.book) (rw c.in-Near.is at c.requires.is_open) }
+    record { whole = p.near_whole whole; «open» = near_open (far_answered p) _ _ p.listed.devices (kept_of p.book) (rw c.in-Near.is at c.requires.is_open) }
 
 pub returns-in-Near : goal.returns-in-Near
 returns-in-Near g c =
@@ -52,7 +52,7 @@ returns-in-Near g c =
     record {
       was_honest = λ h. (h.0, b.ensures.was_honest h.1, h.2);
       keywords = refl;
-      opened = near_stays (g.F.Mailbox.is_open p.far) _ _ p.listed.devices (kept_of p.book) (rw c.in-Near.is at c.requires.is_open) b.ensures.open;
+      opened = near_stays (far_answered p) _ _ _ p.listed.devices (kept_of p.book) (rw c.in-Near.is at c.requires.is_open) b.ensures.open;
       call = rw (c.in-Near.is, p.one_map) ends.call;
       why = rw c.in-Near.is ends.why;
       tallied = rw c.in-Near.is ends.tallied;

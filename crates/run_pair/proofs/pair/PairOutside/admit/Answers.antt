@@ -4,7 +4,7 @@ use Rattle.mailcore.specs.declared.side.Side.TheVariants as side
 use Rattle.mailbox.specs.Operations.{NoRoom}
 use Rattle.run_pair.specs.BookParts.{kept_of}
 use Rattle.run_pair.specs.Faults.{unstepped}
-use Rattle.run_pair.specs.Pairs.{device_of}
+use Rattle.run_pair.specs.Pairs.{device_of, far_answered}
 use Rattle.run_pair.proofs.Arriving.{alone_right}
 use Rattle.run_pair.proofs.BoxCalls.{admitting, near_ends}
 use Rattle.run_pair.proofs.BeforeSteps.{opening_call, unstepped_call}
@@ -19,7 +19,7 @@ pub admit-answer-requires : goal.admit-answer-requires
 admit-answer-requires g c =
     let p = c.args.self.now in
     let whole = sym c.is_broken.ensures ∙ c.if-is_broken.false in
-    record { whole = p.near_whole whole; «open» = near_open (g.F.Mailbox.is_open p.far) _ p.listed.devices (kept_of p.book) c.requires.is_open }
+    record { whole = p.near_whole whole; «open» = near_open (far_answered p) _ _ p.listed.devices (kept_of p.book) c.requires.is_open }
 
 pub returns : goal.returns
 returns g c =
@@ -31,7 +31,7 @@ returns g c =
     record {
       was_honest = λ h. (h.0, b.ensures.was_honest h.1, h.2);
       keywords = refl;
-      opened = near_stays (g.F.Mailbox.is_open p.far) _ _ p.listed.devices (kept_of p.book) c.requires.is_open b.ensures.open;
+      opened = near_stays (far_answered p) _ _ _ p.listed.devices (kept_of p.book) c.requires.is_open b.ensures.open;
       call = opening_call side.Near b.result e.result e.ensures.same ends.call;
       why = ends.why;
       tallied = ends.tallied;

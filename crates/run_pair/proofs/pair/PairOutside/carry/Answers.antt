@@ -1,7 +1,7 @@
 use Rattle.std.proofs.Common.{◌∙◌, sym, inl, refl}
 use Rattle.mailcore.specs.KeywordNames.{kept}
 use Rattle.run_pair.specs.BookParts.{kept_of}
-use Rattle.run_pair.specs.Pairs.{device_of}
+use Rattle.run_pair.specs.Pairs.{device_of, far_answered, near_answered}
 use Rattle.run_pair.proofs.CarryCalls.{pull_ends, push_ends}
 use Rattle.run_pair.proofs.Ending.{stuck}
 use Rattle.run_pair.proofs.Opening.{both_stay, far_open, near_open}
@@ -19,8 +19,8 @@ copy-answer-requires g c =
       target = p.near_is;
       from_whole = p.far_whole whole;
       to_whole = p.near_whole whole;
-      from_open = far_open (g.F.Mailbox.is_open p.far) (g.N.Mailbox.is_open p.near) p.listed.devices (kept_of p.book) c.requires.far_open;
-      to_open = near_open (g.F.Mailbox.is_open p.far) (g.N.Mailbox.is_open p.near) p.listed.devices (kept_of p.book) c.requires.near_open;
+      from_open = far_open _ _ (near_answered p) p.listed.devices (kept_of p.book) c.requires.far_open;
+      to_open = near_open (far_answered p) _ _ p.listed.devices (kept_of p.book) c.requires.near_open;
     }
 
 pub returns-in-Pull : goal.returns-in-Pull
@@ -33,7 +33,7 @@ returns-in-Pull g c =
     record {
       was_honest = λ h. (b.ensures.from_was h.0, b.ensures.to_was h.1, h.2);
       keywords = b.ensures.from_keywords;
-      opened = both_stay (g.F.Mailbox.is_open p.far) _ (g.N.Mailbox.is_open p.near) _ p.listed.devices (kept_of p.book) c.requires.far_open c.requires.near_open b.ensures.from_open b.ensures.to_open;
+      opened = both_stay _ _ _ _ _ _ p.listed.devices (kept_of p.book) c.requires.far_open c.requires.near_open b.ensures.from_open b.ensures.to_open;
       call = rw (c.in-Pull.is, p.one_map) ends.call;
       why = rw c.in-Pull.is ends.why;
       tallied = ends.tallied;
@@ -48,8 +48,8 @@ copy-answer-requires-in-Push g c =
       target = p.far_is;
       from_whole = p.near_whole whole;
       to_whole = p.far_whole whole;
-      from_open = near_open (g.F.Mailbox.is_open p.far) (g.N.Mailbox.is_open p.near) p.listed.devices (kept_of p.book) c.requires.near_open;
-      to_open = far_open (g.F.Mailbox.is_open p.far) (g.N.Mailbox.is_open p.near) p.listed.devices (kept_of p.book) c.requires.far_open;
+      from_open = near_open (far_answered p) _ _ p.listed.devices (kept_of p.book) c.requires.near_open;
+      to_open = far_open _ _ (near_answered p) p.listed.devices (kept_of p.book) c.requires.far_open;
     }
 
 pub returns-in-Push : goal.returns-in-Push
@@ -62,7 +62,7 @@ returns-in-Push g c =
     record {
       was_honest = λ h. (b.ensures.to_was h.0, b.ensures.from_was h.1, h.2);
       keywords = b.ensures.to_keywords;
-      opened = both_stay (g.F.Mailbox.is_open p.far) _ (g.N.Mailbox.is_open p.near) _ p.listed.devices (kept_of p.book) c.requires.far_open c.requires.near_open b.ensures.to_open b.ensures.from_open;
+      opened = both_stay _ _ _ _ _ _ p.listed.devices (kept_of p.book) c.requires.far_open c.requires.near_open b.ensures.to_open b.ensures.from_open;
       call = rw c.in-Push.is ends.call;
       why = rw c.in-Push.is ends.why;
       tallied = ends.tallied;

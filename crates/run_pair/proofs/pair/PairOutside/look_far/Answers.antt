@@ -6,7 +6,7 @@ use Rattle.mailbox.specs.Calls.{Never}
 use Rattle.mailbox.specs.Operations.{HasNumbers, ListsWithin}
 use Rattle.run_pair.specs.BookParts.{kept_of}
 use Rattle.run_pair.specs.Faults.{unstepped}
-use Rattle.run_pair.specs.Pairs.{device_of}
+use Rattle.run_pair.specs.Pairs.{device_of, near_answered}
 use Rattle.run_pair.proofs.Arriving.{alone_left}
 use Rattle.run_pair.proofs.BoxCalls.{far_ends, if_ok, listing_far}
 use Rattle.run_pair.proofs.BeforeSteps.{if_answered, opening_call, unstepped_call}
@@ -21,7 +21,7 @@ pub list-answer-requires : goal.list-answer-requires
 list-answer-requires g c =
     let p = c.args.self.now in
     let whole = sym c.is_broken.ensures ∙ c.if-is_broken.false in
-    record { whole = p.far_whole whole; «open» = far_open _ (g.N.Mailbox.is_open p.near) p.listed.devices (kept_of p.book) c.requires.is_open }
+    record { whole = p.far_whole whole; «open» = far_open _ _ (near_answered p) p.listed.devices (kept_of p.book) c.requires.is_open }
 
 pub returns : goal.returns
 returns g c =
@@ -33,7 +33,7 @@ returns g c =
     record {
       was_honest = λ h. (b.ensures.was_honest h.0, h.1, h.2);
       keywords = b.ensures.keywords;
-      opened = far_stays _ _ (g.N.Mailbox.is_open p.near) p.listed.devices (kept_of p.book) c.requires.is_open b.ensures.open;
+      opened = far_stays _ _ _ (near_answered p) p.listed.devices (kept_of p.book) c.requires.is_open b.ensures.open;
       call = opening_call side.Far b.result e.result e.ensures.same ends.call;
       why = ends.why;
       tallied = ends.tallied;

@@ -5,7 +5,7 @@ use Rattle.mailbox.specs.Calls.{Never}
 use Rattle.mailbox.specs.Operations.{HasNumbers, ListsWithin}
 use Rattle.run_pair.specs.BookParts.{kept_of}
 use Rattle.run_pair.specs.Faults.{unstepped}
-use Rattle.run_pair.specs.Pairs.{device_of}
+use Rattle.run_pair.specs.Pairs.{device_of, far_answered}
 use Rattle.run_pair.proofs.BoxCalls.{if_ok, listing_near, near_ends}
 use Rattle.run_pair.proofs.BeforeSteps.{if_answered, opening_call, unstepped_call}
 use Rattle.run_pair.proofs.Ending.{stuck}
@@ -19,7 +19,7 @@ pub list-answer-requires : goal.list-answer-requires
 list-answer-requires g c =
     let p = c.args.self.now in
     let whole = sym c.is_broken.ensures ∙ c.if-is_broken.false in
-    record { whole = p.near_whole whole; «open» = near_open (g.F.Mailbox.is_open p.far) _ p.listed.devices (kept_of p.book) c.requires.is_open }
+    record { whole = p.near_whole whole; «open» = near_open (far_answered p) _ _ p.listed.devices (kept_of p.book) c.requires.is_open }
 
 pub returns : goal.returns
 returns g c =
@@ -31,7 +31,7 @@ returns g c =
     record {
       was_honest = λ h. (h.0, b.ensures.was_honest h.1, h.2);
       keywords = refl;
-      opened = near_stays (g.F.Mailbox.is_open p.far) _ _ p.listed.devices (kept_of p.book) c.requires.is_open b.ensures.open;
+      opened = near_stays (far_answered p) _ _ _ p.listed.devices (kept_of p.book) c.requires.is_open b.ensures.open;
       call = opening_call side.Near b.result e.result e.ensures.same ends.call;
       why = ends.why;
       tallied = ends.tallied;

@@ -2,7 +2,7 @@ use Rattle.std.proofs.Common.{◌∙◌, sym, inl, refl}
 use Rattle.book.specs.Books.{Turns, TurnsHalf, mended}
 use Rattle.outside.specs.Calls.{FromBook}
 use Rattle.run_pair.specs.BookParts.{kept_of}
-use Rattle.run_pair.specs.Pairs.{device_of}
+use Rattle.run_pair.specs.Pairs.{device_of, far_answered, near_answered}
 use Rattle.run_pair.proofs.BookCalls as books
 use Rattle.run_pair.proofs.GoingOn.{mends}
 use Rattle.run_pair.proofs.Ending.{on_ok, stuck}
@@ -14,7 +14,7 @@ returns-then-is_broken-clause-call g c = stuck _ _ _ _ _ _ _ (device_of c.args.s
 pub mend-answer-requires : goal.mend-answer-requires
 mend-answer-requires g c =
     let p = c.args.self.now in
-    record { read = books.is_read (g.F.Mailbox.is_open p.far) (g.N.Mailbox.is_open p.near) p.listed.devices (kept_of p.book) c.requires.read }
+    record { read = books.is_read (far_answered p) (near_answered p) p.listed.devices (kept_of p.book) c.requires.read }
 
 pub returns : goal.returns
 returns g c =
@@ -26,7 +26,7 @@ returns g c =
     record {
       was_honest = λ h. h;
       keywords = refl;
-      opened = on_ok _ _ b.result e.result e.ensures.same (books.is_turned (g.F.Mailbox.is_open p.far) (g.N.Mailbox.is_open p.near) p.listed.devices (mended) (kept_of p.book) (kept_of b.new.self)) b.ensures.kept;
+      opened = on_ok _ _ b.result e.result e.ensures.same (books.is_turned (far_answered p) (near_answered p) p.listed.devices (mended) (kept_of p.book) (kept_of b.new.self)) b.ensures.kept;
       call = ends.call;
       why = books.by_book p b.new.self b.result e.result whole e.ensures.same b.ensures.stops;
       tallied = ends.tallied;

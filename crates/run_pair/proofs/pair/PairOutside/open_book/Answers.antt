@@ -1,6 +1,6 @@
 use Rattle.std.proofs.Common.{◌∙◌, sym, refl}
 use Rattle.run_pair.specs.BookParts.{kept_of}
-use Rattle.run_pair.specs.Pairs.{device_of}
+use Rattle.run_pair.specs.Pairs.{device_of, far_answered, near_answered}
 use Rattle.run_pair.specs.Tallies.{ended, no_copies}
 use Rattle.run_pair.proofs.BookCalls as books
 use Rattle.run_pair.proofs.Ending.{on_ok, stuck, tally}
@@ -18,7 +18,7 @@ returns g c =
     record {
       was_honest = λ h. h;
       keywords = refl;
-      book = on_ok _ _ b.result e.result e.ensures.same (books.is_book (g.F.Mailbox.is_open p.far) (g.N.Mailbox.is_open p.near) p.listed.devices (kept_of b.new.self)) b.ensures.book;
+      book = on_ok _ _ b.result e.result e.ensures.same (books.is_book (far_answered p) (near_answered p) p.listed.devices (kept_of b.new.self)) b.ensures.book;
       call = books.open_ends p b.new.self e.new.self b.result e.result whole e.ensures.same e.ensures.now b.ensures.reported b.ensures.part;
       why = books.by_book p b.new.self b.result e.result whole e.ensures.same b.ensures.stops;
       tallied = tally (ended no_copies) b.result e.result p.tally e.new.self whole e.ensures.same e.ensures.now;

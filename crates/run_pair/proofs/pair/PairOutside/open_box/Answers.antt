@@ -1,10 +1,10 @@
 use Rattle.std.proofs.Common.{◌∙◌, sym, refl}
 use Rattle.mailcore.specs.declared.side.Side.TheVariants as side
 use Rattle.run_pair.specs.Faults.{unstepped}
-use Rattle.run_pair.specs.Pairs.{CannotOpen, device_of}
+use Rattle.run_pair.specs.Pairs.{CannotOpen, device_of, far_answered, near_answered}
 use Rattle.run_pair.specs.BookParts.{kept_of}
-use Rattle.run_pair.proofs.BoxCalls.{far_ends, near_ends, on_ok, opening}
-use Rattle.run_pair.proofs.BeforeSteps.{on_answer, opening_call, unstepped_call}
+use Rattle.run_pair.proofs.BoxCalls.{far_ends, if_ok, near_ends, opening}
+use Rattle.run_pair.proofs.BeforeSteps.{if_answered, opening_call, unstepped_call}
 use Rattle.run_pair.proofs.Ending.{stuck}
 use Rattle.run_pair.proofs.Opening.{far_opened, near_opened}
 use Rattle.run_pair.proofs.pair.PairOutside.open_box.Goals as goal
@@ -28,7 +28,7 @@ returns-in-Far g c =
     record {
       was_honest = λ h. (b.ensures.was_honest h.0, h.1, h.2);
       keywords = b.ensures.keywords;
-      opened = rw c.in-Far.is (on_ok side.Far _ _ (unstepped b.result) e.result e.ensures.same (far_opened _ _ (g.N.Mailbox.is_open p.near) p.listed.devices (kept_of p.book)) (on_answer _ b.result b.ensures.open));
+      opened = rw c.in-Far.is (if_ok side.Far _ (unstepped b.result) e.result e.ensures.same (if_answered _ b.result (far_opened (far_answered p) _ p.far_validities.items _ (near_answered p) p.listed.devices (kept_of p.book) b.result c.note_opened.ensures b.ensures.open)));
       call = rw c.in-Far.is (opening_call side.Far b.result e.result e.ensures.same ends.call);
       why = rw c.in-Far.is ends.why;
       tallied = ends.tallied;
@@ -50,7 +50,7 @@ returns-in-Near g c =
     record {
       was_honest = λ h. (h.0, b.ensures.was_honest h.1, h.2);
       keywords = refl;
-      opened = rw c.in-Near.is (on_ok side.Near _ _ (unstepped b.result) e.result e.ensures.same (near_opened (g.F.Mailbox.is_open p.far) _ _ p.listed.devices (kept_of p.book)) (on_answer _ b.result b.ensures.open));
+      opened = rw c.in-Near.is (if_ok side.Near _ (unstepped b.result) e.result e.ensures.same (if_answered _ b.result (near_opened (far_answered p) (near_answered p) _ p.near_validities.items _ p.listed.devices (kept_of p.book) b.result c.note_opened-in-Near.ensures b.ensures.open)));
       call = rw c.in-Near.is (opening_call side.Near b.result e.result e.ensures.same ends.call);
       why = rw c.in-Near.is ends.why;
       tallied = ends.tallied;

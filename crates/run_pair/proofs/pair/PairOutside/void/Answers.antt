@@ -4,7 +4,7 @@ use Rattle.book.specs.BookLogs.{logged_more}
 use Rattle.sync_state.specs.declared.journal.Logged.TheVariants.{Void}
 use Rattle.outside.specs.Calls.{FromBook}
 use Rattle.run_pair.specs.BookParts.{kept_of}
-use Rattle.run_pair.specs.Pairs.{device_of}
+use Rattle.run_pair.specs.Pairs.{device_of, far_answered, near_answered}
 use Rattle.run_pair.proofs.BookCalls as books
 use Rattle.run_pair.proofs.GoingOn.{logs}
 use Rattle.run_pair.proofs.Ending.{on_ok, stuck}
@@ -16,7 +16,7 @@ returns-then-is_broken-clause-call g c = stuck _ _ _ _ _ _ _ (device_of c.args.s
 pub void-answer-requires : goal.void-answer-requires
 void-answer-requires g c =
     let p = c.args.self.now in
-    record { takes = books.takes_log (g.F.Mailbox.is_open p.far) (g.N.Mailbox.is_open p.near) p.listed.devices (kept_of p.book) c.args.step Void c.requires.takes }
+    record { takes = books.takes_log (far_answered p) (near_answered p) p.listed.devices (kept_of p.book) c.args.step Void c.requires.takes }
 
 pub returns : goal.returns
 returns g c =
@@ -28,7 +28,7 @@ returns g c =
     record {
       was_honest = λ h. h;
       keywords = refl;
-      opened = on_ok _ _ b.result e.result e.ensures.same (books.is_turned (g.F.Mailbox.is_open p.far) (g.N.Mailbox.is_open p.near) p.listed.devices (λ p. logged_more p Void) (kept_of p.book) (kept_of b.new.self)) b.ensures.kept;
+      opened = on_ok _ _ b.result e.result e.ensures.same (books.is_turned (far_answered p) (near_answered p) p.listed.devices (λ p. logged_more p Void) (kept_of p.book) (kept_of b.new.self)) b.ensures.kept;
       call = ends.call;
       why = books.by_book p b.new.self b.result e.result whole e.ensures.same b.ensures.stops;
       tallied = ends.tallied;
