@@ -11,11 +11,11 @@ use sync_state::journal::{Journal, Logged};
 
 /// What a far mailbox is known to have given.
 #[derive(Clone, Copy)]
-pub(crate) struct FarGiven {
+pub struct FarGiven {
     /// Its UIDVALIDITY then, or 0 if none is known.
-    pub(crate) validity: u32,
+    pub validity: u32,
     /// The greatest UID, or 0.
-    pub(crate) greatest: u32,
+    pub greatest: u32,
 }
 
 impl FarGiven {
@@ -30,7 +30,7 @@ impl FarGiven {
     }
 
     /// What a state knows, and the plan that is pending after it.
-    pub(crate) fn by(state: &SyncState, pending: Option<&Journal>) -> Self
+    pub fn by(state: &SyncState, pending: Option<&Journal>) -> Self
         ensures { result ≡ given_by state.now (option_copied pending.entry) }
     {
         let known = greatest_far(state);
@@ -48,7 +48,7 @@ impl FarGiven {
 
     /// The greatest UID that is known, if a mailbox of this UIDVALIDITY and UIDNEXT is to give it again. One of another UIDVALIDITY gives
     /// other UIDs.
-    pub(crate) fn again(&self, validity: u32, next: u32) -> Option<u32>
+    pub fn again(&self, validity: u32, next: u32) -> Option<u32>
         ensures { result ≡ is_again self.now validity next }
     {
         if validity == self.validity && next <= self.greatest {

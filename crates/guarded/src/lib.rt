@@ -6,7 +6,7 @@
 mod begin_if;
 mod due;
 mod expunge_listed;
-mod given;
+pub mod given;
 pub mod guard;
 pub mod guarded_outside;
 pub mod near_look;

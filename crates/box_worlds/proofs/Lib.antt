@@ -1,0 +1,2 @@
+pub mod Quiet
+pub mod Shorts
