@@ -6,7 +6,7 @@ import subprocess
 import time
 
 from tests.support.edge_scene import EARLIER, FOUR, THREE, Edge, far, near, stopped
-from tests.support.explained import FINISHED
+from tests.support.explained import FINISHED, VOID
 from tests.support.measured import peak_so_far
 from tests.support.scene import ONE, TWO, near_text
 from tests.support.scripted_server import BODY, HEAD, LISTING, body_told
@@ -101,7 +101,7 @@ def gone_meanwhile(tally):
 
     with Edge(ONE, TWO, THREE) as scene:
         scene.server.script = remove
-        told = [1, "c:INBOX", "new pull 1 -> 1", "void pull 2", "new pull 3 -> 2", "ran"]
+        told = [1, "c:INBOX", "new pull 1 -> 1", "void pull 2", "new pull 3 -> 2", "ran", VOID]
         tally.same("a message that is gone when it is fetched is void", scene.run("c"), told)
         tally.same("the others are copied", scene.sides(), [near(ONE, THREE), {1: ("", ONE), 3: ("", THREE)}])
         tally.same("then nothing to do", scene.run("c"), [0, "c:INBOX", "ran"])

@@ -19,7 +19,7 @@ MBSYNC = built("mbsync_main")
 TESTS_OF_WORDS = os.path.join(TOP, "crates", "tests_of_words")
 # What servers in use say and are asked.
 REAL_LINES = os.path.join(TOP, "oracle", "real-lines.txt")
-LAUNCHERS = {"mbsync_main": "bin/mbsync -h", "trial_imapd": "bin/trial-imapd -h", "mbplan": "bin/mbplan </dev/null",
+LAUNCHERS = {"mbsync_main": "bin/mbsync -h", "mbworld": "bin/mbworld -h", "trial_imapd": "bin/trial-imapd -h", "mbplan": "bin/mbplan </dev/null",
              "mbtrial": "bin/mbtrial </dev/null"}
 
 

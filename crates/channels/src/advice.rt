@@ -38,7 +38,7 @@ pub(crate) fn advise<E: Write>(
 }
 
 /// Reports what can be done, where that is known.
-fn advise_on<E: Write>(err: &mut E, fault: &BoxFailure) -> io::Result<()> {
+pub fn advise_on<E: Write>(err: &mut E, fault: &BoxFailure) -> io::Result<()> {
     if fault.is_stale() {
         report_stale(err, fault)?;
         return writeln!(err, ": run again");

@@ -12,7 +12,7 @@ use runner::fault::RunFault;
 
 /// Why a mailbox was not synchronised.
 #[derive(Drop)]
-pub(crate) enum BoxFailure {
+pub enum BoxFailure {
     /// It is absent on this side, and the channel's Create does not cover the side.
     Absent(Side),
     /// It is absent on this side, and the near folder has the state of a former run: it was there.
@@ -59,7 +59,7 @@ pub(crate) enum GivingUp {
 
 impl BoxFailure {
     /// What stopped a run, or that this is not known.
-    pub(crate) fn of_stop(cause: Option<StopCause>) -> BoxFailure
+    pub fn of_stop(cause: Option<StopCause>) -> BoxFailure
         ensures cause { result ≡ fault_of_stop cause }
         ensures failed { outcome_of_box_fault result ≡ Failed }
     {
@@ -108,7 +108,7 @@ impl BoxFailure {
     }
 
     /// Whether an answer of a server can be the cause.
-    pub(crate) fn is_of_server(&self) -> bool {
+    pub fn is_of_server(&self) -> bool {
         match self {
             BoxFailure::Server(..) | BoxFailure::Refused(..) => true,
             BoxFailure::Stopped(cause) => matches!(

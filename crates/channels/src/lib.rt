@@ -2,19 +2,19 @@
 //! over any stores. The stores whose mailboxes are synchronised are traits: what they are asked for, and why they do not answer.
 #![tactic(auto)]
 
-mod advice;
+pub mod advice;
 pub mod boxes;
 pub mod channel_box;
 pub mod chosen;
 mod course;
 pub mod explanation;
-mod fault;
+pub mod fault;
 mod finding;
 mod giving_up;
 mod lent;
 mod listing;
 pub mod notice;
-mod reporting;
+pub mod reporting;
 pub mod run;
 mod run_advice;
 mod run_stores;

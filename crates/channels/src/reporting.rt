@@ -116,7 +116,7 @@ fn report_fault<E: Write>(
 }
 
 /// Reports what a server said, if it said something.
-fn print_words<E: Write>(err: &mut E, words: Option<&str>) -> io::Result<()> {
+pub fn print_words<E: Write>(err: &mut E, words: Option<&str>) -> io::Result<()> {
     match words {
         Some(words) => writeln!(err, "  the server said: {words}"),
         None => Ok(()),
@@ -125,7 +125,7 @@ fn print_words<E: Write>(err: &mut E, words: Option<&str>) -> io::Result<()> {
 
 /// Why a mailbox was not synchronised, as a text without an end of line.
 #[derive(Drop)]
-pub(crate) struct BoxFaultText<'a>(pub(crate) &'a BoxFailure);
+pub struct BoxFaultText<'a>(pub &'a BoxFailure);
 
 impl fmt::Display for BoxFaultText<'_> {
     fn fmt<W: fmt::Write>(&self, f: &mut fmt::Formatter<W>) -> fmt::Result {

@@ -1,9 +1,14 @@
-//! A run of `mbsync` over real stores: what it reads before it begins, and the channels that a command line asks for.
+//! A run of `mbsync` over real stores: what it reads before it begins, and the channels that a command line asks for; and the world that
+//! such a run would find, as `mbworld` prints it.
 #![tactic(auto)]
 
 mod boxes;
 mod failure;
+mod no_world;
 pub mod run;
 mod screen;
 mod shown_stores;
 mod sources;
+pub mod world;
+mod world_box;
+pub mod world_line;

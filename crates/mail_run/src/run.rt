@@ -26,21 +26,22 @@ use std::rt::{Clock, Env, Files};
 
 /// What a run reads before it begins.
 #[derive(Drop)]
-struct Start {
-    config: Config,
-    home: Home,
+pub(crate) struct Start {
+    pub(crate) config: Config,
+    pub(crate) home: Home,
     seed: [u8; 32],
-    fresh: NonZeroU32,
-    notes: ServerNotes,
+    pub(crate) fresh: NonZeroU32,
+    pub(crate) notes: ServerNotes,
 }
 
-/// Reads what a run needs: HOME, the configuration, 32 random bytes and the clock, in this order.
-fn start_of<R: Files + Env + Clock + AllocGlobal>(
+/// Reads what a run needs: HOME, the configuration, which is that of this file if one is named, 32 random bytes and the clock, in this
+/// order.
+pub(crate) fn start_of<R: Files + Env + Clock + AllocGlobal>(
     rt: &R,
-    request: &RunRequest,
+    file: Option<&str>,
 ) -> Result<Start, StartFailure> {
     let home = read_home(rt)?;
-    let config = open_config(rt, request.file.as_deref(), home.as_deref())?;
+    let config = open_config(rt, file, home.as_deref())?;
     refuse_boxes(rt.alloc(), &config)?;
     Ok(Start {
         config,
@@ -78,7 +79,7 @@ pub fn run_mail<
     O: Write,
     E: Write,
 >(rt: R, request: &RunRequest, terminal: Option<T>, out: &mut O, err: &mut E) -> u8 {
-    match start_of(&rt, request) {
+    match start_of(&rt, request.file.as_deref()) {
         Ok(start) => {
             say_none(&start.config, request, err);
             let screen = Screen::new(terminal);

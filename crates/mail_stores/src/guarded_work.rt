@@ -4,7 +4,7 @@ ghost use Rattle.std.specs.Prelude.{◌≡◌};
 
 use book::shelf::Shelf;
 use channels::stores::Work;
-use far_side::logged_in::LoggedIn;
+use far_side::far_side::FarSide;
 use guarded::guard::Guard;
 use guarded::guarded_outside::GuardedOutside;
 use imap_link::link::Link;
@@ -48,10 +48,10 @@ impl<L: Link + Drop, F: Folder + Drop, S: Shelf + Drop, G: Guard + Drop> Guarded
         (GuardedSides { sides, guard }, answer)
     }
 
-    /// Gives the session of the far side, if its user has logged in and it goes on.
-    pub(crate) fn into_session(self) -> Option<LoggedIn<L>> {
+    /// Gives the far side.
+    pub(crate) fn into_far(self) -> FarSide<L> {
         let GuardedSides { sides, .. } = self;
         let BothSides { far, .. } = sides;
-        far.into_session()
+        far
     }
 }

@@ -15,3 +15,4 @@ mod reported;
 mod server;
 mod sessions;
 pub mod waits;
+pub mod world;

@@ -47,14 +47,14 @@ pub struct MailStores<R: Net + Files<File = File> + AllocGlobal + Clone + Drop, 
 where
     RealLink<R, P>: Link,
 {
-    reach: Reach<R, P>,
+    pub(crate) reach: Reach<R, P>,
     progress: P,
     /// The store whose server was asked last.
     asked: Option<Asked>,
-    notices: Notices,
+    pub(crate) notices: Notices,
     sessions: Sessions<RealLink<R, P>>,
     /// What is known of the mailbox that was open last.
-    last: LastBox,
+    pub(crate) last: LastBox,
 }
 
 impl<
@@ -82,7 +82,7 @@ impl<
     }
 
     /// The server of this store is asked from now on.
-    fn ask(&mut self, store: &ImapStore) {
+    pub(crate) fn ask(&mut self, store: &ImapStore) {
         self.hear();
         self.reach.notes.renew();
         self.asked = Asked::new(self.reach.rt.alloc(), store).ok();
@@ -195,7 +195,7 @@ impl<
         let sides = self.open_sides(place, folder.as_str(), &keywords)?;
         let (sides, answer) = sides.work(&lock, alloc, fresh, keywords, work, &self.progress);
         self.note_end(place, folder.as_str(), &sides);
-        self.keep(place.of.far_store, sides);
+        self.keep_far(place.of.far_store, sides.into_far());
         Ok(answer)
     }
 
@@ -217,7 +217,7 @@ impl<
 
     /// The far side of a mailbox, by this map of keywords: over the session that stands, if one does, or else over a link that is not
     /// connected yet.
-    fn far_side(
+    pub(crate) fn far_side(
         &mut self,
         place: ChannelBox<'_>,
         keywords: &Keywords,
@@ -255,8 +255,8 @@ impl<
     }
 
     /// Keeps the session of the far side of a mailbox at this store, if it goes on.
-    fn keep(&mut self, store: &ImapStore, sides: RealSides<R, P>) {
-        if let Some(session) = sides.into_session() {
+    pub(crate) fn keep_far(&mut self, store: &ImapStore, far: FarSide<RealLink<R, P>>) {
+        if let Some(session) = far.into_session() {
             let alloc = self.reach.rt.alloc();
             self.sessions.keep(alloc, store.name.as_str(), session);
         }

@@ -63,14 +63,35 @@ impl Lock {
         ensures { IfErr result (ReportsLock (folder.now ++ codes "/.mbsyncstate.lock")) }
     {
         let path = format!(in rt.alloc(); "{folder}/{LOCK}")?;
-        let file = match lock_file(rt, path.as_str()) {
-            Ok(file) => file,
-            Err(error) => return Err(refused(rt, path.as_str(), &error)),
-        };
+        match lock_file(rt, path.as_str()) {
+            Ok(file) => Self::of_file(rt, path.as_str(), file),
+            Err(error) => Err(refused(rt, path.as_str(), &error)),
+        }
+    }
+
+    /// The same, where the file of the lock is there. It is not made: None is given then, since no process has synchronised the mailbox.
+    pub fn take_made<R: Files<File = File> + AllocGlobal>(
+        rt: &R,
+        folder: &str,
+    ) -> Result<Option<Self>, LockFault>
+        ensures { IfErr result (ReportsLock (folder.now ++ codes "/.mbsyncstate.lock")) }
+    {
+        let path = format!(in rt.alloc(); "{folder}/{LOCK}")?;
+        match open_lock_file(rt, path.as_str()) {
+            Ok(file) => Ok(Some(Self::of_file(rt, path.as_str(), file)?)),
+            Err(error) if error.kind() == ErrorKind::NotFound => Ok(None),
+            Err(error) => Err(refused(rt, path.as_str(), &error)),
+        }
+    }
+
+    /// Locks the file at this path.
+    fn of_file<R: AllocGlobal>(rt: &R, path: &str, file: File) -> Result<Self, LockFault>
+        ensures { IfErr result (ReportsLock path.now) }
+    {
         match file.try_lock() {
             Ok(()) => Ok(Lock { _file: file }),
             Err(TryLockError::WouldBlock) => Err(LockFault::Held),
-            Err(TryLockError::Error(error)) => Err(refused(rt, path.as_str(), &error)),
+            Err(TryLockError::Error(error)) => Err(refused(rt, path, &error)),
         }
     }
 }
