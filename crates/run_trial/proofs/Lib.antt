@@ -10,3 +10,4 @@ pub mod Picks
 pub mod MemoryLemmas
 pub mod AmongLemmas
 pub mod AgainLemmas
+pub mod LinkedLemmas

@@ -10,6 +10,7 @@ pub mod count;
 pub mod devices;
 pub mod failure;
 pub mod folder;
+mod linked;
 pub mod memory;
 mod other_marks;
 pub mod read;

@@ -7,8 +7,9 @@ ghost use Rattle.visitors.specs.Visitors.{IsForeign};
 ghost use Rattle.imap_client.specs.Seen.{HasMap};
 
 use crate::among::run_among;
-use crate::devices::{Devices, settle_all, together};
+use crate::devices::Devices;
 use crate::failure::TrialError;
+use crate::linked::run_linked;
 use crate::memory::run_in_memory;
 use crate::other_marks::OtherMarks;
 use crate::read::read_trial;
@@ -222,13 +223,7 @@ fn reported_over<L: TrialLink + Drop, O: Others>(
     requires { L.honest link → HasMap options.now.keywords (L.line link).end.server }
     ensures { IfOk result (λ reported. reported.1 ≤ 1) }
 {
-    let NearSetting {
-        folder,
-        shelf,
-        state,
-    } = near;
-    let outside = together(alloc, link, folder, shelf, &options.keywords)?;
-    let (outside, settled) = settle_all(alloc, outside, options, tries, &state);
+    let (outside, settled) = run_linked(alloc, link, near, options, tries)?;
     reported_of(alloc, Devices::among(outside)?, settled)
 }
 
