@@ -8,6 +8,7 @@ import time
 
 from tests.scenes.server_edges import peak_of
 from tests.support.edge_scene import Edge, can_mount, far, near
+from tests.support.explained import UNFIT_NEAR
 from tests.support.imap_side import IMAP_NAMES
 from tests.support.scene import ONE, TWO, near_text
 from tests.support.scripted_server import BODY, Box
@@ -42,7 +43,8 @@ def stray_file(tally):
         got, peak = peak_of(scene, "c")
         tally.tell(f"a stray file of {STRAY // MB} MB: {peak:.1f} MB of memory, else {usual:.1f} MB")
         tally.check("it is never read whole", peak < usual + MEMORY, f"{peak:.1f} MB")
-        tally.same("it is named as unfit, and the rest is synchronised", [got[0], sorted(got[1:])], [0, sorted(["c:INBOX", "new push 3 -> 2", "unfit near 2", "ran"])])
+        told = ["c:INBOX", "new push 3 -> 2", "unfit near 2", "ran", UNFIT_NEAR]
+        tally.same("it is named as unfit, and the rest is synchronised", [got[0], sorted(got[1:])], [0, sorted(told)])
         got, peak = peak_of(scene, "c")
         tally.check("nor is it read again", peak < usual + MEMORY and got[0] == 0, f"{peak:.1f} MB, {got}")
         tally.same("the server has the others", scene.far_messages(), far(ONE, TWO))

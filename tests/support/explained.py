@@ -4,3 +4,9 @@ FINISHED = "mbsync: finished the interrupted run; run again for later changes"
 VOID = "mbsync: void: gone, or not fit, when it was fetched; it is not copied later either"
 UNFIT_FAR = "mbsync: unfit far: more than 16777216 bytes, so it stays there alone"
 UNFIT_NEAR = "mbsync: unfit near: a NUL, or more than 16777216 bytes with line ends CR LF, so it stays there alone"
+
+
+def of_unfit(lines):
+    """What it says of an answer with these lines, none of which is void or finished."""
+    said = (("unfit far ", UNFIT_FAR), ("unfit near ", UNFIT_NEAR))
+    return "".join(text + "\n" for word, text in said if any(line.startswith(word) for line in lines))
