@@ -1,6 +1,7 @@
 mod Walks
 pub mod Arriving
 pub mod Opening
+pub mod Noting
 pub mod GoingOn
 pub mod Ending
 pub mod BoxCalls

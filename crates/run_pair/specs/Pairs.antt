@@ -30,6 +30,13 @@ module _ {F N S : Type 0} {fars : mailbox.Ghosts F} {nears : mailbox.Ghosts N} {
   abbrev pub honest_of : Pair F N S fars nears shelves → Type 0
   honest_of p = fars.honest p.far × nears.honest p.near × (shelves.is_honest ≡ true)
 
+  -- the same mailboxes and the same book, and as many calls counted
+  pub record HasParts (old new : Pair F N S fars nears shelves) : Type 0 where
+    pub far : new.far ≡ old.far
+    pub near : new.near ≡ old.near
+    pub book : new.book ≡ old.book
+    pub tally : new.tally ≡ old.tally
+
   -- what they work on
   abbrev pub device_of : Pair F N S fars nears shelves → Device
   device_of p = device_with (fars.seen p.far).stored (nears.seen p.near).stored (files_of p.book) p.tally.named

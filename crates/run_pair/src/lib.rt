@@ -10,6 +10,7 @@ mod copying;
 pub mod device_history;
 mod listings;
 pub mod pair;
+mod pair_outside;
 mod plan_written;
 mod run_ended;
 mod run_given_up;

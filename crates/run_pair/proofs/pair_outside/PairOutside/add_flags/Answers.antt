@@ -1,0 +1,59 @@
+use Rattle.std.proofs.Common.{◌∙◌, sym, inl, refl}
+use Rattle.mailcore.specs.declared.side.Side.TheVariants as side
+use Rattle.mailcore.specs.KeywordNames.{kept}
+use Rattle.mailcore.specs.Operations.{flags_added}
+use Rattle.mailcore.specs.FlagSet.{union}
+use Rattle.outside.proofs.Sparing.{flags_change_one}
+use Rattle.run_pair.specs.BookParts.{kept_of}
+use Rattle.run_pair.specs.Pairs.{device_of, far_answered, near_answered}
+use Rattle.run_pair.proofs.BoxCalls.{far_ends, near_ends, turning}
+use Rattle.run_pair.proofs.Ending.{stuck}
+use Rattle.run_pair.proofs.Opening.{far_open, far_stays, near_open, near_stays}
+use Rattle.run_pair.proofs.pair_outside.PairOutside.add_flags.Goals as goal
+
+pub returns-then-is_broken-clause-call : goal.returns-then-is_broken-clause-call
+returns-then-is_broken-clause-call g c = stuck _ _ _ _ _ _ _ (device_of c.args.self.now) c.args.self.now.tally (sym c.is_broken.ensures ∙ c.if-is_broken.true) tt (inl refl)
+
+pub add_flags-answer-requires : goal.add_flags-answer-requires
+add_flags-answer-requires g c =
+    let p = c.args.self.now in
+    let whole = sym c.is_broken.ensures ∙ c.if-is_broken.false in
+    record { whole = p.far_whole whole; «open» = far_open _ _ (near_answered p) p.listed.devices (kept_of p.book) (rw c.in-Far.is at c.requires.is_open) }
+
+pub returns-in-Far : goal.returns-in-Far
+returns-in-Far g c =
+    let p = c.args.self.now in
+    let b = c.add_flags-answer in
+    let e = c.end_naming in
+    let whole = sym c.is_broken.ensures ∙ c.if-is_broken.false in
+    let ends = far_ends p (turning (device_of p) c.args.uid (flags_added c.args.uid (kept (g.F.Mailbox.keywords p.far) c.args.flags)) (flags_change_one c.args.uid (λ f. union f (kept (g.F.Mailbox.keywords p.far) c.args.flags))) side.Far) b.new.self e.new.self b.result e.result whole e.ensures.same e.ensures.now (rw p.far_is at b.ensures.call) in
+    record {
+      was_honest = λ h. (b.ensures.was_honest h.0, h.1, h.2);
+      keywords = b.ensures.keywords;
+      opened = far_stays _ _ _ (near_answered p) p.listed.devices (kept_of p.book) (rw c.in-Far.is at c.requires.is_open) b.ensures.open;
+      call = rw c.in-Far.is ends.call;
+      why = rw c.in-Far.is ends.why;
+      tallied = rw c.in-Far.is ends.tallied;
+    }
+
+pub add_flags-answer-requires-in-Near : goal.add_flags-answer-requires-in-Near
+add_flags-answer-requires-in-Near g c =
+    let p = c.args.self.now in
+    let whole = sym c.is_broken.ensures ∙ c.if-is_broken.false in
+    record { whole = p.near_whole whole; «open» = near_open (far_answered p) _ _ p.listed.devices (kept_of p.book) (rw c.in-Near.is at c.requires.is_open) }
+
+pub returns-in-Near : goal.returns-in-Near
+returns-in-Near g c =
+    let p = c.args.self.now in
+    let b = c.add_flags-answer-in-Near in
+    let e = c.end_naming-in-Near in
+    let whole = sym c.is_broken.ensures ∙ c.if-is_broken.false in
+    let ends = near_ends p (turning (device_of p) c.args.uid (flags_added c.args.uid (kept (g.N.Mailbox.keywords p.near) c.args.flags)) (flags_change_one c.args.uid (λ f. union f (kept (g.N.Mailbox.keywords p.near) c.args.flags))) side.Near) b.new.self e.new.self b.result e.result whole e.ensures.same e.ensures.now (rw p.near_is at b.ensures.call) in
+    record {
+      was_honest = λ h. (h.0, b.ensures.was_honest h.1, h.2);
+      keywords = refl;
+      opened = near_stays (far_answered p) _ _ _ p.listed.devices (kept_of p.book) (rw c.in-Near.is at c.requires.is_open) b.ensures.open;
+      call = rw (c.in-Near.is, p.one_map) ends.call;
+      why = rw c.in-Near.is ends.why;
+      tallied = rw c.in-Near.is ends.tallied;
+    }
