@@ -17,7 +17,7 @@ use Rattle.imap_link.specs.declared.uses.Uses.{Uses}
 use Rattle.imap_link.specs.declared.wire.LastReply.{LastReply}
 use Rattle.imap_link.specs.ReplyKinds.{kind_of, passes}
 use Rattle.imap_link.specs.UsedReplies.{is_used, messages_read}
-use Rattle.imap_link.specs.Sinks.{reporting}
+use Rattle.imap_link.specs.Sinks.{TakesReply, reporting}
 use Rattle.imap_link.specs.Buffers.{WholeRead, Reads, EndsIn, Passed, Came, GoesOn, IsReported}
 use Rattle.imap_link.proofs.KindLemmas.{passes_is, mine_tagged}
 use Rattle.imap_link.proofs.Text.{replies-join, untagged-more}
@@ -139,7 +139,7 @@ unread_same false len b now e = ap (λ (x : Buffer). x.unread) e
 
 -- the same, of a link that behaved as specified and a sink that took the reply
 module _ {S : Type 0} (took : S → List Reply → S → Type 0) (s0 s1 s2 : S) (was_honest honest : Type 0) (was : honest → was_honest) (first mid now : Ends) (uses : Uses) (tag : List ℕ) (kind : ReplyKind) (used : Bool) (len : ℕ)
-    (old new : List ℕ) (b : Reads uses tag kind used len (λ reply. (s : S) (reported : List Reply) → took s reported s1 → took s (reported ++ reporting (reply ∷ [])) s2) (λ text. honest → GoesOn mid now text) old new)
+    (old new : List ℕ) (b : Reads uses tag kind used len (λ reply. TakesReply took reply s1 s2) (λ text. honest → GoesOn mid now text) old new)
     (p : Passed uses (λ reported. took s0 reported s1) old (λ text. was_honest → GoesOn first mid text)) where
   goes_on : (x y : List ℕ) → (was_honest → GoesOn first mid x) → (honest → GoesOn mid now y) → honest → GoesOn first now (x ++ y)
   goes_on x y g k h = goes_then first mid now x y (g (was h)) (k h)
@@ -157,7 +157,7 @@ module _ {S : Type 0} (took : S → List Reply → S → Type 0) (s0 s1 s2 : S) 
 -- and then kept or dropped
 pub passed_here : {S : Type 0} (took : S → List Reply → S → Type 0) (s0 s1 s2 : S) (was_honest honest : Type 0) (was : honest → was_honest) (first mid : Ends) (line : Line) (uses : Uses) (tag : List ℕ) (kind : ReplyKind) (used : Bool) (len : ℕ)
     (old : List ℕ) (heard now : Buffer) → now ≡ (if used then heard else drops_last len heard)
-    → Reads uses tag kind used len (λ reply. (s : S) (reported : List Reply) → took s reported s1 → took s (reported ++ reporting (reply ∷ [])) s2) (λ text. honest → GoesOn mid (ends_of line heard.unread) text) old heard.read
+    → Reads uses tag kind used len (λ reply. TakesReply took reply s1 s2) (λ text. honest → GoesOn mid (ends_of line heard.unread) text) old heard.read
     → Passed uses (λ reported. took s0 reported s1) old (λ text. was_honest → GoesOn first mid text) → passes kind ≡ true
     → Passed uses (λ reported. took s0 reported s2) now.read (λ text. honest → GoesOn first (ends_of line now.unread) text)
 passed_here took s0 s1 s2 was_honest honest was first mid line uses tag kind used len old heard now is b p e =

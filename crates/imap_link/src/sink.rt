@@ -1,8 +1,8 @@
 //! What is given the replies about messages, one by one as they are heard.
 
-ghost use Rattle.std.specs.Prelude.{◌++◌, ◌∷◌, [], List, OnOk};
+ghost use Rattle.std.specs.Prelude.{[], List, OnOk};
 ghost use Rattle.imap_replies.specs.declared.reply.Reply.{Reply};
-ghost use Rattle.imap_link.specs.Sinks.{reporting};
+ghost use Rattle.imap_link.specs.Sinks.{TakesReply};
 
 use imap_replies::reply::Reply;
 use std::alloc::AllocError;
@@ -20,7 +20,7 @@ pub trait ReplySink {
     ///
     /// `AllocError`: memory ran out, and what was taken so far is of no use.
     fn take(&mut self, reply: &Reply<'_>) -> Result<(), AllocError>
-        ensures { OnOk result ((first : Self) (reported : List Reply) → took first reported self.old → took first (reported ++ reporting (reply.now ∷ [])) self.new) };
+        ensures { OnOk result (TakesReply took reply.now self.old self.new) };
 }
 
 /// It keeps nothing of the replies.

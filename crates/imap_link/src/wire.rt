@@ -11,7 +11,7 @@ ghost use Rattle.reply_buf.specs.Buffers.{held_in, drops_last};
 ghost use Rattle.reply_buf.specs.Fronts.{IsFaulty};
 ghost use Rattle.imap_link.specs.Faults.{IsStop, IsHearing};
 ghost use Rattle.imap_link.specs.Buffers.{Reads, GoesOn, Keeps, Reports, SaysBye, Expects, IsAnswerText, Came, IsReported, Following, IsBounded};
-ghost use Rattle.imap_link.specs.Sinks.{reporting, any_replies};
+ghost use Rattle.imap_link.specs.Sinks.{TakesReply, any_replies};
 ghost use Rattle.imap_link.specs.UsedReplies.{answer_alone};
 ghost use Rattle.imap_link.specs.Outcomes.{Outcome, Never};
 ghost use Rattle.imap_link.specs.Exchanges.{Exchanges, StaysIdle, AsksFor, Restarts};
@@ -114,7 +114,7 @@ impl<L: Link> Wire<L> {
         ensures quiet { L.honest self.new.link → Quiet (L.line self.old.link).end.server (L.line self.new.link).end.server }
         ensures late { Following self.old.heard.read (max 4096 (length self.old.heard.unread)) (held_in self.new.heard) }
         ensures heard { IfOk result (λ r. Reads uses tag.now r.0 r.1 r.2
-            (λ reply. (first : S) (reported : List Reply) → S.took first reported sink.old → S.took first (reported ++ reporting (reply ∷ [])) sink.new)
+            (λ reply. TakesReply S.took reply sink.old sink.new)
             (λ text. L.honest self.new.link → GoesOn (ends_in L.line self.old) (ends_in L.line self.new) text) self.old.heard.read self.new.heard.read) }
         ensures fault { IfErr result (λ fault. L.honest self.new.link → IsStop fault ⊎ IsFaulty (ends_in L.line self.old).coming) }
         ensures known { IfErr result IsHearing }
