@@ -6,6 +6,7 @@ ghost use Rattle.mailcore.specs.KeywordNames.{is_keyword_letter, is_keyword_name
 ghost use Rattle.worlds.specs.Keywords.{keyword_lines};
 ghost use Rattle.worlds.specs.WorldText.{mailbox_text, quoted, state_text, text_from_far, waiting_line};
 ghost use Rattle.worlds.specs.Worlds.{store_of, waiting_of, world_of};
+ghost use Rattle.written_worlds.specs.OptionsText.{expunge_word, options_text, or_none, word_if, words_of};
 ghost use Rattle.written_worlds.specs.Written.{store_in, world_in};
 
 use mailcore::flags::Flags;
@@ -21,7 +22,9 @@ use texts::escape::push_escaped;
 use worlds::world::{WaitingFile, World};
 
 /// Adds the text of a world.
-pub fn write_world(text: &mut String, world: &World) -> Result<(), AllocError> {
+pub fn write_world(text: &mut String, world: &World) -> Result<(), AllocError>
+    ensures { OnOk result (string_bytes text.new ≡ string_bytes text.old ++ options_text world.now.options ++ text_from_far (world_of world.now)) }
+{
     write_options(text, &world.options)?;
     write_from_far(text, world)
 }
@@ -88,36 +91,52 @@ pub fn write_parts(text: &mut String, parts: &WrittenWorld<'_>) -> Result<(), Al
 }
 
 /// Adds the lines of a world that say what the run may do.
-pub fn write_options(text: &mut String, options: &Options) -> Result<(), AllocError> {
+pub fn write_options(text: &mut String, options: &Options) -> Result<(), AllocError>
+    ensures { OnOk result (string_bytes text.new ≡ string_bytes text.old ++ options_text options.now) }
+{
     text.push_str("sync")?;
     write_cells(text, &options.cells)?;
-    let expunge = match (options.expunge.far, options.expunge.near) {
+    text.push_str("\nexpunge ")?;
+    text.push_str(expunge_word(options.expunge))?;
+    text.push_str("\n")?;
+    write_keywords(text, &options.keywords)
+}
+
+/// The word for the sides that are expunged.
+fn expunge_word(sides: Sides) -> &'static str
+    ensures { result.now ≡ expunge_word sides }
+{
+    match (sides.far, sides.near) {
         (false, false) => "None",
         (true, false) => "Far",
         (false, true) => "Near",
         (true, true) => "Both",
-    };
-    writeln!(text, "\nexpunge {expunge}")?;
-    write_keywords(text, &options.keywords)
+    }
 }
 
 /// Adds a compound word for each cell that is on, or `None`.
-fn write_cells(text: &mut String, cells: &Cells) -> Result<(), AllocError> {
-    let words = [
-        (cells.new.pull, " PullNew"),
-        (cells.gone.pull, " PullGone"),
-        (cells.flags.pull, " PullFlags"),
-        (cells.new.push, " PushNew"),
-        (cells.gone.push, " PushGone"),
-        (cells.flags.push, " PushFlags"),
-    ];
-    if words.iter().all(|(on, _)| !on) {
-        return text.push_str(" None");
+fn write_cells(text: &mut String, cells: &Cells) -> Result<(), AllocError>
+    ensures { OnOk result (string_bytes text.new ≡ string_bytes text.old ++ or_none (words_of cells.now)) }
+{
+    let before = text.len();
+    write_if(text, cells.new.pull, " PullNew")?;
+    write_if(text, cells.gone.pull, " PullGone")?;
+    write_if(text, cells.flags.pull, " PullFlags")?;
+    write_if(text, cells.new.push, " PushNew")?;
+    write_if(text, cells.gone.push, " PushGone")?;
+    write_if(text, cells.flags.push, " PushFlags")?;
+    if text.len() == before {
+        text.push_str(" None")?;
     }
-    for (on, word) in words {
-        if on {
-            text.push_str(word)?;
-        }
+    Ok(())
+}
+
+/// Adds a word for a cell that is on.
+fn write_if(text: &mut String, is_on: bool, word: &str) -> Result<(), AllocError>
+    ensures { OnOk result (string_bytes text.new ≡ string_bytes text.old ++ word_if is_on word.now) }
+{
+    if is_on {
+        return text.push_str(word);
     }
     Ok(())
 }
