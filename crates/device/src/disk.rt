@@ -171,13 +171,18 @@ impl<R: Files + AllocGlobal + Clone + Drop> Disk<R> {
         }
     }
 
-    /// Makes a new file, to be written. What stood under this name is removed before: a link is never followed.
+    /// Makes a new file, to be written. If something stands under this name, it is removed: a link is never followed.
     pub fn new_file(&self, part: &str) -> io::Result<R::File> {
-        self.remove_if_there(part)?;
         let path = self.at(part)?;
         let mut options = OpenOptions::new();
         options.write(true).create_new(true).mode(FILE_MODE);
-        options.open(&self.rt, path.as_str())
+        match options.open(&self.rt, path.as_str()) {
+            Err(error) if error.kind() == ErrorKind::AlreadyExists => {
+                self.remove_if_there(part)?;
+                options.open(&self.rt, path.as_str())
+            }
+            answer => answer,
+        }
     }
 
     // Writes a new file and syncs its bytes.
