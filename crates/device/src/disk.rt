@@ -8,7 +8,7 @@ use crate::condition::Condition;
 use crate::trouble::Trouble;
 use std::alloc::AllocError;
 use std::fs::{DirBuilder, OpenFile, OpenOptions};
-use std::io::{ErrorKind, Write};
+use std::io::{ErrorKind, Read, Write};
 use std::marker::Model;
 use std::os::unix::fs::{DirBuilderExt, OpenOptionsExt};
 use std::rt::Files;
@@ -147,27 +147,28 @@ impl<R: Files + AllocGlobal + Clone + Drop> Disk<R> {
         fs::metadata(&self.rt, path.as_str())?.modified()
     }
 
-    /// The bytes of a file, or none where it is missing.
-    pub fn read(&self, part: &str) -> io::Result<Option<Vec<u8>>> {
+    /// The bytes of a file, or none where it is missing. It was asked for its size before, which may have changed since: room is made for so
+    /// many bytes at once.
+    pub fn read(&self, part: &str, size: u64) -> io::Result<Option<Vec<u8>>> {
         let path = self.at(part)?;
-        found(fs::read(&self.rt, path.as_str()))
+        found(read_sized(&self.rt, path.as_str(), size))
     }
 
     /// The same of a file that no other program makes. No link is followed, and nothing but a file is opened: a fifo would not answer.
     pub fn read_own(&self, part: &str) -> io::Result<Option<Vec<u8>>> {
-        if self.has_own(part)? {
-            self.read(part)
-        } else {
-            Ok(None)
+        match self.own_size(part)? {
+            Some(size) => self.read(part, size),
+            None => Ok(None),
         }
     }
 
-    /// Whether a file stands there. `InvalidInput`: something else does, a link among it.
-    fn has_own(&self, part: &str) -> io::Result<bool> {
+    /// How many bytes the file has that stands there, or none where nothing does. `InvalidInput`: something else does, a link among it.
+    fn own_size(&self, part: &str) -> io::Result<Option<u64>> {
         let path = self.at(part)?;
         match found(fs::symlink_metadata(&self.rt, path.as_str()))? {
-            Some(found) if !found.is_file() => Err(io::Error::from(ErrorKind::InvalidInput)),
-            found => Ok(found.is_some()),
+            Some(found) if found.is_file() => Ok(Some(found.len())),
+            Some(_) => Err(io::Error::from(ErrorKind::InvalidInput)),
+            None => Ok(None),
         }
     }
 
@@ -217,7 +218,7 @@ impl<R: Files + AllocGlobal + Clone + Drop> Disk<R> {
 
     /// Appends bytes to a file that is there.
     fn append_to(&self, part: &str, bytes: &[u8]) -> io::Result<()> {
-        self.has_own(part)?;
+        self.own_size(part)?;
         let path = self.at(part)?;
         let mut options = OpenOptions::new();
         options.append(true);
@@ -267,6 +268,16 @@ impl<R: Files + AllocGlobal + Clone + Drop> Disk<R> {
             _ => Ok(()),
         }
     }
+}
+
+/// The bytes of the file at this path, which had so many.
+fn read_sized<R: Files + AllocGlobal>(rt: &R, path: &str, size: u64) -> io::Result<Vec<u8>> {
+    let mut file = fs::open(rt, path)?;
+    // One more, so that the end is met without room for further bytes.
+    let room = usize::try_from(size).unwrap_or(0).saturating_add(1);
+    let mut bytes = Vec::with_capacity(rt.alloc(), room)?;
+    file.read_to_end(&mut bytes)?;
+    Ok(bytes)
 }
 
 /// None instead of the error that nothing is there.

@@ -223,7 +223,7 @@ impl<R: Files + AllocGlobal + Clone + Drop> DiskFolder<R> {
     fn mail_bytes(&self, part: &str) -> io::Result<Option<Vec<u8>>> {
         match self.size(part) {
             Ok(Some(size)) if size > READ_MAX => Ok(Some(unread(self.disk.rt().alloc())?)),
-            Ok(Some(_)) => self.disk.read(part),
+            Ok(Some(size)) => self.disk.read(part, size),
             Ok(None) => Ok(None),
             Err(error) => {
                 self.has_odd.set(true);
