@@ -9,6 +9,7 @@ use device::disk::Disk;
 use device::trouble::Trouble;
 use std::alloc::AllocError;
 use std::io;
+use std::io::Write;
 use std::marker::Model;
 use std::rt::Files;
 
@@ -41,6 +42,8 @@ pub struct ShelfStop {
 #[derive(Drop)]
 pub struct DiskShelf<R: Files + AllocGlobal + Clone + Drop> {
     disk: Disk<R>,
+    /// The journal, open for further bytes. None: the last call was another than `append`, or none was made.
+    journal: Option<R::File>,
     /// Where a call stopped since the shelf was opened.
     stop: Option<ShelfStop>,
 }
@@ -60,6 +63,7 @@ impl<R: Files + AllocGlobal + Clone + Drop> DiskShelf<R> {
     {
         Ok(DiskShelf {
             disk: Disk::new(rt, path)?,
+            journal: None,
             stop: None,
         })
     }
@@ -97,6 +101,23 @@ impl<R: Files + AllocGlobal + Clone + Drop> DiskShelf<R> {
         Ok(bytes)
     }
 
+    // Appends bytes to a file. A journal stays open for those that follow.
+    fn extend(&mut self, file: ShelfFile, bytes: &[u8]) -> io::Result<()>
+        ensures { self.new ≡ self.old }
+    {
+        match (&mut self.journal, file) {
+            (Some(journal), ShelfFile::Journal) => journal.write_all(bytes),
+            (_, ShelfFile::State) => {
+                self.disk.append(STATE, bytes)?;
+                Ok(())
+            }
+            (None, ShelfFile::Journal) => {
+                self.journal = Some(self.disk.append(JOURNAL, bytes)?);
+                Ok(())
+            }
+        }
+    }
+
     // Replaces a file by one with these bytes.
     fn exchange(&self, file: ShelfFile, bytes: &[u8]) -> io::Result<()> {
         self.disk.replace(name_of(file), NEXT, bytes)?;
@@ -122,6 +143,7 @@ impl<R: Files + AllocGlobal + Clone + Drop> Shelf for DiskShelf<R> {
 
     fn read(&mut self, file: ShelfFile) -> Result<Option<Vec<u8>>, DeviceFault> {
         self.disk.check()?;
+        self.journal = None;
         let answer = self.bytes_of(file);
         let answer = self.disk.report(answer);
         self.note(name_of(file));
@@ -130,7 +152,7 @@ impl<R: Files + AllocGlobal + Clone + Drop> Shelf for DiskShelf<R> {
 
     fn append(&mut self, file: ShelfFile, bytes: &[u8]) -> Result<(), DeviceFault> {
         self.disk.check()?;
-        let answer = self.disk.append(name_of(file), bytes);
+        let answer = self.extend(file, bytes);
         let answer = self.disk.report(answer);
         self.note(name_of(file));
         answer
@@ -138,6 +160,7 @@ impl<R: Files + AllocGlobal + Clone + Drop> Shelf for DiskShelf<R> {
 
     fn replace(&mut self, file: ShelfFile, bytes: &[u8]) -> Result<(), DeviceFault> {
         self.disk.check()?;
+        self.journal = None;
         let answer = self.exchange(file, bytes);
         let answer = self.disk.report(answer);
         self.note(NEXT);
@@ -146,6 +169,7 @@ impl<R: Files + AllocGlobal + Clone + Drop> Shelf for DiskShelf<R> {
 
     fn remove(&mut self, file: ShelfFile) -> Result<(), DeviceFault> {
         self.disk.check()?;
+        self.journal = None;
         let answer = self.disk.remove_if_there(name_of(file));
         let answer = self.disk.report(answer);
         self.note(name_of(file));
@@ -154,6 +178,7 @@ impl<R: Files + AllocGlobal + Clone + Drop> Shelf for DiskShelf<R> {
 
     fn reopen(&mut self) {
         self.stop = None;
+        self.journal = None;
         self.disk.reopen();
     }
 }

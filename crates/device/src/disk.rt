@@ -200,8 +200,9 @@ impl<R: Files + AllocGlobal + Clone + Drop> Disk<R> {
         self.rename(other, part)
     }
 
-    /// Appends bytes to a file that no other program makes. If it makes the file, it syncs the bytes and the name.
-    pub fn append(&self, part: &str, bytes: &[u8]) -> io::Result<()> {
+    /// Appends bytes to a file that no other program makes. If it makes the file, it syncs the bytes and the name. The file comes open:
+    /// what is written to it is appended, too.
+    pub fn append(&self, part: &str, bytes: &[u8]) -> io::Result<R::File> {
         let path = self.at(part)?;
         let mut options = OpenOptions::new();
         options.append(true).create_new(true).mode(FILE_MODE);
@@ -209,7 +210,8 @@ impl<R: Files + AllocGlobal + Clone + Drop> Disk<R> {
             Ok(mut made) => {
                 made.write_all(bytes)?;
                 OpenFile::sync_all(&made)?;
-                self.sync_names()
+                self.sync_names()?;
+                Ok(made)
             }
             Err(error) if error.kind() == ErrorKind::AlreadyExists => self.append_to(part, bytes),
             Err(error) => Err(error),
@@ -217,12 +219,14 @@ impl<R: Files + AllocGlobal + Clone + Drop> Disk<R> {
     }
 
     /// Appends bytes to a file that is there.
-    fn append_to(&self, part: &str, bytes: &[u8]) -> io::Result<()> {
+    fn append_to(&self, part: &str, bytes: &[u8]) -> io::Result<R::File> {
         self.own_size(part)?;
         let path = self.at(part)?;
         let mut options = OpenOptions::new();
         options.append(true);
-        options.open(&self.rt, path.as_str())?.write_all(bytes)
+        let mut file = options.open(&self.rt, path.as_str())?;
+        file.write_all(bytes)?;
+        Ok(file)
     }
 
     /// Gives a file another name. It is whole or not at all, and is not synced.
