@@ -3,6 +3,8 @@ pub mod NameLemmas
 pub mod GroupLemmas
 pub mod OutlineLemmas
 pub mod ReadingLemmas
+pub mod RequiredLemmas
+pub mod UnmixedLemmas
 pub mod ViewLemmas
 pub mod PartedLemmas
 pub mod MeaningExamples

@@ -45,6 +45,11 @@ pub ended_meant : (p : Parts) (old : Draft) (new : Reading) → IsDrawn p old �
     → IsMeant (ended p) new
 ended_meant p old new is shows = record { draft = drawn_end p old new.draft is shows; begun = λ within. let both : false ≡ true = sym (not_open p) ∙ within in cc }
 
+-- a section that lacks nothing has each keyword
+pub whole_so : (whole kept lacks : Bool) (first : Option ConfigFault) → lacks ≡ (not whole || not kept && is_none first) → lacks ≡ false → whole ≡ true
+whole_so true kept lacks first is passes = refl
+whole_so false kept lacks first is passes = cc
+
 -- where no section has begun, none is open
 pub outside_so : (p : Parts) (old : Reading) → IsMeant p old → old.begun ≡ None → is_section (place_of old.draft.section) ≡ false
 outside_so p old is none = ap is_section (at_drawn p old.draft is.draft) ∙ by (is_section p.current.kind) refl

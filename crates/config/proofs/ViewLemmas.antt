@@ -23,7 +23,8 @@ use Rattle.config.specs.Meant.{IsDrawn}
 use Rattle.config.specs.Standing.{Standing}
 use Rattle.config.specs.Configurations.{Meaning, Part, Parts, add_at, begin_at, ended, ended_if, channel_names, imap_names, maildir_names, meaning_of, no_meaning, parted_words, said_at, with_section}
 use Rattle.config.specs.Sections.{ChannelMeaning, ImapMeaning, IsTitled, also_given, channel_of, channels_in, far_in, near_in, host_in, imap_store_of, keywords_of, later, line_said, patterns_in, place_among, port_in, store_at, the, title_in, user_in, pass_in, path_in, inbox_in, cells_in, create_in, expunge_in}
-use Rattle.config.specs.Views.{AtStart, AtImapStore, AtMaildirStore, AtChannel, AtGroup, AtBetween, ChannelView, MaildirView, MannerView, Sketch, View, sketch, view, begun_view, channel_said, ended_view, imap_with, open_names, maildir_said, maildir_with, manner_said, manner_with, part_sketch, view_from, view_of, view_said, view_with}
+use Rattle.config.specs.Views.{AtStart, AtImapStore, AtMaildirStore, AtChannel, AtGroup, AtBetween, ChannelView, MaildirView, MannerView, Sketch, View, sketch, view, begun_view, channel_said, ended_view, imap_with, is_mixed, open_names, maildir_said, maildir_with, manner_said, manner_with, part_sketch, view_from, view_of, view_said, view_with}
+use Rattle.config.proofs.UnmixedLemmas.{ended_unmixed, words_unmixed}
 
 -- ---- one line more
 
@@ -365,8 +366,8 @@ at_drawn p d is =
 pub drawn_words : (p : Parts) (words : List ℕ × List ℕ) (old new : Draft) → IsDrawn p old
     → view new ≡ view_said (line_said (place_of old.section) words) (begun_view (opened (place_of old.section) words.0) (view old))
     → IsTitled (opened (place_of old.section) words.0) (line_said (place_of old.section) words)
-    → IsDrawn (parted_words (Some words) p) new
-drawn_words p words old new is shows titles =
+    → (is_mixed (view old).section ≡ false → is_mixed (view new).section ≡ false) → IsDrawn (parted_words (Some words) p) new
+drawn_words p words old new is shows titles unmixed =
     let at = p.current.kind in
     let begins = opened at words.0 in
     let s = line_said at words in
@@ -376,12 +377,15 @@ drawn_words p words old new is shows titles =
     let titled = subst (λ (k : LinePlace). IsTitled (opened k words.0) (line_said k words)) same titles in
     let here : view new ≡ view_said s (begun_view begins (view old)) =
     subst (λ (k : LinePlace). view new ≡ view_said (line_said k words) (begun_view (opened k words.0) (view old))) same shows in
+    let drawn : view new ≡ view_of (said_at begins s p) =
+    here
+    ∙ (ap (λ (v : View). view_said s (begun_view begins v)) is.view
+    ∙ (said_view (meaning_of p) begins s p sections closed titled
+    ∙ ap (λ (m : Meaning). view_from m (said_at begins s p)) (sym (said_meaning begins s p is.first)))) in
     record {
-      view = here
-          ∙ (ap (λ (v : View). view_said s (begun_view begins v)) is.view
-          ∙ (said_view (meaning_of p) begins s p sections closed titled
-          ∙ ap (λ (m : Meaning). view_from m (said_at begins s p)) (sym (said_meaning begins s p is.first))));
+      view = drawn;
       first = said_first begins s p sections is.first;
+      unmixed = words_unmixed begins s p (view old) (view new) is.unmixed is.view drawn unmixed;
     }
 
 following : (before : List Said) (ends : List Part) (s : Part)
@@ -416,6 +420,7 @@ drawn_end p old new is shows = record {
       ∙ (ap (λ (k : LinePlace). ended_view (is_section k) (view old)) (at_drawn p old is)
       ∙ (ap (λ (v : View). ended_view (is_section p.current.kind) v) is.view ∙ end_view p.before p.ended p.current.kind p.current.name p.current.says));
   first = by (is_section p.current.kind);
+  unmixed = ended_unmixed p (is_section p.current.kind) is.unmixed;
 }
   where
     by : (b : Bool) → (ended_if b p).current.kind ≡ Start → (ended_if b p).ended ≡ []

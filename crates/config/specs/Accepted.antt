@@ -1,12 +1,13 @@
--- Which lines of a text a configuration takes: every one, or the text is refused.
-use Rattle.std.specs.Prelude.{ℕ, ◌≡◌, Bool, true, false, List, [], ◌∷◌, Option, Some, None}
+-- Which lines of a text a configuration takes: every one, or the text is refused. And which of its sections.
+use Rattle.std.specs.Prelude.{ℕ, ◌≡◌, Bool, true, false, ◌||◌, All, List, [], ◌∷◌, fold, flat_map, Option, Some, None, is_some, option_and_then}
 use Rattle.config_words.specs.declared.keyword.FirstWord.{FirstWord}
 use Rattle.config_words.specs.declared.keyword.LinePlace.{LinePlace}
+use Rattle.config_words.specs.declared.keyword.LinePlace.TheVariants.{Channel}
 use Rattle.config_words.specs.Keywords.{fits_at, keyword_named, meant_at}
 use Rattle.config_words.specs.Meanings.{Said, SyncIs}
 use Rattle.config_words.specs.Words.{arguments_of, is_blank, is_plain, words_of}
-use Rattle.config.specs.Configurations.{Parts, no_parts, parted}
-use Rattle.config.specs.Sections.{line_said}
+use Rattle.config.specs.Configurations.{Part, Parts, ended, no_parts, parted}
+use Rattle.config.specs.Sections.{far_in, line_said, near_in, patterns_in, the}
 use Rattle.texts.specs.Lines.{lines_of}
 
 -- whether a word is a keyword that may stand at a place
@@ -45,3 +46,20 @@ AcceptsAll p (line ∷ lines) = AcceptsLine p.current.kind line × AcceptsAll (p
 -- each line of a text
 abbrev pub IsWhole : List ℕ → Type 0
 IsWhole text = AcceptsAll no_parts (lines_of text)
+
+-- ---- sections
+
+-- lines of a channel name a mailbox, in a store or in both
+abbrev pub names_box : List Said → Bool
+names_box says = is_some (option_and_then (λ p. p.1) (the far_in says)) || is_some (option_and_then (λ p. p.1) (the near_in says))
+
+-- a channel that names a mailbox has no patterns
+abbrev pub IsOneOrMatching : Part → Type 0
+IsOneOrMatching s = s.kind ≡ Channel → names_box s.says ≡ true → flat_map patterns_in s.says ≡ []
+
+-- so is each section of a text, the last of which ends with it
+abbrev pub AreUnmixed : Parts → Type 0
+AreUnmixed p = All IsOneOrMatching p.ended × IsOneOrMatching p.current
+
+abbrev pub HasUnmixed : List ℕ → Type 0
+HasUnmixed text = All IsOneOrMatching (ended (fold parted no_parts (lines_of text))).ended

@@ -1,5 +1,5 @@
 -- A configuration while it is read, as clauses see it.
-use Rattle.std.specs.Prelude.{ℕ, ◌≡◌, Bool, true, false, not, ◌&&◌, List, [], map, string_bytes, Option, Some, None, Result, Ok, Err, if◌then◌else◌}
+use Rattle.std.specs.Prelude.{ℕ, ◌≡◌, Bool, true, false, not, ◌&&◌, List, [], All, Contains, map, string_bytes, Option, Some, None, Result, Ok, Err, if◌then◌else◌}
 use Rattle.mailcore.specs.declared.keywords.Keyword as mail
 use Rattle.config.specs.declared.draft.Draft.{Draft}
 use Rattle.config_words.specs.declared.keyword.FirstWord.{FirstWord}
@@ -9,7 +9,7 @@ use Rattle.config_words.specs.declared.fault.FaultKind.{FaultKind}
 use Rattle.config_words.specs.declared.fault.FaultKind.TheVariants.{OutsideSection, KeywordTwice, DefinedTwice, KeywordGiven, NoMemory}
 use Rattle.config.specs.declared.section.Section.{Section}
 use Rattle.config.specs.declared.section.Section.TheVariants.{Start, Between, ImapStore, MaildirStore, Channel, Group}
-use Rattle.config_words.specs.Keywords.{adds_up, fits_at}
+use Rattle.config_words.specs.Keywords.{adds_up, fits_at, required_at}
 use Rattle.config_words.specs.Settings.{name_given}
 use Rattle.config.specs.Standing.{Standing, keyword_again, with_keyword_at, name_again, named, standing_at}
 use Rattle.config_words.specs.Words.{arguments_of, is_plain}
@@ -36,6 +36,10 @@ standing_of d = record {
   before = d.defaults.keywords;
   own = own_of d.section;
 }
+
+-- the section that is open has lines with each keyword that it has to have
+abbrev pub HasRequired : Draft → Type 0
+HasRequired d = All (Contains d.seen.items) (required_at (place_of d.section))
 
 -- a line is taken, or refused: as one that says something again exactly where it does, and always with this after it; where memory
 -- ran out nothing is said

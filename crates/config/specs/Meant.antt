@@ -4,7 +4,7 @@ use Rattle.config.specs.declared.draft.Draft.{Draft}
 use Rattle.config.specs.declared.reading.Reading.{Reading}
 use Rattle.config_words.specs.declared.keyword.LinePlace.{LinePlace}
 use Rattle.config_words.specs.declared.keyword.LinePlace.TheVariants.{Start}
-use Rattle.config.specs.Accepted.{AcceptsLine, IsAccepted}
+use Rattle.config.specs.Accepted.{AcceptsLine, AreUnmixed, IsAccepted}
 use Rattle.config.specs.Configurations.{Parts}
 use Rattle.config_words.specs.Places.{is_section}
 use Rattle.config.specs.Views.{view, view_of}
@@ -13,6 +13,7 @@ use Rattle.config.specs.Views.{view, view_of}
 pub record IsDrawn (p : Parts) (d : Draft) : Type 0 where
   pub view : view d ≡ view_of p
   pub first : p.current.kind ≡ Start → p.ended ≡ []
+  pub unmixed : AreUnmixed p
 
 -- as long as no line was faulty
 abbrev pub Draws : Parts → Reading → Type 0

@@ -182,6 +182,11 @@ contradicts (AtChannel c) (FarIs store mailbox) = is_some mailbox && not (is_emp
 contradicts (AtChannel c) (NearIs store mailbox) = is_some mailbox && not (is_empty c.patterns)
 contradicts s line = false
 
+-- a channel has both
+abbrev pub is_mixed : Sketch → Bool
+is_mixed (AtChannel c) = (is_some c.far_box || is_some c.near_box) && not (is_empty c.patterns)
+is_mixed s = false
+
 -- a line says something that does not contradict the section
 abbrev pub IsUnmixed : Sketch → Option Said → Type 0
 IsUnmixed s None = ⊥

@@ -1,13 +1,13 @@
 //! A configuration while it is read: what its lines say, whatever their numbers.
 
-ghost use Rattle.std.specs.Prelude.{◌≡◌, ℕ, List, IfOk, IfSome, IsTrue, OnOk, None, Some, false, true, map, string_bytes};
+ghost use Rattle.std.specs.Prelude.{◌≡◌, ◌↔◌, ℕ, List, IfOk, IfSome, IsTrue, OnOk, None, Some, false, true, map, string_bytes};
 ghost use Rattle.config.specs.Accepted.{IsAccepted, IsClear};
-ghost use Rattle.config.specs.Drafts.{IsMet, IsMisplaced, IsTaken, entered, entered_again, given, standing_of, unless_misplaced};
+ghost use Rattle.config.specs.Drafts.{HasRequired, IsMet, IsMisplaced, IsTaken, entered, entered_again, given, standing_of, unless_misplaced};
 ghost use Rattle.config.specs.Lines.{IsUpTo};
 ghost use Rattle.config.specs.Outlines.{Reports};
 ghost use Rattle.config.specs.Readings.{HasLines, IsLine, NamesLines, SectionLines};
 ghost use Rattle.config.specs.Sections.{IsTitled, keyword_in, line_said};
-ghost use Rattle.config.specs.Views.{IsUnmixed, Shows, begun_view, ended_view, first_view, titled_view, imap_place, maildir_place, put_view, set_in_section, sketch, view, view_said, view_with};
+ghost use Rattle.config.specs.Views.{IsUnmixed, Shows, is_mixed, begun_view, ended_view, first_view, titled_view, imap_place, maildir_place, put_view, set_in_section, sketch, view, view_said, view_with};
 ghost use Rattle.config_words.specs.Keywords.{fits_at, section_of};
 ghost use Rattle.config_words.specs.Meanings.{ChannelsAre, FarIs, NearIs, said, said_of};
 ghost use Rattle.config_words.specs.Words.{Split, arguments_of, is_plain};
@@ -100,7 +100,9 @@ impl Draft {
     }
 
     /// Whether the section has each keyword that it has to have.
-    pub fn is_whole(&self) -> bool {
+    pub fn is_whole(&self) -> bool
+        ensures { IsTrue result ↔ HasRequired self.now }
+    {
         let required = self.section.place().required();
         required.iter().all(|keyword| self.seen.contains(keyword))
     }
@@ -115,6 +117,7 @@ impl Draft {
         ensures titled { let at = (standing_of self.old).at in
             OnOk result (IsTitled (opened at keyword.now) (line_said at (keyword.now, arguments.now))) }
         ensures accepted { OnOk result (IsAccepted (standing_of self.old).at (keyword.now, arguments.now)) }
+        ensures unmixed { is_mixed (view self.old).section ≡ false → OnOk result (is_mixed (view self.new).section ≡ false) }
         ensures lines { (last : ℕ) → IsLine last line → NamesLines last self.old → NamesLines last self.new }
     {
         let Some(keyword) = FirstWord::read(keyword) else {

@@ -1,7 +1,7 @@
 //! How a configuration is read from its text (docs/FORMATS.md, "Configuration").
 
 ghost use Rattle.std.specs.Prelude.{◌≡◌, ◌≢◌, [], length, IfErr, IfOk, MatchResult, OnOk};
-ghost use Rattle.config.specs.Accepted.{IsWhole};
+ghost use Rattle.config.specs.Accepted.{HasUnmixed, IsWhole};
 ghost use Rattle.config.specs.Configurations.{Means, text_meaning};
 ghost use Rattle.config.specs.Lines.{IsUpTo};
 ghost use Rattle.config.specs.Outlines.{IsReportedOf};
@@ -20,13 +20,14 @@ use texts::lines::Lines;
 /// A line that begins a section under a name that is taken is never skipped, nor is one that gives a letter or the name of
 /// a keyword that a line above gives in the same place: it is reported as `DefinedTwice` or as `KeywordGiven`, unless a fault that
 /// comes before it is reported. A configuration has just the stores, the channels and the groups that the lines say, and each
-/// group just its channels; and no line is skipped but empty ones and comments.
+/// group just its channels; no channel that names a mailbox has patterns; and no line is skipped but empty ones and comments.
 pub fn read_config(alloc: Global, text: &[u8]) -> Result<Config, ConfigFault>
     ensures lines { IfErr result (IsUpTo (length (lines_of text.now))) }
     ensures again { MatchResult result (λ config. faults_again text.now ≡ [])
         (λ fault. fault.kind ≢ FaultKind.NoMemory → IsReportedOf (faults_again text.now) fault) }
     ensures means { IfOk result (Means (text_meaning text.now)) }
     ensures whole { OnOk result (IsWhole text.now) }
+    ensures unmixed { OnOk result (HasUnmixed text.now) }
 {
     let mut reading = Reading::new(alloc);
     let mut lines = Lines::new(text);

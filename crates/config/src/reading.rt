@@ -1,9 +1,10 @@
 //! The lines of a configuration, read one after another, and the first faulty one.
 
-ghost use Rattle.std.specs.Prelude.{◌≡◌, ◌<◌, ◌+◌, ℕ, List, [], All, IfErr, IfOk, IfSome, MatchResult, None, OnOk, IsSome, not, is_none, true, ◌&&◌, ◌||◌};
+ghost use Rattle.std.specs.Prelude.{◌≡◌, ◌<◌, ◌+◌, ℕ, List, [], All, IfErr, IfOk, IfSome, MatchResult, None, OnOk, Some, IsSome, not, is_none, true, ◌&&◌, ◌||◌};
+ghost use Rattle.config.specs.Accepted.{IsOneOrMatching};
 ghost use Rattle.config.specs.Lines.{IsUpTo};
 ghost use Rattle.config.specs.Configurations.{Means, Parts, ended, meaning_of, no_parts, parted, parted_words};
-ghost use Rattle.config.specs.Drafts.{standing_of};
+ghost use Rattle.config.specs.Drafts.{HasRequired, standing_of};
 ghost use Rattle.config.specs.Meant.{Draws, IsMeant, Knows, Took, TookLine};
 ghost use Rattle.config.specs.Views.{view};
 ghost use Rattle.config.specs.Outlines.{IsAfterWords, IsOutlined, IsReportedOf, Reports, earlier};
@@ -136,6 +137,8 @@ impl Reading {
         ensures standing { standing_of self.new.draft ≡ standing_at (closed (standing_of self.old.draft).at) (standing_of self.old.draft) }
         ensures meant { (p : Parts) → Knows p self.old → OnOk result (Knows (ended p) self.new) }
         ensures none { self.new.first ≡ None → self.old.first ≡ None }
+        ensures missing { (line : ℕ) → self.old.begun ≡ Some line → ¬ HasRequired self.old.draft
+            → OnOk result (self.new.first ≡ Some (earlier self.old.first (record { line = line; kind = FaultKind.KeywordMissing }))) }
     {
         let is_whole = self.draft.is_whole();
         let is_kept = self.draft.end_section()?;
@@ -161,6 +164,7 @@ impl Reading {
         ensures again { (again : List ConfigFault) → Reports again self.first →
             IfOk result (λ reported. MatchResult reported (λ config. again ≡ []) (IsReportedOf again)) }
         ensures means { (p : Parts) → Knows p self → IfOk result (λ reported. IfOk reported (Means (meaning_of (ended p)))) }
+        ensures unmixed { (p : Parts) → Knows p self → IfOk result (λ reported. OnOk reported (All IsOneOrMatching (ended p).ended)) }
         ensures none { IfOk result (λ reported. OnOk reported (self.first ≡ None)) }
     {
         self.end_section()?;

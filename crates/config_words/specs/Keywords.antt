@@ -1,5 +1,5 @@
 -- The keywords that words name, and those that begin sections.
-use Rattle.std.specs.Prelude.{ℕ, Bool, true, false, ◌||◌, List, Option, Some, None, is_some, codes, if◌then◌else◌}
+use Rattle.std.specs.Prelude.{ℕ, Bool, true, false, ◌||◌, List, [], ◌∷◌, Option, Some, None, is_some, codes, if◌then◌else◌}
 use Rattle.std.specs.Str.{str_eq_ignore_ascii_case}
 use Rattle.config_words.specs.declared.keyword.FirstWord.{FirstWord}
 use Rattle.config_words.specs.declared.keyword.FirstWord.TheVariants.{ImapStore, MaildirStore, Channel, Group, Host, Port, User, Pass, Path, Inbox, SubFolders, Far, Near, Patterns, Sync, Create, Expunge, SyncState, Channels}
@@ -71,6 +71,13 @@ adds_up Patterns = true
 adds_up keyword.Keyword = true
 adds_up Channels = true
 adds_up _ = false
+
+-- those that a section has to have
+abbrev pub required_at : LinePlace → List FirstWord
+required_at place.ImapStore = Host ∷ User ∷ Pass ∷ []
+required_at place.MaildirStore = Path ∷ []
+required_at place.Channel = Far ∷ Near ∷ []
+required_at _ = []
 
 -- ---- words, which compare without case
 

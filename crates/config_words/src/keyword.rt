@@ -1,7 +1,7 @@
 //! The keywords of a configuration, and where each may stand.
 
 ghost use Rattle.std.specs.Prelude.{◌≡◌, false, not, IfNone, IsSome, option_and_then};
-ghost use Rattle.config_words.specs.Keywords.{adds_up, fits_at, is_default, keyword_named, manner_keyword, meant_at, opened_by, section_keyword, section_of, setting_keyword};
+ghost use Rattle.config_words.specs.Keywords.{adds_up, fits_at, is_default, keyword_named, manner_keyword, meant_at, opened_by, required_at, section_keyword, section_of, setting_keyword};
 ghost use Rattle.config_words.specs.Places.{is_section, section_named};
 
 /// What the first word of a line is.
@@ -202,7 +202,9 @@ impl FirstWord {
 
 impl LinePlace {
     /// The keywords that a section has to have.
-    pub fn required(self) -> &'static [FirstWord] {
+    pub fn required(self) -> &'static [FirstWord]
+        ensures { result.now ≡ required_at self }
+    {
         match self {
             LinePlace::ImapStore => &[FirstWord::Host, FirstWord::User, FirstWord::Pass],
             LinePlace::MaildirStore => &[FirstWord::Path],

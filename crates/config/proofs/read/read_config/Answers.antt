@@ -40,6 +40,11 @@ returns-in-Ok-finish-clause-means c =
     c.in-Ok-finish.ensures.means (fold parted no_parts (lines_of c.args.text.now))
     (all_parted c.args.text.now c.loop-line.lines.taken c.loop-line.lines.rest.now c.loop-line.reading c.loop-line.invariant.3 c.in_default.ensures.all)
 
+pub returns-in-Ok-finish-clause-unmixed : goal.returns-in-Ok-finish-clause-unmixed
+returns-in-Ok-finish-clause-unmixed c =
+    c.in-Ok-finish.ensures.unmixed (fold parted no_parts (lines_of c.args.text.now))
+    (all_parted c.args.text.now c.loop-line.lines.taken c.loop-line.lines.rest.now c.loop-line.reading c.loop-line.invariant.3 c.in_default.ensures.all)
+
 pub returns-in-Ok-finish-clause-whole : goal.returns-in-Ok-finish-clause-whole
 returns-in-Ok-finish-clause-whole c =
     on_reported c.in-Ok-finish.reported (all_accepted c.args.text.now c.loop-line.lines.taken c.loop-line.lines.rest.now c.loop-line.reading c.loop-line.invariant.3 c.in_default.ensures.all)

@@ -13,6 +13,7 @@ use Rattle.config_words.specs.Meanings.{Said, said}
 use Rattle.config_words.specs.Places.{opened}
 use Rattle.config_words.specs.Words.{arguments_of}
 use Rattle.config.specs.Views.{view}
+use Rattle.config.proofs.UnmixedLemmas.{read_unmixed}
 use Rattle.config.proofs.ViewLemmas.{begins_so, line_at, read_accepted, read_titled, read_view}
 use Rattle.config.proofs.draft.Draft.read.Goals as goal
 
@@ -90,3 +91,10 @@ returns-clause-accepted c =
     read_accepted c.read_arguments.result c.in_ok-misplaced.misplaced at read c.at-keyword.result c.args.keyword.now c.args.arguments.now c.in-Some.ensures.named
     (c.at-keyword.ensures.meant ∙ ap (λ (p : LinePlace). meant_at p read) c.place.ensures) c.in_ok-misplaced.ensures.fits c.read_arguments.ensures.placed
     c.read_arguments.ensures.clear c.read_arguments.ensures.plain c.read_arguments.ensures.closed
+
+pub returns-clause-unmixed : goal.returns-clause-unmixed
+returns-clause-unmixed c =
+    let meant = c.at-keyword.result in
+    read_unmixed c.read_arguments.result c.in_ok-misplaced.misplaced (section_of meant) (said meant (arguments_of c.args.arguments.now).list) (view c.args.self.now)
+    (view c.meet.new.self) (view c.read_arguments.new.self) c.in_ok-misplaced.ensures.view c.read_arguments.ensures.placed c.read_arguments.ensures.unmixed
+    c.read_arguments.ensures.view

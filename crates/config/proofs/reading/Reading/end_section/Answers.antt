@@ -1,13 +1,13 @@
 use Rattle.std.proofs.Common.{◌≡◌, ◌∙◌, ℕ, ap, refl, subst, sym}
-use Rattle.std.specs.Prelude.{Option, IfSome, None}
+use Rattle.std.specs.Prelude.{Option, IfSome, None, Some}
 use Rattle.config_words.specs.declared.fault.ConfigFault.{ConfigFault}
 use Rattle.config_words.specs.declared.fault.FaultKind.TheVariants.{KeywordMissing}
 use Rattle.config.specs.declared.reading.Reading.{Reading}
-use Rattle.config.specs.Outlines.{Reports}
+use Rattle.config.specs.Outlines.{Reports, earlier}
 use Rattle.config.specs.Readings.{IsLine, IsRead}
 use Rattle.config.specs.Views.{view}
 use Rattle.config.proofs.OutlineLemmas.{reports_other}
-use Rattle.config.proofs.PartedLemmas.{ended_meant, kept_so, outside_so, some_first}
+use Rattle.config.proofs.PartedLemmas.{ended_meant, kept_so, outside_so, some_first, whole_so}
 use Rattle.config.proofs.reading.Reading.end_section.Goals as goal
 use Rattle.config.proofs.reading.Reading.end_section.Goals.{then-lacks, else-lacks}
 
@@ -53,4 +53,17 @@ returns-after-lacks-clause-reported c = λ again reported. elim c.if-lacks.branc
       subst (λ (f : Option ConfigFault). Reports again f) (sym (ap (λ (r : Reading). r.first) w.self-is ∙ w.note.ensures.first))
       (reports_other again c.args.self.now.first (record { line = c.in-Some.line; kind = KeywordMissing }) reported refl (λ is. cc))
   | else-lacks w ↦ subst (λ (f : Option ConfigFault). Reports again f) (sym (ap (λ (r : Reading). r.first) w.self-is)) reported
+]
+
+pub returns-in_default-clause-missing : goal.returns-in_default-clause-missing
+returns-in_default-clause-missing c = λ line begun lacking. absurd (some_first begun c.in_default.is)
+
+pub returns-after-lacks-clause-missing : goal.returns-after-lacks-clause-missing
+returns-after-lacks-clause-missing c = λ line begun lacking. elim c.if-lacks.branch [
+  | then-lacks w ↦
+      let same : c.in-Some.line ≡ line = cc in
+      ap (λ (r : Reading). r.first) w.self-is ∙ (w.note.ensures.first
+      ∙ ap (λ (n : ℕ). Some (earlier c.args.self.now.first (record { line = n; kind = KeywordMissing }))) same)
+  | else-lacks w ↦
+      absurd (lacking (c.is_whole-is_whole.ensures.0 (whole_so c.is_whole-is_whole.result c.in_ok-is_kept.is_kept c.lacks.result c.args.self.now.first c.lacks.ensures w.if-lacks.false)))
 ]

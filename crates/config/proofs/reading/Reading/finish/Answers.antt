@@ -19,5 +19,9 @@ returns-in-None-clause-means c = λ p knows.
     let meant = c.in_ok-end_section.ensures.meant p knows (c.in_ok-config.ensures.none c.in-None.is) in
     means_so (ended p) c.end_section.new.self.draft c.in_ok-config.config meant.draft (not_open p) (c.in_ok-config.ensures.shows c.in-None.is)
 
+pub returns-in-None-clause-unmixed : goal.returns-in-None-clause-unmixed
+returns-in-None-clause-unmixed c = λ p knows.
+    (c.in_ok-end_section.ensures.meant p knows (c.in_ok-config.ensures.none c.in-None.is)).draft.unmixed.0
+
 pub returns-in-None-clause-none : goal.returns-in-None-clause-none
 returns-in-None-clause-none c = c.end_section.ensures.none (c.in_ok-config.ensures.none c.in-None.is)

@@ -20,6 +20,7 @@ returns-in_default c = record {
 pub returns-in-Ok-clause-meant : goal.returns-in-Ok-clause-meant
 returns-in-Ok-clause-meant c = λ p knows none.
     drawn_words p (c.args.keyword.now, c.args.arguments.now) c.args.self.now.draft c.read.new.self (knows none).draft c.in-Ok.ensures.view c.in-Ok.ensures.titled
+    c.in-Ok.ensures.unmixed
 
 pub returns-in-Ok-clause-read : goal.returns-in-Ok-clause-read
 returns-in-Ok-clause-read c = record {
