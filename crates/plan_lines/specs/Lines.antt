@@ -26,6 +26,13 @@ abbrev pub uid_or_zero : Option ℕ → ℕ
 uid_or_zero None = 0
 uid_or_zero (Some uid) = uid
 
+-- what precedes the first number of a step's line
+abbrev pub line_start : Step → List ℕ
+line_start (New direction uid flags mark) = codes "new " ++ direction_word direction ++ codes " "
+line_start (Gone direction far near) = codes "gone " ++ direction_word direction ++ codes " "
+line_start (Flags direction far near set cleared) = codes "flags " ++ direction_word direction ++ codes " "
+line_start (Expunge side uid) = codes "expunge " ++ side_word side ++ codes " "
+
 abbrev pub step_line : Step → List ℕ
 step_line (New direction uid flags mark) = codes "new " ++ direction_word direction ++ number_text uid
 step_line (Gone direction far near) = codes "gone " ++ direction_word direction ++ pair_text far near

@@ -2,14 +2,15 @@
 //! (docs/FORMATS.md, "Plan lines"). `mbplan` prints the lines of a whole plan, and `mbsync` those of the steps that it performs.
 #![tactic(auto)]
 
+ghost use Rattle.std.specs.Prelude.{◌≡◌, ◌++◌, decimal, length};
 ghost use Rattle.std.specs.Fmt.{WritesOnOk};
 ghost use Rattle.mailcore.specs.FlagNames.{letters_of};
 ghost use Rattle.mailcore.specs.Words.{flags_word};
-ghost use Rattle.plan_lines.specs.Lines.{change_text, number_text, pair_text};
+ghost use Rattle.plan_lines.specs.Lines.{change_text, line_start, number_text};
 
 use itoa::Buffer;
 use mailcore::flags::Flags;
-use mailcore::side::Side;
+use mailcore::side::{Direction, Side};
 use mailcore::uid::Uid;
 use rules::plan::{Note, Step};
 use std::fmt;
@@ -26,40 +27,63 @@ impl fmt::Display for StepLine<'_> {
     ghost output = { λ line. Some (step_line line.0.now) };
 
     fn fmt<W: fmt::Write>(&self, f: &mut fmt::Formatter<W>) -> fmt::Result {
+        f.write_str(line_start(self.0))?;
         match *self.0 {
-            Step::New { direction, uid, .. } => {
-                f.write_str("new ")?;
-                f.write_str(direction.as_str())?;
-                write_number(f, uid.get())
-            }
-            Step::Gone {
-                direction,
-                far,
-                near,
-            } => {
-                f.write_str("gone ")?;
-                f.write_str(direction.as_str())?;
-                write_pair(f, far.get(), near.get())
-            }
+            Step::New { uid, .. } => write_number(f, uid.get()),
+            Step::Gone { far, near, .. } => write_pair(f, far.get(), near.get()),
             Step::Flags {
-                direction,
                 far,
                 near,
                 set,
                 cleared,
+                ..
             } => {
-                f.write_str("flags ")?;
-                f.write_str(direction.as_str())?;
                 write_pair(f, far.get(), near.get())?;
                 write_change(f, " +", set)?;
                 write_change(f, " -", cleared)
             }
-            Step::Expunge { side, uid } => {
-                f.write_str("expunge ")?;
-                f.write_str(side.as_str())?;
-                write_number(f, uid.get())
-            }
+            Step::Expunge { uid, .. } => write_number(f, uid.get()),
         }
+    }
+}
+
+/// How the line of a step begins: what precedes its first number, as one text, since a plan has many lines.
+fn line_start(step: &Step) -> &'static str
+    ensures { result.now ≡ line_start step.now }
+{
+    match *step {
+        Step::New {
+            direction: Direction::Pull,
+            ..
+        } => "new pull ",
+        Step::New {
+            direction: Direction::Push,
+            ..
+        } => "new push ",
+        Step::Gone {
+            direction: Direction::Pull,
+            ..
+        } => "gone pull ",
+        Step::Gone {
+            direction: Direction::Push,
+            ..
+        } => "gone push ",
+        Step::Flags {
+            direction: Direction::Pull,
+            ..
+        } => "flags pull ",
+        Step::Flags {
+            direction: Direction::Push,
+            ..
+        } => "flags push ",
+        Step::Expunge {
+            side: Side::Far,
+            ..
+        } => "expunge far ",
+        Step::Expunge {
+            side: Side::Near,
+            ..
+        } => "expunge near ",
     }
 }
 
@@ -76,7 +100,7 @@ impl fmt::Display for NoteLine<'_> {
     fn fmt<W: fmt::Write>(&self, f: &mut fmt::Formatter<W>) -> fmt::Result {
         match *self.0 {
             Note::Record { far, near, flags } => {
-                f.write_str("record")?;
+                f.write_str("record ")?;
                 write_pair(f, far.get(), near.get())?;
                 f.write_str(" ")?;
                 write_flags(f, flags)
@@ -84,7 +108,7 @@ impl fmt::Display for NoteLine<'_> {
             Note::Drop { far, near } => {
                 let far = far.map_or(0, |uid| uid.get());
                 let near = near.map_or(0, |uid| uid.get());
-                f.write_str("drop")?;
+                f.write_str("drop ")?;
                 write_pair(f, far, near)
             }
         }
@@ -104,6 +128,7 @@ impl fmt::Display for UnfitLine {
     fn fmt<W: fmt::Write>(&self, f: &mut fmt::Formatter<W>) -> fmt::Result {
         f.write_str("unfit ")?;
         f.write_str(self.0.as_str())?;
+        f.write_str(" ")?;
         write_number(f, self.1.get())
     }
 }
@@ -143,27 +168,39 @@ fn write_change<W: fmt::Write>(f: &mut fmt::Formatter<W>, sign: &str, flags: Fla
     write_letters(f, flags)
 }
 
-/// The numbers of a far and a near message, each after a space.
+/// The numbers of a far and a near message, with a space between.
 fn write_pair<W: fmt::Write>(f: &mut fmt::Formatter<W>, far: u32, near: u32) -> fmt::Result
-    ensures { WritesOnOk W.write_str_gives f.old result (pair_text far near) f.new }
+    ensures { WritesOnOk W.write_str_gives f.old result (decimal far ++ number_text near) f.new }
 {
     write_number(f, far)?;
+    f.write_str(" ")?;
     write_number(f, near)
 }
 
-/// A number after a space.
 fn write_number<W: fmt::Write>(f: &mut fmt::Formatter<W>, number: u32) -> fmt::Result
-    ensures { WritesOnOk W.write_str_gives f.old result (number_text number) f.new }
+    ensures { WritesOnOk W.write_str_gives f.old result (decimal number) f.new }
 {
-    f.write_str(" ")?;
     f.write_str(Buffer::new().format(number))
 }
 
 fn write_letters<W: fmt::Write>(f: &mut fmt::Formatter<W>, flags: Flags) -> fmt::Result
     ensures { WritesOnOk W.write_str_gives f.old result (letters_of flags) f.new }
 {
+    // After the last one no other is sought: that would take longer than all before.
+    let mut left = letter_count(flags);
     for letter in flags.letters() {
         f.write_char(char::from(letter))?;
+        left -= 1;
+        if left == 0 {
+            break;
+        }
     }
     Ok(())
+}
+
+/// How many letters flags have.
+fn letter_count(flags: Flags) -> u32
+    ensures { result ≡ length (letters_of flags) }
+{
+    flags.bits().count_ones()
 }
