@@ -10,6 +10,7 @@ use crate::turning::reply_of;
 use imap_replies::reply::Reply;
 use imap_replies::response::{Code, ResponseText};
 use imap_replies::word::NoticeKind;
+use memchr::memchr;
 use std::alloc::{AllocError, Global};
 
 /// The most bytes of LIST replies: those of some hundred thousand mailboxes.
@@ -120,8 +121,12 @@ fn is_numbered(raw: &[u8]) -> bool
     }
 }
 
-/// Whether a reply with a number is a FETCH reply with a whole message.
+/// Whether a reply with a number is a FETCH reply with a whole message. The name of that item ends with a bracket, so a row of a listing,
+/// which has none, is not read here.
 fn has_message(raw: &[u8]) -> bool {
+    if memchr(b']', raw).is_none() {
+        return false;
+    }
     match head_of(raw) {
         ReplyHead::Numbered(_, event, rest) if event.eq_ignore_ascii_case(b"FETCH") => {
             FetchRow::read(rest).is_some_and(|row| row.has_message())
