@@ -88,13 +88,20 @@ impl ReplyExtent {
         if !bytes.ends_with(b"\n") {
             return Extent::Begun;
         }
-        if is_line(bytes) {
-            return Extent::Whole(bytes.len());
-        }
         match literal_digits(bytes) {
-            None => Extent::Whole(bytes.len()),
-            Some(digits) if self.has_room(bytes.len(), digits) => Extent::Begun,
-            Some(_) => Extent::TooLong,
+            Some(digits) if !is_line(bytes) => self.before_literal(bytes, digits),
+            _ => Extent::Whole(bytes.len()),
+        }
+    }
+
+    /// How far the reply goes that begins with these bytes, which end with the length of a literal in these digits.
+    fn before_literal(&self, bytes: &[u8], digits: &[u8]) -> Extent
+        ensures { IsWithin bytes.now result }
+    {
+        if self.has_room(bytes.len(), digits) {
+            Extent::Begun
+        } else {
+            Extent::TooLong
         }
     }
 
