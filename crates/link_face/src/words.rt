@@ -73,6 +73,9 @@ impl Words {
 
     /// Notes what a reply says to people, if it does. If memory runs out, it is not noted.
     pub(crate) fn note(&self, raw: &[u8]) {
+        if let [b'*', b' ', b'0'..=b'9', ..] = raw {
+            return;
+        }
         let _ = match head_of(raw) {
             ReplyHead::Status(status) => self.note_status(status),
             ReplyHead::List(rest) => self.note_listed(rest),
