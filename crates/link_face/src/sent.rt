@@ -35,6 +35,9 @@ impl Sent {
     pub(crate) fn note(&mut self, bytes: &[u8])
         ensures { self.new.scanner ≡ scanned self.old.scanner bytes.now }
     {
+        if self.scanner.pass_octets(bytes) {
+            return;
+        }
         let mut rest = bytes;
         while let Some(following) = self.pass_place(rest) {
             rest = following;

@@ -54,6 +54,12 @@ octets-scanned (b ∷ bs) n count lt =
     ap (λ (p : Phase). scanned (record { phase = p; outside = count }) bs) (in-next n b (omega (arith, lt)))
     ∙ octets-scanned bs (n - 1) count (omega (arith, lt)) ∙ ap (λ (k : ℕ). among k count) (omega (arith, lt))
 
+pub octets_passed : (s : Scanner) (xs : List ℕ) (n : ℕ) → s.phase ≡ In n → length xs < n
+    → scanned s xs ≡ record { phase = In (n - length xs); outside = s.outside }
+octets_passed s xs n inside more =
+    subst (λ (p : Phase). scanned (record { phase = p; outside = s.outside }) xs ≡ among (n - length xs) s.outside) (sym inside)
+    (octets-scanned xs n s.outside more)
+
 pub octets-quiet : (xs : List ℕ) (n count at : ℕ) → length xs < n → All (λ b. b ≢ 0) xs → place_from at (among n count) xs ≡ None
 octets-quiet [] n count at lt clean = refl
 octets-quiet (b ∷ bs) n count at lt clean =

@@ -1,6 +1,6 @@
 //! Where the answer of a reader on a growing text can change, found in one pass over its bytes.
 
-ghost use Rattle.std.specs.Prelude.{◌≡◌, ◌<◌, ◌≤◌, ◌≢◌, ◌++◌, ◌∷◌, All, MatchOption, length, take, true};
+ghost use Rattle.std.specs.Prelude.{◌≡◌, ◌<◌, ◌≤◌, ◌≢◌, ◌++◌, ◌∷◌, All, MatchOption, length, take, true, false};
 ghost use Rattle.wire_reader.specs.declared.lexical.Phase.TheVariants.{In, Plain};
 ghost use Rattle.wire_reader.specs.Scanning.{start, after, scanned, is_place, first_place, up_to, owed_in, is_over};
 ghost use Rattle.wire_reader.specs.Advancing.{Advances, Nul, is_plain};
@@ -63,6 +63,22 @@ impl Scanner {
             }
         }
         None
+    }
+
+    /// Scans octets of a literal of which more are still to come than these, without a look at them. False, and nothing is scanned, where
+    /// the bytes are no such octets.
+    #[tactic(auto, using(crate::proofs::Scanned::octets_passed))]
+    pub fn pass_octets(&mut self, octets: &[u8]) -> bool
+        ensures octets { result ≡ true → self.new ≡ scanned self.old octets.now }
+        ensures others { result ≡ false → self.new ≡ self.old }
+    {
+        match self.phase {
+            Phase::In(n) if octets.len() < n as usize => {
+                self.phase = Phase::In(n - octets.len() as u32);
+                true
+            }
+            _ => false,
+        }
     }
 
     /// Scans some of the bytes, of which there is at least one. Returns how many, and whether the last of these is a place.
