@@ -7,5 +7,6 @@ pub mod MetaLemmas
 pub mod NameLemmas
 pub mod PermutedLemmas
 pub mod PlaceLemmas
+pub mod SearchedLemmas
 pub mod SlotLemmas
 pub mod ReportedLemmas

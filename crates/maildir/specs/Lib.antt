@@ -11,4 +11,5 @@ pub mod Metas
 pub mod NameIndexes
 pub mod Names
 pub mod Slots
+pub mod Standings
 pub mod VisitedFolders

@@ -4,11 +4,14 @@
 //! What is a message, and which, the whole spelling of a name says. Here a name that only begins as that of a message counts as well, so
 //! that a file which got an odd tail, as `NAME,U=5:2,SF` or `NAME,U=5~`, is not taken for one that was removed.
 
+ghost use Rattle.std.specs.Prelude.{◌≡◌};
+ghost use Rattle.std.specs.List.Sorted.{IsNonDecreasingBy};
+ghost use Rattle.maildir.specs.Standings.{is_among, is_marked, is_spelled, uid_ahead};
+
 use crate::entries::entries_in;
 use crate::folder::{FileName, Place};
 use crate::name::{read_name, read_uid};
 use mailcore::uid::Uid;
-use memchr::memchr;
 use std::alloc::{AllocError, Global};
 use std::io;
 use std::rt::Files;
@@ -121,20 +124,29 @@ fn reported_among(name: &[u8], uids: &[Uid]) -> Option<Uid> {
 }
 
 /// The UID after `U=` at the head of this piece of a name, whatever comes after its digits.
-fn reported_uid(piece: &[u8]) -> Option<Uid> {
+fn reported_uid(piece: &[u8]) -> Option<Uid>
+    ensures { result ≡ uid_ahead piece.now }
+{
     let following = piece.strip_prefix(b"U=")?;
-    let digits = following.split(|byte| !byte.is_ascii_digit()).next()?;
-    read_uid(digits)
+    let end = following
+        .iter()
+        .position(|byte| !byte.is_ascii_digit())
+        .unwrap_or(following.len());
+    read_uid(&following[..end])
 }
 
 /// Whether a UID is one of these, which rise.
-fn is_among(uid: Uid, uids: &[Uid]) -> bool {
+fn is_among(uid: Uid, uids: &[Uid]) -> bool
+    ensures { IsNonDecreasingBy (λ uid. uid) uids.now → result ≡ is_among uids.now uid }
+{
     uids.binary_search_by_key(&uid.get(), |one| one.get())
         .is_ok()
 }
 
 /// Whether this is the whole name of a message.
-fn is_spelled(name: &[u8]) -> bool {
+fn is_spelled(name: &[u8]) -> bool
+    ensures { result ≡ is_spelled name.now }
+{
     match read_name(name) {
         Some(name) => name.uid.is_some(),
         None => false,
@@ -142,9 +154,11 @@ fn is_spelled(name: &[u8]) -> bool {
 }
 
 /// Whether the letter of a message that is marked as deleted stands among the flags of a name.
-fn is_marked(name: &[u8]) -> bool {
+fn is_marked(name: &[u8]) -> bool
+    ensures { result ≡ is_marked name.now }
+{
     match cut(name, b':') {
-        Some((_, flags)) => memchr(b'T', flags).is_some(),
+        Some((_, flags)) => flags.contains(&b'T'),
         None => false,
     }
 }

@@ -1,6 +1,6 @@
 use Rattle.std.proofs.Common.{rules}
 use Rattle.guarded.specs.declared.due.Due.{Due}
-use Rattle.guarded.proofs.LookedUp.{rises_by}
+use Rattle.maildir.proofs.SearchedLemmas.{rises_by}
 use Rattle.guarded.proofs.sorted.Dues.sorted.Goals as goal
 
 pub invariant_of-result : goal.invariant_of-result

@@ -1,6 +1,6 @@
 use Rattle.std.proofs.Common.{◌∙◌, sym, rules, ℕ}
 use Rattle.std.proofs.lemmas.List.Sorted.{answers_always}
-use Rattle.guarded.proofs.LookedUp.{is_there}
+use Rattle.maildir.proofs.SearchedLemmas.{is_there}
 use Rattle.guarded.proofs.sorted.Uids.has.Goals as goal
 
 pub returns : goal.returns

@@ -1,5 +1,5 @@
 use Rattle.std.proofs.Common.{rules, ℕ}
-use Rattle.guarded.proofs.LookedUp.{rises_by}
+use Rattle.maildir.proofs.SearchedLemmas.{rises_by}
 use Rattle.guarded.proofs.sorted.Uids.sorted.Goals as goal
 
 pub invariant_of-result : goal.invariant_of-result
