@@ -1,12 +1,12 @@
 -- UID EXPUNGE as one walk over the messages.
-use Rattle.std.proofs.Common.{◌≡◌, ◌<◌, ◌≤◌, ◌^◌, ℕ, zero, suc, ◌+◌, Bool, true, false, not, cond, ◌||◌, eqb, List, [], ◌∷◌, ◌++◌, length, map, filter, refl, sym, ◌∙◌, ap, subst, append-nil, append_assoc, Option, Some, arith, get_or, if◌then◌else◌}
-use Rattle.std.specs.Prelude.{All, slice_get}
+use Rattle.std.proofs.Common.{◌≡◌, ◌<◌, ◌≤◌, ◌^◌, ℕ, zero, suc, ◌+◌, Bool, true, false, not, cond, ◌||◌, eqb, List, [], ◌∷◌, ◌++◌, length, map, take, drop, filter, refl, sym, ◌∙◌, ap, subst, append-nil, append_assoc, take-append-drop, drop-cons, Option, Some, arith, get_or, if◌then◌else◌}
+use Rattle.std.specs.Prelude.{All, ◌&&◌, slice_get}
 use Rattle.std.specs.List.{list_any}
-use Rattle.std.proofs.lemmas.List.Elements.{All-filter}
+use Rattle.std.proofs.lemmas.List.Elements.{All-filter, filter-append}
 use Rattle.std.proofs.lemmas.List.Kept.{AllPairs-filter}
 use Rattle.std.proofs.lemmas.Bool.Decides.{nat_tests}
 use Rattle.mailcore.specs.declared.mailbox.Message.{Message}
-use Rattle.mailcore.specs.FlagSet.{FLAGS}
+use Rattle.mailcore.specs.FlagSet.{FLAGS, DELETED, has}
 use Rattle.mailcore.specs.Listed.{AreRising}
 use Rattle.mailcore.specs.Stores.{Store}
 use Rattle.wire_strings.specs.Literals.{IsLiteral}
@@ -15,6 +15,8 @@ use Rattle.imap_session.specs.Mailboxes.{FarMailbox}
 use Rattle.imap_session.specs.NamedMessages.{goes, swept, named_in, uids_going}
 use Rattle.imap_messages.specs.Boxes.{IsServed}
 use Rattle.imap_messages.specs.Changing.{stays}
+use Rattle.imap_messages.specs.Naming.{IsReach}
+use Rattle.imap_messages.proofs.ReachLemmas.{unnamed_before, unnamed_after}
 
 -- ---- the UIDs of those that go name them alone, since UIDs rise
 
@@ -88,3 +90,42 @@ stay_served m p is = record {
   };
   bodies = All-filter p (λ (x : Message). IsLiteral x.bytes) m.store.messages is.bodies;
 }
+
+-- ---- only messages within the reach of the set go
+
+all_stay : (named : ℕ → Bool) (ms : List Message) → All (λ (m : Message). named m.uid ≡ false) ms → filter (stays named) ms ≡ ms
+all_stay named [] unnamed = refl
+all_stay named (m ∷ ms) unnamed =
+    ap (λ (b : Bool). cond (not (b && has m.flags DELETED)) (m ∷ filter (stays named) ms) (filter (stays named) ms)) (unnamed 0 m (omega arith))
+    ∙ ap (λ (l : List Message). m ∷ l) (all_stay named ms (λ k d within. unnamed (suc k) d (omega arith)))
+
+module _ (named : ℕ → Bool) (ms : List Message) (start end : ℕ) (reach : IsReach named ms start end) (inside : start ≤ length ms) where
+  stays_before : filter (stays named) ms ≡ take start ms ++ filter (stays named) (drop start ms)
+  stays_before =
+      ap (filter (stays named)) (sym (take-append-drop start ms)) ∙ filter-append (stays named) (take start ms) (drop start ms)
+      ∙ ap (λ (l : List Message). l ++ filter (stays named) (drop start ms)) (all_stay named (take start ms) (unnamed_before named ms start end reach inside))
+
+  stays_after : (place : ℕ) → end ≤ place → filter (stays named) (drop place ms) ≡ drop place ms
+  stays_after place following = all_stay named (drop place ms) (unnamed_after named ms start end place reach following)
+
+  -- nothing is named
+  pub none_goes : end ≤ start → filter (stays named) ms ≡ ms
+  none_goes empty = stays_before ∙ ap (λ (l : List Message). take start ms ++ l) (stays_after start empty) ∙ take-append-drop start ms
+
+  -- one message may be named
+  pub one_goes : (m : Message) (test : Bool) → start < length ms → end ≤ start + 1 → m ≡ get_or ms start m → test ≡ goes named m
+      → filter (stays named) ms ≡ cond test (take start ms ++ drop (start + 1) ms) ms
+  one_goes m test there alone is t =
+      let next : suc start ≡ start + 1 = omega arith in
+      let rest : drop start ms ≡ m ∷ drop (start + 1) ms =
+      drop-cons ms start m there ∙ ap (λ (x : Message). x ∷ drop (suc start) ms) (sym is) ∙ ap (λ (n : ℕ). m ∷ drop n ms) next in
+      stays_before
+      ∙ ap (λ (l : List Message). take start ms ++ filter (stays named) l) rest
+      ∙ ap (λ (l : List Message). take start ms ++ cond (stays named m) (m ∷ l) l) (stays_after (start + 1) alone)
+      ∙ ap (λ (b : Bool). take start ms ++ cond (not b) (m ∷ drop (start + 1) ms) (drop (start + 1) ms)) (sym t)
+      ∙ by_test test rest
+    where
+      by_test : (b : Bool) → drop start ms ≡ m ∷ drop (start + 1) ms
+          → take start ms ++ cond (not b) (m ∷ drop (start + 1) ms) (drop (start + 1) ms) ≡ cond b (take start ms ++ drop (start + 1) ms) ms
+      by_test true rest = refl
+      by_test false rest = ap (λ (l : List Message). take start ms ++ l) (sym rest) ∙ take-append-drop start ms

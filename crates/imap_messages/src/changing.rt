@@ -71,12 +71,19 @@ pub fn expunge(alloc: Global, mailbox: &mut StoredMailbox, set: &UidSet)
     mailbox.messages = Messages::from_vec(list);
 }
 
-/// Leaves those of all messages of a mailbox that stay.
+/// Leaves those of all messages of a mailbox, in the order of their UIDs, that stay.
 fn keep_staying(list: &mut Vec<Message>, set: &UidSet)
+    requires { AreRising list.old.items }
     ensures { list.new.items ≡ filter (stays (names (greatest list.old.items) set.now)) list.old.items }
 {
     let top = greatest(list);
-    list.retain(|message| !goes(set, top, message));
+    let (start, end) = reach(list, set, top);
+    if end - start > 1 {
+        list.retain(|message| !goes(set, top, message));
+    } else if start < end && goes(set, top, &list[start]) {
+        // One message alone: no other is looked at.
+        list.remove(start);
+    }
 }
 
 /// Whether the set names the message and it is marked as deleted, where this is the greatest UID.
