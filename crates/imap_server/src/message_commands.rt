@@ -234,9 +234,10 @@ fn say_removed(mailbox: &StoredMailbox, set: &UidSet, out: &mut Vec<u8>) -> Resu
 {
     let messages = mailbox.messages.as_slice();
     let top = greatest(messages);
-    let mut place = 1u32;
-    for message in messages {
-        if goes(set, top, message) {
+    let (start, end) = reach(messages, set, top);
+    let mut place = start as u32 + 1;
+    for index in start..end {
+        if goes(set, top, &messages[index]) {
             say_expunged(place, out)?;
         } else {
             place += 1;
