@@ -1,12 +1,13 @@
 //! What one reading of the names in `new` and `cur` found: messages, files that wait for a UID, and files that can get none.
 
-ghost use Rattle.std.specs.Prelude.{◌≡◌, is_some};
-ghost use Rattle.maildir.specs.Names.{is_waiting, uid_in};
+ghost use Rattle.std.specs.Prelude.{◌≡◌, ℕ, List, is_some};
+ghost use Rattle.std.specs.Option.{option_map};
+ghost use Rattle.maildir.specs.Names.{is_waiting, name_of, parts_of, uid_in};
 
 use crate::entries::entries_in;
 use crate::folder::{FileName, Place};
 use crate::kinds::is_file;
-use crate::name::read_name;
+use crate::name::{Name, read_name};
 use device::disk::Disk;
 use std::alloc::Global;
 use std::path::Path;
@@ -91,8 +92,9 @@ fn how_taken<R: Files + AllocGlobal + Clone + Drop>(
     folder: &str,
     bytes: &[u8],
 ) -> io::Result<TakenName> {
-    let taken = by_name(bytes);
-    let has_uid = has_uid(bytes);
+    let parts = read_name(bytes);
+    let taken = by_name(bytes, &parts);
+    let has_uid = has_uid(&parts);
     let Ok(name) = str::from_utf8(bytes) else {
         return Ok(unread(has_uid, taken));
     };
@@ -107,9 +109,9 @@ fn how_taken<R: Files + AllocGlobal + Clone + Drop>(
     }
 }
 
-/// How the name of a file is taken.
-fn by_name(name: &[u8]) -> TakenName {
-    match read_name(name) {
+/// How the name of a file is taken, which was read.
+fn by_name(name: &[u8], parts: &Option<Name<'_>>) -> TakenName {
+    match parts {
         Some(parts) if parts.uid.is_none() && name.len() > WAITING_MAX => TakenName::LeftOut,
         Some(_) => TakenName::Listed,
         None if name.first() == Some(&b'.') => TakenName::Passed,
@@ -126,11 +128,11 @@ fn unread(has_uid: bool, taken: TakenName) -> TakenName {
     }
 }
 
-/// Whether a name carries a UID.
-fn has_uid(name: &[u8]) -> bool
-    ensures { result ≡ is_some (uid_in name.now) }
+/// Whether a name that was read carries a UID.
+fn has_uid(parts: &Option<Name<'_>>) -> bool
+    ensures { (name : List ℕ) → option_map parts_of parts.now ≡ name_of name → result ≡ is_some (uid_in name) }
 {
-    match read_name(name) {
+    match parts {
         Some(name) => name.uid.is_some(),
         None => false,
     }
