@@ -1,3 +1,2 @@
 pub mod Spared
 pub mod Unread
-pub mod WorldTexts

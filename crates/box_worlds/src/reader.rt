@@ -1,10 +1,9 @@
 //! Reads the world of a mailbox.
 
-ghost use Rattle.std.specs.Prelude.{◌≡◌, true, IfOk, None};
+ghost use Rattle.std.specs.Prelude.{◌≡◌, true, None};
 ghost use Rattle.near_side.specs.NearSides.{seen_of};
 ghost use Rattle.guarded.specs.Given.{given_by, is_again};
 ghost use Rattle.box_worlds.specs.Unread.{unless_anew};
-ghost use Rattle.box_worlds.specs.WorldTexts.{IsWorldText};
 
 use crate::bodies::Bodies;
 use crate::mailbox_parts::empty_mailbox;
@@ -57,7 +56,6 @@ impl WorldReader<'_> {
         near: &mut NearSide<F>,
         book: &mut Book<S>,
     ) -> Result<String, UnreadWorld>
-        ensures text { IfOk result (IsWorldText self.options.now) }
         ensures far { M.alone ≡ true → M.honest far.new → (M.seen far.new).stored ≡ (M.seen far.old).stored }
         ensures near { F.visitors.alone ≡ true → F.is_honest ≡ true → (seen_of near.new).stored ≡ (seen_of near.old).stored }
         ensures files { S.is_honest ≡ true → (S.seen book.new.shelf).stored ≡ (S.seen book.old.shelf).stored }
@@ -81,7 +79,6 @@ impl WorldReader<'_> {
         near: &mut NearSide<F>,
         book: &mut Book<S>,
     ) -> Result<String, UnreadWorld>
-        ensures text { IfOk result (IsWorldText self.options.now) }
         ensures near { F.visitors.alone ≡ true → F.is_honest ≡ true → (seen_of near.new).stored ≡ (seen_of near.old).stored }
         ensures files { S.is_honest ≡ true → (S.seen book.new.shelf).stored ≡ (S.seen book.old.shelf).stored }
     {
@@ -103,7 +100,6 @@ impl WorldReader<'_> {
         far: &mut M,
         fresh: NonZeroU32,
     ) -> Result<String, UnreadWorld>
-        ensures text { IfOk result (IsWorldText self.options.now) }
         ensures far { M.alone ≡ true → M.honest far.new → (M.seen far.new).stored ≡ (M.seen far.old).stored }
     {
         let state = SyncState::none(self.alloc);
@@ -117,9 +113,7 @@ impl WorldReader<'_> {
     }
 
     /// The same of one that is to be made on both sides.
-    pub fn text_without_both(self, fresh: NonZeroU32) -> Result<String, AllocError>
-        ensures { IfOk result (IsWorldText self.options.now) }
-    {
+    pub fn text_without_both(self, fresh: NonZeroU32) -> Result<String, AllocError> {
         let parts = WorldParts {
             far: empty_mailbox(self.alloc, UNMADE_VALIDITY)?,
             near: empty_mailbox(self.alloc, fresh.get())?,
@@ -129,9 +123,7 @@ impl WorldReader<'_> {
     }
 
     /// The text of a world of these parts, and of what the last run recorded.
-    fn written(self, parts: &WorldParts, state: &SyncState) -> Result<String, AllocError>
-        ensures { IfOk result (IsWorldText self.options.now) }
-    {
+    fn written(self, parts: &WorldParts, state: &SyncState) -> Result<String, AllocError> {
         let mut text = String::new(self.alloc);
         write_options(&mut text, self.options)?;
         let world = WrittenWorld {
