@@ -4,11 +4,11 @@ use Rattle.std.specs.Prelude.{List, ℕ, Bool, Result, Ok, Err}
 use Rattle.device.specs.Calls.{Leaves, Nothing}
 use Rattle.mailcore.specs.Mailboxes.{Mailbox}
 use Rattle.mailcore.specs.declared.side.Side.{Side}
-use Rattle.mailbox.specs.Arrivals.{Arrives}
-use Rattle.mailbox.specs.Calls.{Call, DoesSome, Seen}
-use Rattle.mailbox.specs.Operations.{Answers}
-use Rattle.mailbox.specs.declared.fault.BoxFault.{BoxFault}
-use Rattle.mailbox.specs.declared.fault.BoxFault.TheVariants.{Stopped, Refused, Own, NoMemory}
+use Rattle.outside.specs.BoxArrivals.{Arrives}
+use Rattle.outside.specs.MailboxCalls.{Call, DoesSome, Seen}
+use Rattle.outside.specs.MailboxOperations.{Answers}
+use Rattle.outside.specs.declared.box_fault.BoxFault.{BoxFault}
+use Rattle.outside.specs.declared.box_fault.BoxFault.TheVariants.{Stopped, Refused, Own, NoMemory}
 
 left_alone : {T : Type 0} (states : T → Mailbox → Type 0) (b b' : Mailbox) → Leaves (DoesSome (Answers states)) Nothing b b' → b' ≡ b
 left_alone states b b' (inl same) = same

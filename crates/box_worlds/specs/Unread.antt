@@ -1,7 +1,7 @@
 -- Why a world is not read: as a run would report it.
 use Rattle.std.specs.Prelude.{ℕ, Option, None, Some, Result, Ok, Err}
-use Rattle.mailbox.specs.declared.fault.BoxFault.{BoxFault}
-use Rattle.mailbox.specs.declared.fault.BoxFault.TheVariants as mail
+use Rattle.outside.specs.declared.box_fault.BoxFault.{BoxFault}
+use Rattle.outside.specs.declared.box_fault.BoxFault.TheVariants as mail
 use Rattle.mailcore.specs.declared.fault.PushFault.{PushFault}
 use Rattle.mailcore.specs.declared.fault.PushFault.TheVariants as push
 use Rattle.mailcore.specs.declared.side.Side.{Side}

@@ -2,18 +2,18 @@
 
 ghost use Rattle.std.specs.Prelude.{◌≡◌, false, true, IfOk, OnOk};
 ghost use Rattle.mailcore.specs.Content.{fit};
-ghost use Rattle.near_side.specs.NearSides.{seen_of};
+ghost use Rattle.mail_sides.specs.NearSides.{seen_of};
 
 use crate::bodies::{Bodies, short_body};
 use crate::reader::WorldReader;
 use crate::unread::{UnreadWorld, box_reported};
-use mailbox::mailbox::Mailbox;
+use mail_sides::near_side::NearSide;
 use mailcore::content::fit;
 use mailcore::flags::Flags;
 use mailcore::octets::Octets;
 use mailcore::side::Side;
 use maildir::folder::Folder;
-use near_side::near_side::NearSide;
+use outside::mailbox::Mailbox;
 use std::alloc::AllocError;
 use worlds::world::WaitingFile;
 

@@ -1,7 +1,7 @@
 //! Reads the world of a mailbox.
 
 ghost use Rattle.std.specs.Prelude.{◌≡◌, true, None};
-ghost use Rattle.near_side.specs.NearSides.{seen_of};
+ghost use Rattle.mail_sides.specs.NearSides.{seen_of};
 ghost use Rattle.guarded.specs.Given.{given_by, is_again};
 ghost use Rattle.box_worlds.specs.Unread.{unless_anew};
 
@@ -11,17 +11,17 @@ use crate::unread::UnreadWorld;
 use book::book::Book;
 use book::shelf::Shelf;
 use guarded::given::FarGiven;
-use mailbox::mailbox::Mailbox as OpenMailbox;
+use mail_sides::near_side::NearSide;
 use mailcore::mailbox::StoredMailbox;
 use mailcore::side::Side;
 use maildir::folder::Folder;
-use near_side::near_side::NearSide;
+use outside::mailbox::Mailbox as OpenMailbox;
 use rules::options::Options;
 use rules::state::SyncState;
 use std::alloc::{AllocError, Global};
 use std::num::NonZeroU32;
 use worlds::world::WaitingFile;
-use written_worlds::write::{WrittenMailbox, WrittenWorld, write_options, write_parts};
+use worlds::write::{WrittenMailbox, WrittenWorld, write_options, write_parts};
 
 /// The UIDVALIDITY that a world has for a far mailbox that is to be made.
 const UNMADE_VALIDITY: u32 = 1;

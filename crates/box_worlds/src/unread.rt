@@ -3,10 +3,10 @@
 ghost use Rattle.std.specs.Prelude.{◌≡◌};
 ghost use Rattle.box_worlds.specs.Unread.{box_reported, book_reported, push_reported};
 
-use mailbox::fault::BoxFault;
-use mailbox::fault_number::{FAR_REFUSED, FAR_UNKNOWN_ANSWER};
 use mailcore::fault::PushFault;
 use mailcore::side::Side;
+use outside::box_fault::BoxFault;
+use outside::fault_number::{FAR_REFUSED, FAR_UNKNOWN_ANSWER};
 use runner::fault::RunFault;
 use std::alloc::{AllocError, AllocFailed};
 use sync_state::fault::BookFault;

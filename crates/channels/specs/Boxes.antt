@@ -5,7 +5,7 @@ use Rattle.std.specs.Ordering.{match_ordering, nat_cmp}
 use Rattle.std.specs.declared.cmp.Ordering.TheVariants.{Less}
 use Rattle.std.specs.Cmp.Lexicographic.{slice_cmp, pointwise}
 use Rattle.std.specs.List.{filter, list_any}
-use Rattle.box_patterns.specs.Patterns.{IsChosen}
+use Rattle.config_words.specs.Patterns.{IsChosen}
 
 -- puts a name among names that rise by their bytes, if it is not there
 abbrev pub put_name : List ℕ → List (List ℕ) → List (List ℕ)

@@ -3,7 +3,7 @@ use Rattle.std.specs.Prelude.{◌≡◌, ◌⊎◌, ℕ, List, not, string_bytes
 use Rattle.config.specs.declared.config.Boxes.{Boxes}
 use Rattle.config.specs.declared.config.Boxes.TheVariants.{Pair, Matching}
 use Rattle.rules.specs.declared.options.Sides.{Sides}
-use Rattle.box_patterns.specs.Patterns.{IsChosen}
+use Rattle.config_words.specs.Patterns.{IsChosen}
 use Rattle.channels.specs.Asked.{Joined}
 use Rattle.channels.specs.Boxes.{stands_in}
 

@@ -8,7 +8,7 @@ ghost use Rattle.std.specs.Ordering.{nat_cmp};
 ghost use Rattle.std.specs.Result.{is_ok};
 ghost use Rattle.channels.specs.Boxes.{Rises, Reports, boxes_among, place_from, put_name, put_names, stands_in};
 
-use box_patterns::patterns::{Patterns, matches};
+use config_words::patterns::{Patterns, matches};
 use mailcore::mailbox_name::MailboxName;
 use std::alloc::{AllocError, Global};
 use std::cmp::Ordering;

@@ -4,8 +4,8 @@ ghost use Rattle.std.specs.Prelude.{◌↔◌, IsTrue, MatchOption};
 ghost use Rattle.channels.specs.Asked.{IsJoined, IsUnjoined, joined_of};
 ghost use Rattle.channels.specs.Founds.{CouldChoose};
 
-use box_patterns::patterns::matches;
 use config::config::{Boxes, Channel, Config, ImapStore, MaildirStore};
+use config_words::patterns::matches;
 use mailcore::mailbox_name::MailboxName;
 
 /// A channel and its stores.

@@ -13,7 +13,7 @@ use crate::channel_box::ChannelStores;
 use crate::run_stores::RunStores;
 use crate::store_fault::ListFault;
 use crate::stores::BoxLists;
-use box_patterns::patterns::Patterns;
+use config_words::patterns::Patterns;
 use mailcore::mailbox_name::MailboxName;
 use rules::options::Sides;
 use std::alloc::{AllocError, Global};

@@ -1,12 +1,12 @@
 //! What to do after a fault of a run, printed on a line that begins with two spaces.
 
-use mailbox::fault_number;
 use mailcore::side::{Direction, Side};
-use plan_lines::StepLine;
+use outside::fault_number;
 use rules::plan::Step;
 use runner::fault::RunFault;
 use std::io;
 use std::io::Write;
+use worlds::plan_lines::StepLine;
 
 /// Prints what a fault of a run means, and where the manual page says what to do.
 pub(crate) fn advise_run<E: Write>(err: &mut E, fault: RunFault) -> io::Result<()> {

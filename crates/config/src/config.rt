@@ -2,7 +2,7 @@
 
 ghost use Rattle.std.specs.Prelude.{◌≡◌, []};
 
-use box_patterns::patterns::Patterns;
+use config_words::patterns::Patterns;
 use mailcore::keywords::Keywords;
 use mailcore::mailbox_name::MailboxName;
 use rules::options::{Cells, Sides};

@@ -13,9 +13,9 @@ ghost use Rattle.config_words.specs.Settings.{name_said};
 
 use crate::config::{Boxes, Channel, ImapStore, MaildirStore};
 use crate::group::GroupDraft;
-use box_patterns::patterns::{Pattern, Patterns};
 use config_words::fault::FaultKind;
 use config_words::keyword::LinePlace;
+use config_words::patterns::{Pattern, Patterns};
 use config_words::setting::Setting;
 use mailcore::keywords::Keywords;
 use mailcore::mailbox_name::MailboxName;

@@ -1,1 +1,2 @@
 pub mod MeaningLemmas
+pub mod ChosenLemmas

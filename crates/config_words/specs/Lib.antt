@@ -6,3 +6,4 @@ pub mod Splitters
 pub mod Settings
 pub mod Inboxes
 pub mod Meanings
+pub mod Patterns

@@ -11,7 +11,7 @@ ghost use Rattle.config_words.specs.declared.keyword.LinePlace.TheVariants.{Grou
 use crate::fault::FaultKind;
 use crate::inbox::is_inbox;
 use crate::keyword::FirstWord;
-use box_patterns::patterns::Pattern;
+use crate::patterns::Pattern;
 use mailcore::keywords::is_keyword_name;
 use mailcore::mailbox_name::MailboxName;
 use rules::options::{Cells, Sides};

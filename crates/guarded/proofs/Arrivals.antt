@@ -8,10 +8,10 @@ use Rattle.mailcore.specs.declared.mailbox.Message.{Message}
 use Rattle.mailcore.specs.Content.{mark_of}
 use Rattle.mailcore.specs.Rise.{Rise}
 use Rattle.mailcore.specs.Stores.{Waiting}
-use Rattle.visitors.specs.Visitors.{IsForeign}
+use Rattle.mailcore.specs.Visitors.{IsForeign}
 use Rattle.rules.specs.Opening.{IsFile}
-use Rattle.mailbox.specs.Arrivals.{IsFarMessage}
-use Rattle.mailbox.proofs.Quiet.{none_come}
+use Rattle.outside.specs.BoxArrivals.{IsFarMessage}
+use Rattle.outside.proofs.Quiet.{none_come}
 use Rattle.outside.specs.Arrivals.{Arrives}
 use Rattle.outside.specs.Devices.{Device}
 

@@ -1,7 +1,7 @@
 //! A near message is removed only where the far mailbox lists none that was removed before.
 
 ghost use Rattle.std.specs.Prelude.{◌≡◌, true, OnOk};
-ghost use Rattle.mailbox.specs.Operations.{removed};
+ghost use Rattle.outside.specs.MailboxOperations.{removed};
 ghost use Rattle.mailcore.specs.declared.side.Side.{Side};
 ghost use Rattle.mailcore.specs.declared.side.Side.TheVariants.{Far};
 ghost use Rattle.outside.specs.Arrivals.{Arrives};

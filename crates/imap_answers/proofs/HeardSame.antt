@@ -13,7 +13,7 @@ use Rattle.imap_replies.specs.declared.response.Code.TheVariants as codes_of
 use Rattle.imap_replies.specs.declared.response.ResponseText.TheVariants.{Coded}
 use Rattle.imap_replies.specs.declared.reply.Reply.TheVariants.{Notice}
 use Rattle.imap_session.specs.Heard.{AreSameFlags, AreSameItems, ShowsItem}
-use Rattle.law_session.proofs.HeardAs.{ReadsSame}
+use Rattle.imap_session.proofs.HeardAs.{ReadsSame}
 use Rattle.imap_answers.specs.declared.opening.Opening.{Opening}
 use Rattle.imap_answers.specs.declared.reported.FetchReport.{FetchReport}
 use Rattle.imap_answers.specs.declared.reported.Row.{Row}

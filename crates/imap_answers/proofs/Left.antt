@@ -13,8 +13,8 @@ use Rattle.wire_reader.specs.Answers.{Answers, Takes, TakesEach}
 use Rattle.imap_replies.specs.declared.reply.Reply.{Reply}
 use Rattle.imap_replies.specs.Replies.{ReplyText, seen}
 use Rattle.imap_session.specs.Heard.{AreReplies}
-use Rattle.law_session.proofs.Apart.{apart, replies_apart}
-use Rattle.law_session.proofs.AnswersApart.{reply_some}
+use Rattle.imap_session.proofs.Apart.{apart, replies_apart}
+use Rattle.imap_session.proofs.AnswersApart.{reply_some}
 use Rattle.imap_link.specs.declared.fault.FarFault.TheVariants.{NoMemory}
 use Rattle.imap_link.specs.Faults.{heard_fault}
 use Rattle.imap_answers.specs.Spoken.{Speaks, IsLeft, IsFirst}

@@ -4,7 +4,7 @@ ghost use Rattle.std.specs.Prelude.{◌≡◌, ◌<◌, ◌≤◌, ℕ, List, le
 ghost use Rattle.std.specs.List.{list_any};
 ghost use Rattle.mailcore.specs.declared.mailbox.Message.{Message};
 ghost use Rattle.mailcore.specs.Content.{mark_of};
-ghost use Rattle.passed_marks.specs.Passed.{ArePassed, IsOneOf};
+ghost use Rattle.mailcore.specs.Passed.{ArePassed, IsOneOf};
 ghost use Rattle.imap_replies.specs.declared.reply.Reply.{Reply};
 ghost use Rattle.wire_strings.specs.Quotes.{unescaped};
 ghost use Rattle.imap_answers.specs.Markings.{is_long, is_long_head, has_long_head, bears, marked_uid, lesser, uid_found, mark_found, new_search, Sought};
@@ -17,9 +17,9 @@ use imap_link::fault::FarFault;
 use imap_link::sink::ReplySink;
 use imap_replies::fetch::FetchItem;
 use imap_replies::reply::Reply;
+use mailcore::passed_marks::PassedMarks;
 use mailcore::tuid::Tuid;
 use mailcore::uid::Uid;
-use passed_marks::PassedMarks;
 use std::alloc::{AllocError, Global};
 use wire_strings::string::WireString;
 

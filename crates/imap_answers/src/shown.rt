@@ -4,15 +4,15 @@ ghost use Rattle.std.specs.Prelude.{◌≡◌, ◌<◌, ◌≤◌, ℕ, List, Al
 ghost use Rattle.std.specs.List.{fold, list_any};
 ghost use Rattle.mailcore.specs.declared.mailbox.Message.{Message};
 ghost use Rattle.mailcore.specs.Content.{mark_of};
-ghost use Rattle.passed_marks.specs.Passed.{ArePassed, IsOneOf};
+ghost use Rattle.mailcore.specs.Passed.{ArePassed, IsOneOf};
 ghost use Rattle.imap_answers.specs.Showing.{greater, is_head, mark_shown, mark_reported, marks_more, nothing_shown, reach, shown_more, uid_shown};
 
 use crate::reported::uid_of;
 use imap_replies::fetch::FetchItem;
 use imap_replies::reply::Reply;
 use mailcore::copies::mark_of;
+use mailcore::passed_marks::PassedMarks;
 use mailcore::tuid::Tuid;
-use passed_marks::PassedMarks;
 use std::alloc::{AllocError, Global};
 use std::marker::Model;
 use wire_strings::string::WireString;

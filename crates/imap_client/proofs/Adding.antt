@@ -36,7 +36,7 @@ use Rattle.imap_answers.specs.Given.{given_more, given_in, uid_reported}
 use Rattle.imap_client.specs.Boxes.{selected_name, is_next, IsSelected}
 use Rattle.imap_client.specs.Appending.{AddsUnder, AddsSome, Adds, IsReported, NoUidLeft, next_known}
 use Rattle.imap_answers.proofs.Unread.{given_in_read}
-use Rattle.visitors.specs.Visitors.{Visitors}
+use Rattle.mailcore.specs.Visitors.{Visitors}
 use Rattle.imap_session.specs.Visits.{Visits, Among}
 use Rattle.imap_client.specs.Seen.{HasMap, flags_sent}
 use Rattle.imap_client.proofs.Mapped.{sent_kept}

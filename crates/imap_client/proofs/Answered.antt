@@ -13,8 +13,8 @@ use Rattle.imap_session.specs.Servers.{Server}
 use Rattle.imap_session.specs.Steps.{Step}
 use Rattle.imap_session.specs.Heard.{AreHeardAs, AreReplies, IsHeardAs}
 use Rattle.imap_session.specs.Ends.{MayHave}
-use Rattle.law_session.proofs.Answering.{heard_answer, step_answer}
-use Rattle.law_session.proofs.HeardAs.{reads_same}
+use Rattle.imap_session.proofs.Answering.{heard_answer, step_answer}
+use Rattle.imap_session.proofs.HeardAs.{reads_same}
 use Rattle.imap_link.specs.declared.fault.FarFault.{FarFault}
 use Rattle.imap_link.specs.declared.fault.FarFault.TheVariants as faults
 use Rattle.imap_link.specs.declared.kind.ReplyKind.TheVariants.{Mine, Stray}

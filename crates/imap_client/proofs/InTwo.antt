@@ -35,7 +35,7 @@ use Rattle.imap_commands.proofs.CommandsFit.{command_few}
 use Rattle.imap_replies.specs.declared.reply.Reply.{Reply}
 use Rattle.imap_session.specs.Answering.{go}
 use Rattle.imap_session.specs.Portions.{once, goes_from, goes_in}
-use Rattle.law_session.proofs.Gos.{goes-append}
+use Rattle.imap_session.proofs.Gos.{goes-append}
 use Rattle.mailcore.specs.CopyPieces.{text_left}
 use Rattle.imap_client.specs.declared.addition.Addition.{Addition}
 use Rattle.imap_client.specs.Requests.{IsWord}

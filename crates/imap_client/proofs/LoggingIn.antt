@@ -2,7 +2,7 @@
 use Rattle.std.proofs.Common.{◌≡◌, ◌≤◌, inl, inr, ℕ, ◌+◌, Bool, true, false, List, [], ◌∷◌, ◌++◌, refl, sym, ◌∙◌, ap, subst, arith, Option, Some, None, Result, Ok, Err}
 use Rattle.std.specs.Prelude.{codes, filter, nat_eq, ◌&&◌, ◌||◌, if◌then◌else◌}
 use Rattle.std.specs.Cmp.Lexicographic.{pointwise}
-use Rattle.visitors.specs.Visitors.{Visitors}
+use Rattle.mailcore.specs.Visitors.{Visitors}
 use Rattle.mailcore.specs.declared.keywords.Keyword.{Keyword}
 use Rattle.std.specs.List.{list_any}
 use Rattle.imap_commands.specs.declared.command.Request.TheVariants as requests
@@ -15,7 +15,7 @@ use Rattle.imap_session.specs.Visits.{AllGain, Among}
 use Rattle.imap_session.specs.Answering.{Gives, done, refused_with, out_of_place}
 use Rattle.imap_session.specs.SessionCommands.{REV2, lets_in, logs_in}
 use Rattle.imap_session.specs.Heard.{AreHeardAs, AreReplies, IsHeardAs}
-use Rattle.law_session.proofs.HeardAs.{reads_same}
+use Rattle.imap_session.proofs.HeardAs.{reads_same}
 use Rattle.imap_link.specs.declared.fault.FarFault.{FarFault}
 use Rattle.imap_link.specs.declared.fault.FarFault.TheVariants as faults
 use Rattle.imap_link.specs.UsedReplies.{answer_alone, abilities_read, is_used}

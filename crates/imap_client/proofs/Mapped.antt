@@ -1,6 +1,6 @@
 -- No call changes by which map the flags of a server are seen, nor logs anybody out; and what is sent by the names of that map.
 use Rattle.std.proofs.Common.{◌≡◌, inl, inr, ℕ, true, List, ap, refl, ◌∙◌, Result, Ok, Err}
-use Rattle.visitors.specs.Visitors.{Visitors}
+use Rattle.mailcore.specs.Visitors.{Visitors}
 use Rattle.mailcore.specs.declared.keywords.Keyword.{Keyword}
 use Rattle.mailcore.specs.KeywordNames.{IsMap, kept, named_set, names_of}
 use Rattle.mailcore.proofs.KnownFlags.{read_kept}

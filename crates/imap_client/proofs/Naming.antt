@@ -14,7 +14,7 @@ use Rattle.imap_session.specs.Servers.{Server, is_logged_in}
 use Rattle.imap_session.specs.Answering.{Gives, listed, done, out_of_place}
 use Rattle.imap_session.specs.MailboxCommands.{names_matched}
 use Rattle.imap_session.specs.Heard.{AreReplies}
-use Rattle.law_session.proofs.HeardAs.{gathers_same}
+use Rattle.imap_session.proofs.HeardAs.{gathers_same}
 use Rattle.imap_link.specs.declared.fault.FarFault.{FarFault}
 use Rattle.imap_link.specs.declared.fault.FarFault.TheVariants as faults
 use Rattle.imap_link.specs.UsedReplies.{names_read, is_used}

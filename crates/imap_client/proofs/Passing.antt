@@ -4,14 +4,14 @@ use Rattle.std.specs.Prelude.{All, find, max, nat_le, ◌&&◌, if◌then◌else
 use Rattle.std.specs.Option.{option_map}
 use Rattle.std.proofs.lemmas.Bool.{cases_lt, le-leb, lt-leb}
 use Rattle.std.proofs.lemmas.List.Elements.{All-head, All-tail}
-use Rattle.visitors.specs.Visitors.{Visitors}
+use Rattle.mailcore.specs.Visitors.{Visitors}
 use Rattle.mailcore.specs.declared.mailbox.Message.{Message}
 use Rattle.mailcore.specs.Content.{mark_of}
 use Rattle.mailcore.specs.Operations.{added, is_mark, marked_among}
 use Rattle.mailcore.specs.Stores.{Store}
-use Rattle.passed_marks.specs.declared.passed_marks.PassedMarks.{PassedMarks}
-use Rattle.passed_marks.specs.Passed.{ArePassed}
-use Rattle.passed_marks.proofs.KeptPassed.{passed_added, passed_expunged, passed_flagged, passed_gained}
+use Rattle.mailcore.specs.declared.passed_marks.PassedMarks.{PassedMarks}
+use Rattle.mailcore.specs.Passed.{ArePassed}
+use Rattle.mailcore.proofs.KeptPassed.{passed_added, passed_expunged, passed_flagged, passed_gained}
 use Rattle.wire_tokens.specs.declared.uid_set.SetItem.{SetItem}
 use Rattle.imap_commands.specs.declared.command.StoreMode.{StoreMode}
 use Rattle.imap_commands.specs.declared.command.StoreMode.TheVariants as modes

@@ -12,7 +12,7 @@ use Rattle.wire_reader.specs.Spelling.{◌⨾◌, Is, crlf, ItemsText, is_digit}
 use Rattle.wire_reader.proofs.Braceless.{no_brace, braceless, braceless-phase}
 use Rattle.wire_reader.proofs.LexedSeq.{two-phases}
 use Rattle.imap_session.specs.Portions.{once, goes_from, goes_in}
-use Rattle.law_session.proofs.Gos.{goes-append}
+use Rattle.imap_session.proofs.Gos.{goes-append}
 
 -- ---- where no CR stands, nothing is asked for
 

@@ -24,7 +24,7 @@ use Rattle.imap_session.specs.NamedMessages.{named_in}
 use Rattle.imap_session.specs.Answering.{done}
 use Rattle.imap_session.specs.MessageCommands.{shown, fetched}
 use Rattle.imap_session.specs.Heard.{AreHeardAs}
-use Rattle.law_session.proofs.HeardAs.{gathers_same}
+use Rattle.imap_session.proofs.HeardAs.{gathers_same}
 use Rattle.imap_answers.specs.declared.reported.Row.{Row}
 use Rattle.imap_client.specs.Calls.{from_on}
 use Rattle.imap_answers.specs.Fetching.{MappedRows, TookRows, no_rows, rows_more, rows_of}

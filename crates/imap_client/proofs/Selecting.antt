@@ -15,7 +15,7 @@ use Rattle.imap_session.specs.Servers.{Condition, NotAuthenticated, Authenticate
 use Rattle.imap_session.specs.Answering.{Gives, bad, done_with, refused_with, note, listed, out_of_place}
 use Rattle.imap_session.specs.MailboxCommands.{all_names, closes, selects_at}
 use Rattle.imap_session.specs.Heard.{AreReplies}
-use Rattle.law_session.proofs.HeardAs.{gathers_same}
+use Rattle.imap_session.proofs.HeardAs.{gathers_same}
 use Rattle.imap_link.specs.declared.fault.FarFault.{FarFault}
 use Rattle.imap_link.specs.declared.fault.FarFault.TheVariants as faults
 use Rattle.imap_link.specs.UsedReplies.{opening_read, is_used}

@@ -7,7 +7,7 @@ use Rattle.std.proofs.lemmas.List.Elements.{All-cons, All-nil, Contains-append_l
 use Rattle.mailcore.specs.declared.keywords.Keyword.{Keyword}
 use Rattle.mailcore.specs.declared.mailbox.Message.{Message}
 use Rattle.mailcore.specs.Content.{mark_of}
-use Rattle.passed_marks.specs.Passed.{IsOneOf}
+use Rattle.mailcore.specs.Passed.{IsOneOf}
 use Rattle.wire_tokens.specs.Sets.{between, names}
 use Rattle.imap_commands.specs.declared.command.FetchItems.TheVariants as wanted
 use Rattle.imap_replies.specs.declared.reply.Reply.{Reply}

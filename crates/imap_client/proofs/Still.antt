@@ -3,7 +3,7 @@ use Rattle.std.proofs.Common.{◌≡◌, Bool, true, false, [], ◌∷◌, refl,
 use Rattle.imap_session.specs.Servers.{Server, NotAuthenticated}
 use Rattle.imap_session.specs.Unread.{Kept, Whole, Dropping, Holds}
 use Rattle.imap_session.specs.Serving.{End}
-use Rattle.law_session.proofs.Opening.{new_end_is_empty}
+use Rattle.imap_session.proofs.Opening.{new_end_is_empty}
 use Rattle.imap_session.specs.Ends.{Ends, IsIdle}
 use Rattle.imap_client.specs.Stillness.{keeps_none, IsStill}
 

@@ -4,12 +4,12 @@ use Rattle.std.specs.Prelude.{if◌then◌else◌}
 use Rattle.std.specs.Option.{option_map}
 use Rattle.std.proofs.lemmas.Bool.{le-leb, leb-true}
 use Rattle.mailcore.specs.Rise.{Rise}
-use Rattle.visitors.specs.Visitors.{Visitors}
+use Rattle.mailcore.specs.Visitors.{Visitors}
 use Rattle.imap_session.specs.Mailboxes.{FarMailbox, same_name, mailbox_at}
 use Rattle.imap_session.specs.Servers.{Condition, NotAuthenticated, Authenticated, Selected, LoggedOut, Server, is_over, Quiet, reported, selected, selected_in}
 use Rattle.imap_session.specs.Lines.{Line, reported_server}
 use Rattle.imap_session.specs.Visits.{Gains, AllGain, Visits, Among}
-use Rattle.law_session.proofs.Visiting.{nobody_visits, visits_follow}
+use Rattle.imap_session.proofs.Visiting.{nobody_visits, visits_follow}
 use Rattle.imap_session.specs.Ends.{ends_of}
 use Rattle.imap_link.specs.declared.fault.FarFault.{FarFault}
 use Rattle.imap_link.specs.declared.fault.FarFault.TheVariants as faults

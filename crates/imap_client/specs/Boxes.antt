@@ -2,8 +2,8 @@
 use Rattle.std.specs.Prelude.{◌≡◌, ℕ, Bool, true, false, nat_le, List, [], ◌∷◌, Option, None, Some}
 use Rattle.std.specs.Option.{option_map}
 use Rattle.mailcore.specs.Stores.{Store}
-use Rattle.passed_marks.specs.declared.passed_marks.PassedMarks.{PassedMarks}
-use Rattle.passed_marks.specs.Passed.{ArePassed}
+use Rattle.mailcore.specs.declared.passed_marks.PassedMarks.{PassedMarks}
+use Rattle.mailcore.specs.Passed.{ArePassed}
 use Rattle.wire_tokens.specs.declared.uid_set.SetEnd.TheVariants.{Number}
 use Rattle.wire_tokens.specs.declared.uid_set.SetItem.{SetItem}
 use Rattle.wire_tokens.specs.declared.uid_set.SetItem.TheVariants.{One}

@@ -34,8 +34,8 @@ use imap_link::fault::FarFault;
 use imap_link::link::Link;
 use mailcore::flags::Flags;
 use mailcore::keywords::Keywords;
+use mailcore::passed_marks::PassedMarks;
 use mailcore::uid::Uid;
-use passed_marks::PassedMarks;
 
 /// A far mailbox: a session, and the mailbox that is selected in it. It is closed where none is.
 ///

@@ -12,7 +12,7 @@ ghost use Rattle.imap_client.specs.Logins.{Remains};
 ghost use Rattle.imap_answers.specs.Readings.{Reports};
 ghost use Rattle.imap_client.specs.Seen.{KeepsMap};
 ghost use Rattle.imap_client.specs.States.{EndsSo};
-ghost use Rattle.passed_marks.specs.Passed.{ArePassed};
+ghost use Rattle.mailcore.specs.Passed.{ArePassed};
 
 use crate::call::Call;
 use crate::far_box::FarBox;
@@ -20,9 +20,9 @@ use crate::session::Session;
 use imap_answers::marks::MarkSearch;
 use imap_link::fault::FarFault;
 use imap_link::link::Link;
+use mailcore::passed_marks::PassedMarks;
 use mailcore::tuid::Tuid;
 use mailcore::uid::Uid;
-use passed_marks::PassedMarks;
 
 impl<L: Link> Session<L> {
     ghost use Rattle.imap_client.specs.Sessions.{state_of, server_of};

@@ -8,9 +8,9 @@ use Rattle.imap_session.specs.Answering.{go}
 use Rattle.imap_session.specs.Serving.{FeedsSome}
 use Rattle.imap_session.specs.Lines.{Line, reported_server, Sends}
 use Rattle.imap_session.specs.Ends.{ends_of, IsIdle, IsText, AskedOr, AsksAtEnd, MayHave}
-use Rattle.law_session.proofs.Others.{quiet-trans, quiet_left, read_stays}
-use Rattle.law_session.proofs.Sent.{half_front}
-use Rattle.law_session.proofs.Asked.{asked}
+use Rattle.imap_session.proofs.Others.{quiet-trans, quiet_left, read_stays}
+use Rattle.imap_session.proofs.Sent.{half_front}
+use Rattle.imap_session.proofs.Asked.{asked}
 use Rattle.imap_link.specs.declared.fault.FarFault.{FarFault}
 use Rattle.imap_link.specs.declared.fault.FarFault.TheVariants.{Stopped, Refused, Protocol, TooLong, NoRev2, ReadOnly, NoMemory}
 use Rattle.imap_link.specs.declared.wire.LastReply.{LastReply}

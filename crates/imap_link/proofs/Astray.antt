@@ -5,8 +5,8 @@ use Rattle.imap_replies.specs.declared.word.Status.{Status}
 use Rattle.imap_replies.specs.declared.reply.Reply.{Reply}
 use Rattle.imap_replies.specs.declared.reply.Reply.TheVariants.{Continue}
 use Rattle.imap_session.specs.Heard.{tag_of, is_passed, IsAnswer, AreUntagged, AreReplies}
-use Rattle.law_session.proofs.Apart.{apart, replies_apart}
-use Rattle.law_session.proofs.AnswersApart.{plain_go, reply_some}
+use Rattle.imap_session.proofs.Apart.{apart, replies_apart}
+use Rattle.imap_session.proofs.AnswersApart.{plain_go, reply_some}
 use Rattle.imap_session.specs.Ends.{Ends}
 use Rattle.reply_buf.specs.Fronts.{Spells, IsFaulty}
 use Rattle.imap_link.specs.declared.uses.Uses.{Uses}

@@ -9,10 +9,10 @@ use Rattle.imap_session.specs.Serving.{FeedsSome}
 use Rattle.imap_session.specs.Heard.{tag_of, AreReplies}
 use Rattle.imap_session.specs.Lines.{Line, reported_server, Sends}
 use Rattle.imap_session.specs.Ends.{Ends, ends_of, IsAt, IsIdle, SentOr, Done, MayHave, is_logout}
-use Rattle.law_session.proofs.Sent.{sent, half_sent}
-use Rattle.law_session.proofs.Ended.{done_of, half_of}
-use Rattle.law_session.proofs.Answering.{did_answer, heard_answer}
-use Rattle.law_session.proofs.AnswersApart.{reply_some}
+use Rattle.imap_session.proofs.Sent.{sent, half_sent}
+use Rattle.imap_session.proofs.Ended.{done_of, half_of}
+use Rattle.imap_session.proofs.Answering.{did_answer, heard_answer}
+use Rattle.imap_session.proofs.AnswersApart.{reply_some}
 use Rattle.imap_link.specs.declared.fault.FarFault.{FarFault}
 use Rattle.imap_link.specs.declared.fault.FarFault.TheVariants.{Stopped, Refused, Protocol, TooLong, NoRev2, ReadOnly, NoMemory}
 use Rattle.imap_link.specs.declared.kind.ReplyKind.TheVariants.{Go, Mine}

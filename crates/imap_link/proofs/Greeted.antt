@@ -8,7 +8,7 @@ use Rattle.imap_session.specs.Servers.{Server, Quiet, reported}
 use Rattle.imap_session.specs.Heard.{AreReplies}
 use Rattle.imap_session.specs.Lines.{Line, reported_server, Starts}
 use Rattle.imap_session.specs.Ends.{Ends, ends_of, IsIdle, Hears}
-use Rattle.law_session.proofs.Greeted.{greeted}
+use Rattle.imap_session.proofs.Greeted.{greeted}
 use Rattle.imap_link.specs.declared.kind.ReplyKind.{ReplyKind}
 use Rattle.imap_link.specs.declared.kind.ReplyKind.TheVariants.{Hello, Bye}
 use Rattle.imap_link.specs.ReplyKinds.{kind_of}

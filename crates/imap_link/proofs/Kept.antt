@@ -1,7 +1,7 @@
 -- What is to be heard while more comes.
 use Rattle.std.proofs.Common.{refl, ◌∙◌}
 use Rattle.imap_session.specs.Ends.{Ends}
-use Rattle.law_session.proofs.Others.{quiet-trans}
+use Rattle.imap_session.proofs.Others.{quiet-trans}
 use Rattle.imap_link.specs.Buffers.{Keeps}
 
 pub keeps-trans : (s t u : Ends) → Keeps s t → Keeps t u → Keeps s u

@@ -14,8 +14,8 @@ use Rattle.imap_session.specs.Servers.{Server, selected, exists_of, news, report
 use Rattle.imap_session.specs.Steps.{Step}
 use Rattle.imap_session.specs.Heard.{IsHeardAs, AreHeardAs}
 use Rattle.imap_session.specs.Ends.{Did, DidSo, DidCommand, MayHave}
-use Rattle.law_session.proofs.HeardAs.{reads_same}
-use Rattle.law_session.proofs.Reporting.{step_keeps}
+use Rattle.imap_session.proofs.HeardAs.{reads_same}
+use Rattle.imap_session.proofs.Reporting.{step_keeps}
 use Rattle.imap_link.specs.declared.uses.Uses.{Uses}
 use Rattle.imap_link.specs.UsedReplies.{is_used}
 use Rattle.imap_link.specs.Exchanges.{Performs, PerformsSo}

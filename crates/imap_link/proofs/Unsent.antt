@@ -1,10 +1,10 @@
 -- Bytes of which none was read.
 use Rattle.std.proofs.Common.{ℕ, List, [], ◌++◌, refl}
-use Rattle.visitors.specs.Visitors.{Visitors}
+use Rattle.mailcore.specs.Visitors.{Visitors}
 use Rattle.imap_session.specs.Serving.{End, FeedsSome, ServesSome}
 use Rattle.imap_session.specs.Servers.{Server}
 use Rattle.imap_session.specs.Lines.{Line}
-use Rattle.law_session.proofs.Visiting.{nobody_visits}
+use Rattle.imap_session.proofs.Visiting.{nobody_visits}
 use Rattle.imap_link.specs.Sending.{SomeThen}
 
 serves_none : (s : Server) (stream : List ℕ) → ServesSome s stream s

@@ -1,6 +1,6 @@
 -- A line whose server was visited.
 use Rattle.std.proofs.Common.{ℕ, List, sym, ◌∙◌, ap, subst}
-use Rattle.visitors.specs.Visitors.{Visitors}
+use Rattle.mailcore.specs.Visitors.{Visitors}
 use Rattle.imap_session.specs.Servers.{Condition, Server, is_over, reported}
 use Rattle.imap_session.specs.Portions.{goes_in}
 use Rattle.imap_session.specs.Unread.{Holds}

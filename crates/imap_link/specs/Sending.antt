@@ -1,6 +1,6 @@
 -- What a link sends. Nobody sees what others do but by commands, so it stands before the bytes that the server reads next.
 use Rattle.std.specs.Prelude.{ℕ, true, false, List}
-use Rattle.visitors.specs.Visitors.{Visitors}
+use Rattle.mailcore.specs.Visitors.{Visitors}
 use Rattle.imap_session.specs.Servers.{Server}
 use Rattle.imap_session.specs.Serving.{FeedsSome}
 use Rattle.imap_session.specs.Lines.{Line, Sends}

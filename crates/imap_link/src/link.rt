@@ -3,7 +3,7 @@
 ghost use Rattle.std.specs.Prelude.{◌≡◌, ◌<◌, ◌≤◌, ◌++◌, ℕ, length, take, IfOk, OnOk, OnErr, IsErrOf, Ok};
 ghost use Rattle.imap_session.specs.Servers.{Quiet};
 ghost use Rattle.imap_session.specs.Lines.{Line, Receives, Starts};
-ghost use Rattle.visitors.specs.Visitors.{Visitors};
+ghost use Rattle.mailcore.specs.Visitors.{Visitors};
 ghost use Rattle.mailcore.specs.CopyPieces.{text_left};
 ghost use Rattle.wire_reader.specs.Spelling.{crlf};
 ghost use Rattle.imap_link.specs.Sending.{SendsThen, SomeThen};

@@ -16,7 +16,7 @@ use Rattle.imap_session.specs.Mailboxes.{FarMailbox, mailbox_at}
 use Rattle.imap_session.specs.Servers.{Condition, Server, is_logged_in}
 use Rattle.imap_session.specs.Answering.{done_with}
 use Rattle.imap_session.specs.AppendCommand.{grown, appended, AppendsAt, Appends, AppendsIf}
-use Rattle.imap_messages.specs.Boxes.{far_of, all_of, store_of, IsServed, AreServed}
+use Rattle.imap_session.specs.Boxes.{far_of, all_of, store_of, IsServed, AreServed}
 use Rattle.imap_server.specs.Places.{IsPlace, changed_there}
 use Rattle.imap_server.specs.Writing.{Wrote, AnsweredBy}
 use Rattle.imap_server.proofs.WritingLemmas.{wrote_then}

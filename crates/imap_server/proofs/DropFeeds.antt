@@ -15,8 +15,8 @@ use Rattle.imap_server.specs.declared.dropped.Dropped.{Dropped as Line}
 use Rattle.imap_server.specs.declared.unread.Unread.{Unread}
 use Rattle.imap_server.specs.declared.unread.Unread.TheVariants as kinds
 use Rattle.imap_session.specs.Answering.{only}
-use Rattle.law_session.specs.Short.{is_short}
-use Rattle.law_session.proofs.ShortReplies.{short_append, news_short, fault_short}
+use Rattle.imap_session.specs.Short.{is_short}
+use Rattle.imap_session.proofs.ShortReplies.{short_append, news_short, fault_short}
 use Rattle.imap_server.specs.Dropping.{EndsAt, Passes, loses_octets}
 use Rattle.imap_server.specs.Unreads.{IsSound, IsNothing, fault_of, kept_of, end_of}
 use Rattle.imap_server.specs.Taking.{reporting, TookSome, ToPlace, ReadLine, dropped_answer}

@@ -10,11 +10,11 @@ use Rattle.imap_replies.proofs.WrittenReplies.{written_spelled}
 use Rattle.imap_session.specs.Mailboxes.{FarMailbox}
 use Rattle.imap_session.specs.Servers.{Server}
 use Rattle.imap_session.specs.Heard.{AreReplies}
-use Rattle.law_session.specs.Short.{is_short, AreNamed}
-use Rattle.law_session.proofs.ShortReplies.{short_fits}
+use Rattle.imap_session.specs.Short.{is_short, AreNamed}
+use Rattle.imap_session.proofs.ShortReplies.{short_fits}
 use Rattle.imap_session.specs.Serving.{Feeds, FeedsSome}
 use Rattle.imap_server.specs.declared.unread.Unread.{Unread}
-use Rattle.imap_messages.specs.Boxes.{IsServed, AreServed}
+use Rattle.imap_session.specs.Boxes.{IsServed, AreServed}
 use Rattle.imap_server.specs.Unreads.{kept_of, end_of}
 use Rattle.imap_server.specs.Taking.{Took, Host, Fed, Lost}
 use Rattle.imap_server.specs.Writing.{AreWritten}

@@ -21,10 +21,10 @@ use Rattle.imap_session.specs.Servers.{Server, is_over, reported}
 use Rattle.imap_session.specs.Portions.{LineFault, FaultIs, Item, Asks, Ends, Reads, once, goes_in}
 use Rattle.imap_session.specs.Unread.{Kept, Whole, Holds}
 use Rattle.imap_session.specs.Serving.{is_late, Runs, End, IsUnread, Feeds, FeedsSome}
-use Rattle.law_session.specs.Short.{is_short}
-use Rattle.law_session.proofs.Joins.{feeds-join}
-use Rattle.law_session.proofs.Opening.{nothing_opens}
-use Rattle.law_session.proofs.ShortReplies.{short_append}
+use Rattle.imap_session.specs.Short.{is_short}
+use Rattle.imap_session.proofs.Joins.{feeds-join}
+use Rattle.imap_session.proofs.Opening.{nothing_opens}
+use Rattle.imap_session.proofs.ShortReplies.{short_append}
 use Rattle.imap_server.specs.declared.line.LineBuf.{LineBuf}
 use Rattle.imap_server.specs.declared.unread.Unread.{Unread}
 use Rattle.imap_server.specs.declared.unread.Unread.TheVariants as kinds

@@ -10,7 +10,7 @@ use Rattle.imap_session.specs.Mailboxes.{FarMailbox}
 use Rattle.imap_session.specs.Servers.{Server, is_logged_in}
 use Rattle.imap_session.specs.Answering.{done, listed}
 use Rattle.imap_session.specs.MailboxCommands.{names_matched, lists}
-use Rattle.imap_messages.specs.Boxes.{AreServed}
+use Rattle.imap_session.specs.Boxes.{AreServed}
 use Rattle.imap_server.specs.Writing.{Wrote, Answered}
 use Rattle.imap_server.proofs.CommandLemmas.{answered_as, by_true}
 use Rattle.imap_server.proofs.OrderLemmas.{all_in_order}

@@ -8,7 +8,7 @@ use Rattle.std.proofs.lemmas.Bool.{cases_Bool, cases_lt, ltb-true}
 use Rattle.std.proofs.lemmas.Bool.Decides.{nat_tests}
 use Rattle.mailcore.specs.declared.mailbox.StoredMailbox.{StoredMailbox}
 use Rattle.imap_session.specs.Mailboxes.{FarMailbox, same_name, mailbox_at, changed}
-use Rattle.imap_messages.specs.Boxes.{far_of, all_of, IsServed, AreServed}
+use Rattle.imap_session.specs.Boxes.{far_of, all_of, IsServed, AreServed}
 use Rattle.imap_server.specs.Places.{IsPlace, Place}
 
 abbrev is_it : List ℕ → StoredMailbox → Bool

@@ -10,8 +10,8 @@ use Rattle.imap_replies.specs.declared.reply.Reply.{Reply}
 use Rattle.imap_replies.specs.declared.reply.Reply.TheVariants.{Expunge, Fetch}
 use Rattle.imap_session.specs.NamedMessages.{goes}
 use Rattle.imap_session.specs.MessageCommands.{shown, fetched, removed}
-use Rattle.imap_messages.specs.Naming.{IsReach}
-use Rattle.imap_messages.proofs.ReachLemmas.{unnamed_before, unnamed_after}
+use Rattle.imap_session.specs.Naming.{IsReach}
+use Rattle.imap_session.proofs.ReachLemmas.{unnamed_before, unnamed_after}
 use Rattle.imap_server.specs.Writing.{Wrote}
 use Rattle.imap_server.proofs.ExpungeLemmas.{left}
 use Rattle.imap_server.proofs.WritingLemmas.{wrote_none}

@@ -14,7 +14,7 @@ use Rattle.wire_reader.proofs.Positions.{phase-scanned, outside-append, no_place
 use Rattle.wire_reader.proofs.Scanned.{scanned-append, place_case, no_place, place-from_none, place-append}
 use Rattle.imap_replies.specs.declared.reply.Reply.{Reply}
 use Rattle.imap_session.specs.Portions.{once, goes_from, goes_in}
-use Rattle.law_session.proofs.Gos.{goes-append}
+use Rattle.imap_session.proofs.Gos.{goes-append}
 
 -- ---- places
 

@@ -1,4 +1,4 @@
-pub use Rattle.imap_messages.specs.Boxes
+pub use Rattle.imap_session.specs.Boxes
 pub mod Places
 pub mod Services
 pub mod Writing

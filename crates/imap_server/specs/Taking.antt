@@ -12,7 +12,7 @@ use Rattle.imap_session.specs.Portions.{LineFault, FaultIs, Item, Asks, goes_in}
 use Rattle.imap_session.specs.Unread.{Kept}
 use Rattle.imap_session.specs.Heard.{AreReplies}
 use Rattle.imap_session.specs.Serving.{Does, fault_reply, ends, Runs, End, IsUnread, Feeds, FeedsSome}
-use Rattle.law_session.specs.Short.{is_short}
+use Rattle.imap_session.specs.Short.{is_short}
 use Rattle.imap_server.specs.declared.unread.Unread.{Unread}
 use Rattle.imap_server.specs.Dropping.{loses_octets}
 use Rattle.imap_server.specs.Unreads.{IsSound, end_of}

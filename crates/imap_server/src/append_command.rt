@@ -5,7 +5,7 @@ ghost use Rattle.mailcore.specs.Operations.{added};
 ghost use Rattle.imap_replies.specs.declared.response.Code.TheVariants as codes_of;
 ghost use Rattle.imap_session.specs.AppendCommand.{grown};
 ghost use Rattle.imap_session.specs.Answering.{done_with};
-ghost use Rattle.imap_messages.specs.Boxes.{store_of, far_of};
+ghost use Rattle.imap_session.specs.Boxes.{store_of, far_of};
 ghost use Rattle.imap_server.specs.Services.{condition_of};
 ghost use Rattle.imap_server.specs.Writing.{Wrote};
 

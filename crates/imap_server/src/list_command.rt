@@ -5,7 +5,7 @@ ghost use Rattle.mailcore.specs.MailboxNames.{is_mailbox_name};
 ghost use Rattle.mailcore.specs.MailboxPatterns.{matches};
 ghost use Rattle.imap_session.specs.Answering.{listed};
 ghost use Rattle.imap_session.specs.MailboxCommands.{names_matched};
-ghost use Rattle.imap_messages.specs.Boxes.{all_of};
+ghost use Rattle.imap_session.specs.Boxes.{all_of};
 ghost use Rattle.imap_server.specs.Writing.{Wrote};
 
 use crate::mailbox_commands::say_listed;

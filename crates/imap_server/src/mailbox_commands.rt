@@ -4,7 +4,7 @@ ghost use Rattle.std.specs.Prelude.{◌≡◌, ◌<◌, ◌≤◌, ◌∷◌, []
 ghost use Rattle.mailcore.specs.MailboxNames.{is_mailbox_name};
 ghost use Rattle.imap_session.specs.Answering.{listed};
 ghost use Rattle.imap_session.specs.MailboxCommands.{next_validity, empty_mailbox, closes, opening};
-ghost use Rattle.imap_messages.specs.Boxes.{far_of, all_of, IsServed};
+ghost use Rattle.imap_session.specs.Boxes.{far_of, all_of, IsServed};
 ghost use Rattle.imap_server.specs.Services.{condition_of};
 ghost use Rattle.imap_server.specs.Writing.{Wrote};
 

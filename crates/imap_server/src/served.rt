@@ -3,7 +3,7 @@
 ghost use Rattle.std.specs.Prelude.{◌≡◌, ◌↔◌, true, All};
 ghost use Rattle.mailcore.specs.Ranges.{AreInRange};
 ghost use Rattle.wire_strings.specs.Literals.{IsLiteral};
-ghost use Rattle.imap_messages.specs.Boxes.{far_of, all_of, IsServed, AreServed};
+ghost use Rattle.imap_session.specs.Boxes.{far_of, all_of, IsServed, AreServed};
 
 use mailcore::mailbox::{Message, StoredMailbox};
 use wire_strings::octets::LentOctets;

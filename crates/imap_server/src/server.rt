@@ -54,7 +54,7 @@ impl Server {
     ghost use Rattle.imap_session.specs.Heard.{AreReplies};
     ghost use Rattle.imap_session.specs.Lines.{greeting};
     ghost use Rattle.imap_session.specs.Arrivals.{Arrived};
-    ghost use Rattle.imap_messages.specs.Boxes.{all_of, AreServed};
+    ghost use Rattle.imap_session.specs.Boxes.{all_of, AreServed};
     ghost use Rattle.imap_server.specs.Taking.{Host, Fed, Lost};
     ghost use Rattle.imap_server.specs.Bounds.{IsBounded};
 

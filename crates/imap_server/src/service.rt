@@ -2,7 +2,7 @@
 
 ghost use Rattle.std.specs.Prelude.{◌≡◌, position};
 ghost use Rattle.imap_session.specs.Mailboxes.{is_inbox, same_name};
-ghost use Rattle.imap_messages.specs.Boxes.{all_of};
+ghost use Rattle.imap_session.specs.Boxes.{all_of};
 ghost use Rattle.imap_server.specs.Places.{Place};
 
 use crate::condition::ConnectionState;
@@ -27,7 +27,7 @@ pub(crate) struct Service {
 
 impl Model for Service {
     ghost use Rattle.imap_session.specs.Servers.{Server};
-    ghost use Rattle.imap_messages.specs.Boxes.{all_of, AreServed};
+    ghost use Rattle.imap_session.specs.Boxes.{all_of, AreServed};
     ghost use Rattle.imap_server.specs.Services.{condition_of};
 
     ghost Value = { Server };
@@ -42,7 +42,7 @@ impl Service {
     ghost use Rattle.mailcore.specs.KeywordNames.{IsMap};
     ghost use Rattle.imap_session.specs.Servers.{is_before_login, is_logged_in, is_over};
     ghost use Rattle.imap_session.specs.Arrivals.{is_selected};
-    ghost use Rattle.imap_messages.specs.Boxes.{far_of, AreServed, IsServed};
+    ghost use Rattle.imap_session.specs.Boxes.{far_of, AreServed, IsServed};
     ghost use Rattle.imap_server.specs.Services.{condition_of};
     ghost use Rattle.imap_server.specs.Places.{Place};
     ghost use Rattle.imap_server.specs.Selection.{SelectedPlace};

@@ -17,3 +17,10 @@ pub mod Ends
 pub mod Arrivals
 pub mod Visits
 pub mod SessionExamples
+pub mod SessionLaws
+pub mod Short
+pub mod VisitLaws
+pub mod ExchangeLaws
+pub mod Boxes
+pub mod Naming
+pub mod Changing

@@ -7,7 +7,7 @@ use Rattle.mailcore.specs.Ranges.{AreInRange}
 use Rattle.mailcore.specs.Rise.{Rise}
 use Rattle.mailcore.specs.Stores.{Store}
 use Rattle.wire_strings.specs.Literals.{IsLiteral}
-use Rattle.visitors.specs.Visitors.{Visitors, AreOctets, IsForeign}
+use Rattle.mailcore.specs.Visitors.{Visitors, AreOctets, IsForeign}
 use Rattle.imap_session.specs.Mailboxes.{FarMailbox}
 use Rattle.imap_session.specs.Servers.{Server}
 

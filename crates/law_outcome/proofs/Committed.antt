@@ -30,12 +30,12 @@ use Rattle.sync_state.specs.declared.journal.Logged.{Logged}
 use Rattle.sync_state.specs.declared.journal.Logged.TheVariants.{Copied, Done, Void}
 use Rattle.sync_state.specs.declared.journal.Journal.{Journal}
 use Rattle.book.specs.Committed.{drops, kept_entries, entry_of_copy, entries_of_copies, entry_after as committed, recorded, is_gone as steps_gone}
-use Rattle.law_steps.specs.Steps.{makes_copy, Fit, given}
+use Rattle.law_outcome.specs.Steps.{makes_copy, Fit, given}
 use Rattle.law_outcome.specs.CommitLaws.{result_of, results_of, uids_given, KeptAreEntriesAfter, CopiesArePaired, CommitReachesStateAfter, NamedAreStateAfter}
-use Rattle.law_steps.proofs.Fold.{fit-drop}
-use Rattle.law_steps.proofs.Copying.{copies_of, uid_given-new}
-use Rattle.law_steps.proofs.PlanParts.{changes, plan_is, changes_copy_nothing}
-use Rattle.law_steps.proofs.Whole.{pulls, pushes, parts, given_near, given_far}
+use Rattle.law_outcome.proofs.Fold.{fit-drop}
+use Rattle.law_outcome.proofs.Copying.{copies_of, uid_given-new}
+use Rattle.law_outcome.proofs.PlanParts.{changes, plan_is, changes_copy_nothing}
+use Rattle.law_outcome.proofs.WholePlans.{pulls, pushes, parts, given_near, given_far}
 use Rattle.law_outcome.proofs.Noted.{dropped, recorded_is}
 use Rattle.law_outcome.proofs.Vanished.{vanished, has_side_after}
 

@@ -10,10 +10,10 @@ use Rattle.rules.specs.WorldAfter.{outcome}
 use Rattle.rules.specs.Alike.{Alike}
 use Rattle.rules.specs.AlikeBy.{AlikeBy, AreCopyMarks}
 use Rattle.planner.specs.Written.{all_steps}
-use Rattle.law_steps.specs.Steps.{box, boxes_of, after, Fit, given, Rises}
+use Rattle.law_outcome.specs.Steps.{box, boxes_of, after, Fit, given, Rises}
 use Rattle.law_outcome.specs.CommitLaws.{result_of, results_of}
-use Rattle.law_steps.proofs.Whole.{plan_reaches}
-use Rattle.law_steps.proofs.Given.{each_given}
+use Rattle.law_outcome.proofs.WholePlans.{plan_reaches}
+use Rattle.law_outcome.proofs.Given.{each_given}
 use Rattle.law_outcome.proofs.Committed.{commit_reaches}
 use Rattle.law_outcome.specs.AlikeLaws.{AlikeInOrder, AlikeWithoutWaiting, StepsAreAlike, FinishedIsAlike, own_world, FinishedAmongOthers}
 use Rattle.law_outcome.proofs.Admission.{admitted_sound, opening_names}

@@ -15,7 +15,7 @@ use Rattle.rules.specs.Outcome.{highest_after}
 use Rattle.rules.specs.World.{World, store, scene_of}
 use Rattle.rules.specs.WorldAfter.{messages_under, entries_under, outcome_under}
 use Rattle.rules.specs.AlikeBy.{AlikeBy}
-use Rattle.law_rules.proofs.Settled.{settled_under}
+use Rattle.law_outcome.proofs.Settled.{settled_under}
 use Rattle.law_outcome.specs.AlikeLaws.{FoundSettles}
 
 module _ (w : World) (options : Options) (found : World) (a : AlikeBy w options found) where

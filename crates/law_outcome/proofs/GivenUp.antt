@@ -13,7 +13,7 @@ use Rattle.rules.specs.Scene.{is_paired, scene}
 use Rattle.rules.proofs.Walks.{Contains-map, list_any_from}
 use Rattle.book.specs.Committed.{entries_of_copies}
 use Rattle.book.specs.GivingUp.{left_entry}
-use Rattle.law_rules.proofs.Unpaired.{unpaired}
+use Rattle.law_outcome.proofs.Unpaired.{unpaired}
 use Rattle.law_outcome.specs.GivenUpLaws.{CopiesAreNotNew, EntriesAreThese}
 
 pub entries_are_these : EntriesAreThese

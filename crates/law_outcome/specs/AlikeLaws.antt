@@ -16,8 +16,8 @@ use Rattle.rules.specs.Alike.{Alike}
 use Rattle.planner.specs.Written.{all_steps}
 use Rattle.sync_state.specs.declared.journal.Journal.{Journal}
 use Rattle.book.specs.Committed.{Commits}
-use Rattle.law_steps.specs.Steps.{box, boxes_of, after, Fit, Rises, own_in, own}
-use Rattle.law_steps.specs.OwnLaws.{is_own}
+use Rattle.law_outcome.specs.Steps.{box, boxes_of, after, Fit, Rises, own_in, own}
+use Rattle.law_outcome.specs.OwnLaws.{is_own}
 use Rattle.law_outcome.specs.CommitLaws.{results_of, uids_given, IsPlanOf}
 
 -- ---- lists are maps: whatever marks an outcome's copies bear

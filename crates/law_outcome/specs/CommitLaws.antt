@@ -16,7 +16,7 @@ use Rattle.sync_state.specs.declared.journal.Logged.{Logged}
 use Rattle.sync_state.specs.declared.journal.Logged.TheVariants.{Copied, Done, Void}
 use Rattle.sync_state.specs.declared.journal.Journal.{Journal}
 use Rattle.book.specs.Committed.{kept_entries, entries_of_copies, Commits}
-use Rattle.law_steps.specs.Steps.{Fit, given}
+use Rattle.law_outcome.specs.Steps.{Fit, given}
 
 -- the result of a logged step
 abbrev pub result_of : Logged → Option ℕ

@@ -4,3 +4,11 @@ pub mod AlikeLaws
 pub mod Examples
 pub mod GivenUpLaws
 pub mod Unlike
+pub mod RuleLaws
+pub mod RunExamples
+pub mod SyncExamples
+pub mod Steps
+pub mod StepLaws
+pub mod StepExamples
+pub mod OwnLaws
+pub mod Keywords

@@ -1,6 +1,10 @@
-//! Laws from the steps of a plan and its journal to the outcome of a run: what is found once a run is finished is alike
-//! to its outcome, up to the UIDs and the marks of its copies. Each law is shown by a function that does nothing.
+//! Laws of a run: of what it means (`rule_laws`), of what the steps of its plan come to (`step_laws`), and from steps and journal to the
+//! outcome: what is found once a run is finished is alike to its outcome, up to the UIDs and the marks of its copies. Each law is shown by a
+//! function that does nothing.
 #![tactic(auto)]
+
+pub mod rule_laws;
+pub mod step_laws;
 
 ghost use Rattle.law_outcome.specs.AlikeLaws as law;
 ghost use Rattle.law_outcome.specs.CommitLaws as commit_law;
@@ -81,7 +85,7 @@ pub fn examples_are_alike()
 {}
 
 /// What is alike to an outcome has its waiting files and its UIDVALIDITYs, and gives no UID a second time. How many messages and entries it
-/// has, and which, crate `law_alike` says.
+/// has, and which, `run_states` says.
 pub fn unlike_worlds_are_refused()
     ensures files { unlike.FilesStay }
     ensures validities { unlike.ValiditiesStay }

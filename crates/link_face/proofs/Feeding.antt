@@ -1,6 +1,6 @@
 -- Bytes that are passed on.
 use Rattle.std.proofs.Common.{ℕ, List, ◌++◌, sym, ◌∙◌, ap, append_assoc}
-use Rattle.visitors.specs.Visitors.{Visitors}
+use Rattle.mailcore.specs.Visitors.{Visitors}
 use Rattle.imap_session.specs.Lines.{Line}
 use Rattle.imap_link.specs.Sending.{SendsThen}
 use Rattle.link_face.specs.Faces.{faced}

@@ -1,6 +1,6 @@
 //! Why a run ends before the first channel.
 
-use config_advice::advice::advice;
+use config::advice::advice;
 use config_words::fault::ConfigFault;
 use std::alloc::{AllocError, AllocFailed, Global};
 use std::io;

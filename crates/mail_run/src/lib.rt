@@ -4,6 +4,7 @@
 
 mod boxes;
 mod failure;
+pub mod generator;
 mod no_world;
 pub mod run;
 mod screen;

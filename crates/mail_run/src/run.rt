@@ -6,10 +6,10 @@ ghost use Rattle.mail_run.specs.NamedBoxes.{names_own_part};
 
 use crate::boxes::{refused_channel, refused_name};
 use crate::failure::StartFailure;
+use crate::generator::generator;
 use crate::screen::{Screen, Wiping};
 use crate::shown_stores::ShownStores;
 use crate::sources::{open_config, read_fresh, read_home, read_seed};
-use chacha_generator::generator;
 use channels::run::run_config;
 use channels::stores::Stores;
 use config::config::Config;

@@ -2,7 +2,7 @@
 
 use crate::server::is_word;
 use config::config::ImapStore;
-use far_side::account::Account;
+use mail_sides::account::Account;
 use mailcore::mailbox_name::MailboxName;
 use std::alloc::{AllocError, Global};
 

@@ -4,14 +4,14 @@ ghost use Rattle.std.specs.Prelude.{◌≡◌};
 
 use book::shelf::Shelf;
 use channels::stores::Work;
-use far_side::far_side::FarSide;
 use guarded::guard::Guard;
 use guarded::guarded_outside::GuardedOutside;
 use imap_link::link::Link;
+use mail_sides::far_side::FarSide;
+use mail_sides::sides::BothSides;
 use mailcore::keywords::Keywords;
 use maildir::folder::Folder;
 use near_places::lock::Lock;
-use run_both::sides::BothSides;
 use runner::progress::Progress;
 use std::alloc::Global;
 use std::num::NonZeroU32;

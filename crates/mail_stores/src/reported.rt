@@ -6,14 +6,14 @@ ghost use Rattle.channels.specs.Boxes.{Rises};
 use channels::boxes::in_order;
 use channels::store_fault::{ConnectFault, ListFault, StoreFault};
 use config::config::ImapStore;
-use far_side::reported::reported;
 use imap_link::fault::FarFault;
-use mailbox::fault::BoxFault;
-use mailbox::fault_number::FAR_REFUSED;
+use mail_sides::far_reported::reported;
 use mailcore::mailbox_name::MailboxName;
 use mailcore::side::Side;
 use near_places::lock::LockFault;
 use near_places::refusal::PlaceRefusal;
+use outside::box_fault::BoxFault;
+use outside::fault_number::FAR_REFUSED;
 use runner::fault::RunFault;
 use std::alloc::{AllocError, Global};
 

@@ -2,9 +2,9 @@
 
 ghost use Rattle.imap_client.specs.Requests.{IsWord};
 
-use far_side::logged_in::LoggedIn;
 use imap_link::fault::FarFault;
 use imap_link::link::Link;
+use mail_sides::logged_in::LoggedIn;
 use mailcore::mailbox_name::MailboxName;
 use std::alloc::Global;
 

@@ -19,3 +19,6 @@ pub mod SparedLemmas
 pub mod KeywordLemmas
 pub mod KeywordMaps
 pub mod FlagWords
+pub mod Foreign
+pub mod KeptPassed
+pub mod PassedLemmas

@@ -21,3 +21,5 @@ pub mod Sides
 pub mod Spared
 pub mod Stores
 pub mod Words
+pub mod Visitors
+pub mod Passed

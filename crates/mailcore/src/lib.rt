@@ -1,4 +1,5 @@
-//! What a mail message is to a synchroniser: its UID, flags, content and mark, and how mailboxes list their messages.
+//! What a mail message is to a synchroniser: its UID, flags, content and mark, and how mailboxes list their messages; which marks a search
+//! went past, and who else may add messages.
 #![tactic(auto)]
 
 pub mod atom;
@@ -18,6 +19,8 @@ pub mod mailbox_name;
 pub mod mailbox_pattern;
 pub mod marks;
 pub mod octets;
+pub mod others;
+pub mod passed_marks;
 pub mod side;
 pub mod spared;
 pub mod tuid;

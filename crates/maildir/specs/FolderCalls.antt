@@ -2,7 +2,7 @@
 use Rattle.std.specs.Prelude.{◌≡◌, Bool, true, Result}
 use Rattle.device.specs.Calls.{Acts, Answers, Between, IsStop, Seen, Stays}
 use Rattle.device.specs.declared.DeviceFault.{DeviceFault}
-use Rattle.visitors.specs.Visitors.{Visitors}
+use Rattle.mailcore.specs.Visitors.{Visitors}
 use Rattle.maildir.specs.Folders.{Stored}
 use Rattle.maildir.specs.Gains.{Adds}
 

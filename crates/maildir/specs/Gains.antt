@@ -2,7 +2,7 @@
 use Rattle.std.specs.Prelude.{◌≡◌, ◌≢◌, ◌++◌, ℕ, Bool, true, false, List, All}
 use Rattle.std.specs.List.Sorted.{IsPermutation}
 use Rattle.mailcore.specs.Content.{mark_of}
-use Rattle.visitors.specs.Visitors.{Visitors, AreOctets, IsForeign}
+use Rattle.mailcore.specs.Visitors.{Visitors, AreOctets, IsForeign}
 use Rattle.maildir.specs.declared.folder.File.{File}
 use Rattle.maildir.specs.Folders.{Stored, AreApart, name_of_file}
 use Rattle.maildir.specs.Names.{is_waiting}

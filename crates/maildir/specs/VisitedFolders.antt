@@ -1,6 +1,6 @@
 -- What others add to a folder in memory.
 use Rattle.std.specs.Prelude.{◌≡◌}
-use Rattle.visitors.specs.Visitors.{Visitors}
+use Rattle.mailcore.specs.Visitors.{Visitors}
 use Rattle.device.specs.Calls.{Seen}
 use Rattle.maildir.specs.Folders.{Stored}
 use Rattle.maildir.specs.Gains.{Adds}

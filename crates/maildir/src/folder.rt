@@ -83,7 +83,7 @@ pub enum Origin<'a> {
 pub trait Folder {
     ghost use Rattle.device.specs.Calls.{Seen, Call, Read, Rest, Nothing, Reopens};
     ghost use Rattle.mailcore.specs.CopyPieces.{text_left};
-    ghost use Rattle.visitors.specs.Visitors.{Visitors};
+    ghost use Rattle.mailcore.specs.Visitors.{Visitors};
     ghost use Rattle.maildir.specs.FolderCalls.{ReadAnew};
     ghost use Rattle.maildir.specs.Folders.{Stored, Lists, Begins, Removes, Renames, bytes_of, with_copy, with_meta, listed, text_of};
 

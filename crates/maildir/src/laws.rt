@@ -14,7 +14,7 @@ ghost use Rattle.maildir.specs.Letters.{flags_in, has_letter, is_known_letter, l
 ghost use Rattle.maildir.specs.Metas.{MetaText, meta_of};
 ghost use Rattle.maildir.specs.Names.{NameParts, NameText, name_of, is_letter, is_waiting, are_letters, uid_in};
 ghost use Rattle.maildir.specs.FlaggedNames.{flags_by_name, flagged, letters_in};
-ghost use Rattle.visitors.specs.Visitors.{Visitors};
+ghost use Rattle.mailcore.specs.Visitors.{Visitors};
 
 /// A name is read from exactly the bytes that are its spelling, and so each text spells one name at most.
 pub fn names_by_their_spelling()

@@ -53,7 +53,7 @@ pub struct MemFolder {
 
 impl MemFolder {
     ghost use Rattle.mailcore.specs.Content.{mark_of};
-    ghost use Rattle.visitors.specs.Visitors.{AreOctets, IsForeign, Visitors};
+    ghost use Rattle.mailcore.specs.Visitors.{AreOctets, IsForeign, Visitors};
     ghost use Rattle.device.specs.Calls.{Read};
     ghost use Rattle.maildir.specs.Folders.{Lists, is_at, listed, with_meta};
     ghost use Rattle.maildir.specs.Gains.{Adds, Gains};

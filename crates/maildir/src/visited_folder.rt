@@ -3,7 +3,7 @@
 ghost use Rattle.std.specs.Prelude.{◌≡◌, true, false, IfErr, IfOk};
 ghost use Rattle.mailcore.specs.Content.{mark_of};
 ghost use Rattle.maildir.specs.Names.{is_waiting};
-ghost use Rattle.visitors.specs.Visitors.{AreOctets, IsForeign};
+ghost use Rattle.mailcore.specs.Visitors.{AreOctets, IsForeign};
 
 use crate::folder::{FileName, Folder, Location, Origin, Source};
 use crate::found_names::is_waiting;
@@ -11,9 +11,9 @@ use crate::mem_folder::{FolderCall, MemFolder};
 use device::DeviceFault;
 use mailcore::copy_pieces::CopyPieces;
 use mailcore::octets::Octets;
+use mailcore::others::Others;
 use std::alloc::Global;
 use std::marker::PhantomData;
-use visitors::others::Others;
 
 /// A file that others add to `cur`.
 #[derive(Drop)]
@@ -44,7 +44,7 @@ pub struct VisitedFolder<O: Others> {
 impl<O: Others> VisitedFolder<O> {
     ghost use Rattle.maildir.specs.FolderCalls.{ReadAnew};
     ghost use Rattle.maildir.specs.Folders.{Lists, listed};
-    ghost use Rattle.visitors.specs.Visitors.{others_but};
+    ghost use Rattle.mailcore.specs.Visitors.{others_but};
     ghost use Rattle.maildir.specs.MemFolders.{seen_of};
     ghost use Rattle.maildir.specs.VisitedFolders.{AddsAlone};
 
@@ -145,7 +145,7 @@ impl<O: Others> VisitedFolder<O> {
 
 impl<O: Others> Folder for VisitedFolder<O> {
     ghost use Rattle.std.specs.Prelude.{true, length};
-    ghost use Rattle.visitors.specs.Visitors.{others_but};
+    ghost use Rattle.mailcore.specs.Visitors.{others_but};
     ghost use Rattle.maildir.specs.MemFolders.{seen_of};
 
     ghost is_honest = { true };
@@ -215,7 +215,7 @@ impl<O: Others> Folder for VisitedFolder<O> {
 }
 
 // Whether others may add this file.
-#[tactic(auto, using(visitors::proofs::Foreign::foreign_by))]
+#[tactic(auto, using(mailcore::proofs::Foreign::foreign_by))]
 fn may_come<O: Others>(name: &[u8], bytes: &[u8]) -> bool
     ensures { result ≡ true → (is_waiting name.now ≡ true) × AreOctets bytes.now × IsForeign O.ours (mark_of bytes.now) }
 {

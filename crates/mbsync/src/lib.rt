@@ -24,7 +24,7 @@ pub use config::config::{Boxes, Channel, Config, Group, ImapStore, MaildirStore}
 /// Why a text is no configuration, and at which line.
 pub use config_words::fault::{ConfigFault, FaultKind};
 /// Which mailboxes patterns choose.
-pub use box_patterns::patterns::{Pattern, Patterns, matches};
+pub use config_words::patterns::{Pattern, Patterns, matches};
 /// Reads a configuration.
 pub use config::read::read_config;
 /// Why the words of a command line ask for nothing.
@@ -43,7 +43,7 @@ pub use mail_stores::mail_stores::MailStores;
 /// Shows how far a run over the real stores is, as a trait.
 pub use runner::progress::Progress;
 /// The generator of random words, from a seed.
-pub use chacha_generator::generator;
+pub use mail_run::generator::generator;
 /// What a run calls, as a trait.
 pub use outside::outside::Outside;
 /// Why a run is not finished.

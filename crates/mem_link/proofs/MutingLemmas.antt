@@ -11,9 +11,9 @@ use Rattle.imap_replies.specs.declared.reply.Reply.TheVariants.{Continue, Tagged
 use Rattle.imap_replies.specs.Replies.{WrittenReply}
 use Rattle.imap_replies.proofs.WrittenReplies.{written_spelled}
 use Rattle.imap_session.specs.Heard.{AreReplies, AreHeardAs, IsHeardAs, WithoutUid}
-use Rattle.law_session.specs.Short.{is_short}
-use Rattle.law_session.proofs.ShortReplies.{short_fits}
-use Rattle.law_session.proofs.HeardAs.{all_heard}
+use Rattle.imap_session.specs.Short.{is_short}
+use Rattle.imap_session.proofs.ShortReplies.{short_fits}
+use Rattle.imap_session.proofs.HeardAs.{all_heard}
 use Rattle.imap_answers.specs.Spoken.{IsFirst}
 use Rattle.imap_answers.proofs.Left.{no_left}
 use Rattle.mem_link.specs.Muting.{IsFitting, IsHeard, IsLeft, stands_alone, without_uid}

@@ -2,13 +2,13 @@
 use Rattle.std.proofs.Common.{◌≡◌, ◌<◌, ◌∙◌, ℕ, Bool, List, Option, None, Some, ap, refl, sym, subst}
 use Rattle.std.specs.Prelude.{Result, Ok, Err, OnOk, OnErr, IfSome, length, slice_index_or}
 use Rattle.mailcore.specs.Content.{mark_of}
-use Rattle.visitors.specs.Visitors.{Visitors, AreOctets, IsForeign, others_but}
+use Rattle.mailcore.specs.Visitors.{Visitors, AreOctets, IsForeign, others_but}
 use Rattle.imap_session.specs.Arrivals.{Arrived}
 use Rattle.imap_session.specs.Visits.{Visits}
 use Rattle.imap_session.specs.Servers.{Server}
 use Rattle.imap_session.specs.Serving.{FeedsSome}
 use Rattle.imap_session.specs.Lines.{Line, Sends}
-use Rattle.law_session.proofs.Visiting.{arrival_visits, nobody_visits}
+use Rattle.imap_session.proofs.Visiting.{arrival_visits, nobody_visits}
 use Rattle.mem_link.specs.declared.arrivals.Arrival.{Arrival}
 use Rattle.mem_link.specs.Others.{AreForeign}
 use Rattle.imap_link.specs.Sending.{nobody, visited, SendsThen, SomeThen}

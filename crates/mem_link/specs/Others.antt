@@ -2,7 +2,7 @@
 use Rattle.std.specs.Prelude.{ℕ, Bool, List, All, Option, None, Some}
 use Rattle.std.proofs.Props.{props}
 use Rattle.mailcore.specs.Content.{mark_of}
-use Rattle.visitors.specs.Visitors.{IsForeign}
+use Rattle.mailcore.specs.Visitors.{IsForeign}
 use Rattle.mem_link.specs.declared.arrivals.Arrival.{Arrival}
 
 -- none of their messages bears a mark that is the run's

@@ -5,7 +5,7 @@ ghost use Rattle.imap_session.specs.Visits.{Visits};
 ghost use Rattle.imap_link.specs.Sending.{visited};
 ghost use Rattle.mem_link.specs.MemLinks.{line_of, stops_of};
 ghost use Rattle.mem_link.specs.Others.{AreForeign};
-ghost use Rattle.visitors.specs.Visitors.{others_but};
+ghost use Rattle.mailcore.specs.Visitors.{others_but};
 
 use crate::command::Nth;
 use crate::mem_link::MemLink;

@@ -8,7 +8,7 @@ ghost use Rattle.imap_session.specs.Servers.{Quiet};
 ghost use Rattle.imap_session.specs.Lines.{Sends, Receives, Starts};
 ghost use Rattle.imap_session.specs.Visits.{Visits};
 ghost use Rattle.imap_link.specs.Sending.{visited};
-ghost use Rattle.visitors.specs.Visitors.{AreOctets, IsForeign, others_but};
+ghost use Rattle.mailcore.specs.Visitors.{AreOctets, IsForeign, others_but};
 ghost use Rattle.mailcore.specs.Content.{mark_of};
 ghost use Rattle.imap_server.specs.Boxes.{AreServed};
 ghost use Rattle.std.proofs.Props.{props};

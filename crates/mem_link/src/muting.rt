@@ -9,7 +9,7 @@ ghost use Rattle.imap_replies.specs.declared.response.ResponseText.TheVariants a
 ghost use Rattle.imap_replies.specs.declared.reply.Reply.{Reply};
 ghost use Rattle.imap_replies.specs.declared.reply.Reply.TheVariants as replies;
 ghost use Rattle.imap_session.specs.Heard.{AreReplies};
-ghost use Rattle.law_session.specs.Short.{is_short};
+ghost use Rattle.imap_session.specs.Short.{is_short};
 ghost use Rattle.imap_answers.specs.Spoken.{IsFirst};
 ghost use Rattle.mem_link.specs.Muting.{IsFitting, stands_alone, without_uid};
 

@@ -3,14 +3,14 @@
 ghost use Rattle.std.specs.Prelude.{◌≡◌};
 ghost use Rattle.mem_link.specs.MemLinks.{line_of, stops_of};
 ghost use Rattle.mem_link.specs.Others.{AreForeign, AreForeign-prop};
-ghost use Rattle.visitors.specs.Visitors.{others_but};
+ghost use Rattle.mailcore.specs.Visitors.{others_but};
 
 use crate::arrivals::Arrivals;
 use crate::mem_link::MemLink;
 use imap_link::link::{Link, LinkFault};
 use imap_server::server::Server;
+use mailcore::others::Others;
 use std::marker::PhantomData;
-use visitors::others::Others;
 
 /// A link to a server in memory, which stops where its schedule says, and to a mailbox of which others add messages.
 #[derive(Drop)]

@@ -9,13 +9,13 @@ use Rattle.mailcore.specs.declared.side.Side.TheVariants as side
 use Rattle.mailcore.specs.Operations.{added}
 use Rattle.mailcore.specs.Stores.{Store, Waiting, numbered}
 use Rattle.mailcore.specs.Mailboxes.{Mailbox, on_store}
-use Rattle.mailbox.specs.Arrivals.{Arrives}
-use Rattle.mailbox.specs.declared.fault.BoxFault.{BoxFault}
-use Rattle.mailbox.specs.declared.fault.BoxFault.TheVariants as fault
-use Rattle.mailbox.specs.Calls.{Call, Halts, LeavesBy}
-use Rattle.mailbox.specs.Operations.{Appends, IsFull, Lists, NoRoom, is_full}
-use Rattle.mailbox.proofs.Listed.{lists_all}
-use Rattle.mailbox.proofs.Quiet.{quiet}
+use Rattle.outside.specs.BoxArrivals.{Arrives}
+use Rattle.outside.specs.declared.box_fault.BoxFault.{BoxFault}
+use Rattle.outside.specs.declared.box_fault.BoxFault.TheVariants as fault
+use Rattle.outside.specs.MailboxCalls.{Call, Halts, LeavesBy}
+use Rattle.outside.specs.MailboxOperations.{Appends, IsFull, Lists, NoRoom, is_full}
+use Rattle.outside.proofs.Listed.{lists_all}
+use Rattle.outside.proofs.Quiet.{quiet}
 use Rattle.mem_mailbox.specs.BoxConditions.{Counts, Ends, Fails, Stops, out_of_memory, stopped}
 use Rattle.mem_mailbox.specs.MemMailboxes.{seen_at}
 use Rattle.mem_mailbox.specs.Listings.{ShowsIn}

@@ -14,8 +14,8 @@ use Rattle.mailcore.specs.Mailboxes.{Mailbox, all_admitted}
 use Rattle.mailcore.specs.Operations.{added, flags_added, flags_removed, with_flags}
 use Rattle.mailcore.specs.Stores.{Store, Waiting, numbered}
 use Rattle.mailcore.proofs.KnownFlags.{kept-within, minus-within, union-within}
-use Rattle.mailbox.specs.declared.fault.BoxFault.{BoxFault}
-use Rattle.mailbox.specs.Operations.{ListsWithin, removed}
+use Rattle.outside.specs.declared.box_fault.BoxFault.{BoxFault}
+use Rattle.outside.specs.MailboxOperations.{ListsWithin, removed}
 use Rattle.mem_mailbox.specs.declared.mem_store.MemStore.{MemStore}
 use Rattle.mem_mailbox.specs.BoxConditions.{Counts, Ends}
 use Rattle.mem_mailbox.specs.Listings.{ShowsIn, item_in}

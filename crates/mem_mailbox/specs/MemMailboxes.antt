@@ -3,9 +3,9 @@ use Rattle.std.specs.Prelude.{◌≡◌, true, false, Result}
 use Rattle.device.specs.Calls.{Effect}
 use Rattle.mailcore.specs.declared.side.Side.{Side}
 use Rattle.mailcore.specs.Mailboxes.{Mailbox}
-use Rattle.mailbox.specs.declared.fault.BoxFault.{BoxFault}
-use Rattle.mailbox.specs.Arrivals.{Arrives}
-use Rattle.mailbox.specs.Calls.{Call, Seen}
+use Rattle.outside.specs.declared.box_fault.BoxFault.{BoxFault}
+use Rattle.outside.specs.BoxArrivals.{Arrives}
+use Rattle.outside.specs.MailboxCalls.{Call, Seen}
 use Rattle.mem_mailbox.specs.declared.mem_mailbox.MemMailbox.{MemMailbox}
 use Rattle.mem_mailbox.specs.BoxConditions.{Counts}
 use Rattle.mem_mailbox.specs.Views.{every, near_of}

@@ -5,7 +5,7 @@ ghost use Rattle.mem_mailbox.specs.BoxConditions.{Ends, Fails, Stops, out_of_mem
 
 use device::DeviceFault;
 use device::schedule::{CallStop, Moment, Scheduled};
-use mailbox::fault::BoxFault;
+use outside::box_fault::BoxFault;
 use std::marker::Model;
 
 /// A call of a mailbox, as a schedule names it. There are no parts of these: one that is to stop in the midst stops before its effect.

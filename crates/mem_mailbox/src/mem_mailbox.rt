@@ -2,16 +2,13 @@
 
 ghost use Rattle.std.specs.Prelude.{◌≡◌, ◌<◌, ◌^◌, false, true};
 ghost use Rattle.std.specs.Option.{option_map};
-ghost use Rattle.mailbox.specs.Operations.{body_if, is_full};
+ghost use Rattle.outside.specs.MailboxOperations.{body_if, is_full};
 ghost use Rattle.mem_mailbox.specs.Named.{AreWithin};
 
 use crate::admission::{above, admit};
 use crate::box_condition::{BoxCall, BoxCondition};
 use crate::kind::{BoxKind, OfFar, OfNear};
 use crate::mem_store::{MemStore, name_flags};
-use mailbox::fault::BoxFault;
-use mailbox::fault_number::NEAR_UIDS_EXHAUSTED;
-use mailbox::mailbox::Mailbox;
 use mailcore::copy_pieces::CopyPieces;
 use mailcore::flags::Flags;
 use mailcore::keywords::Keywords;
@@ -21,6 +18,9 @@ use mailcore::side::Side;
 use mailcore::spared::Spared;
 use mailcore::tuid::Tuid;
 use mailcore::uid::Uid;
+use outside::box_fault::BoxFault;
+use outside::fault_number::NEAR_UIDS_EXHAUSTED;
+use outside::mailbox::Mailbox;
 use std::alloc::Global;
 use std::marker::PhantomData;
 

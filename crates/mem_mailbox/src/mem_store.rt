@@ -42,7 +42,7 @@ pub(crate) struct Unlisted;
 impl MemStore {
     ghost use Rattle.mailcore.specs.CopyPieces.{text_left};
     ghost use Rattle.mailcore.specs.Operations.{added, bytes_of, flags_added, flags_removed, marked_from};
-    ghost use Rattle.mailbox.specs.Operations.{HasNumbers, removed};
+    ghost use Rattle.outside.specs.MailboxOperations.{HasNumbers, removed};
     ghost use Rattle.mem_mailbox.specs.Listings.{ShowsIn};
     ghost use Rattle.mem_mailbox.specs.Views.{store_of};
 

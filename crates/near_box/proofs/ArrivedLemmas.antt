@@ -8,9 +8,9 @@ use Rattle.mailcore.specs.Content.{mark_of}
 use Rattle.mailcore.specs.Mailboxes.{Mailbox}
 use Rattle.mailcore.specs.Stores.{Store, Waiting}
 use Rattle.mailcore.specs.declared.side.Side.TheVariants as side
-use Rattle.mailbox.specs.Arrivals.{Arrives}
+use Rattle.outside.specs.BoxArrivals.{Arrives}
 use Rattle.rules.specs.Opening.{AreBytes, IsFile}
-use Rattle.visitors.specs.Visitors.{AreOctets, IsForeign, Visitors}
+use Rattle.mailcore.specs.Visitors.{AreOctets, IsForeign, Visitors}
 use Rattle.mailcore.specs.declared.keywords.Keyword.{Keyword}
 use Rattle.maildir.specs.declared.folder.File.{File}
 use Rattle.maildir.specs.Folders.{Stored}

@@ -18,7 +18,7 @@ use Rattle.near_box.specs.KnownMarks.{AreMarksAmong, AreMarksOf, AreMarksOfFile,
 use Rattle.mailcore.specs.Mailboxes.{Mailbox, some_admitted, delivered}
 use Rattle.maildir.specs.Folders.{Stored}
 use Rattle.near_box.proofs.KeptLemmas.{one_place}
-use Rattle.passed_marks.proofs.KeptPassed.{passed_delivered, passed_expunged, passed_flagged, passed_numbered}
+use Rattle.mailcore.proofs.KeptPassed.{passed_delivered, passed_expunged, passed_flagged, passed_numbered}
 
 -- a message that has the UID bears the mark
 abbrev Bears : KnownMark → Message → Type 0

@@ -10,11 +10,11 @@ use Rattle.mailcore.specs.Content.{mark_of}
 use Rattle.mailcore.specs.Operations.{is_mark, marked_among}
 use Rattle.maildir.specs.Folders.{Stored}
 use Rattle.near_box.specs.declared.known_mark.KnownMarks.{KnownMarks}
-use Rattle.passed_marks.specs.declared.passed_marks.PassedMarks.{PassedMarks}
+use Rattle.mailcore.specs.declared.passed_marks.PassedMarks.{PassedMarks}
 use Rattle.near_box.specs.declared.survey.SurveyEntry.{SurveyEntry}
 use Rattle.near_box.specs.Entries.{AreRising, AreThere, IsThere, bytes_in, message_at}
 use Rattle.near_box.specs.KnownMarks.{AreKnown, AreMarksAmong, AreMarksOfFile, IsMarkAmong, mark_at}
-use Rattle.passed_marks.specs.Passed.{ArePassed}
+use Rattle.mailcore.specs.Passed.{ArePassed}
 use Rattle.near_box.proofs.KnownMarkLemmas.{known_of_file, mark_of_file, only_entry}
 use Rattle.near_box.proofs.ReadLemmas.{above_test, and_left, and_right, entry_there, marked_here, marked_nowhere, marked_passed}
 

@@ -8,7 +8,7 @@ use Rattle.near_box.specs.declared.known_mark.KnownMark.{KnownMark}
 use Rattle.near_box.specs.declared.known_mark.KnownMarks.{KnownMarks}
 use Rattle.near_box.specs.declared.survey.SurveyEntry.{SurveyEntry}
 use Rattle.near_box.specs.Entries.{bytes_in}
-use Rattle.passed_marks.specs.Passed.{ArePassed}
+use Rattle.mailcore.specs.Passed.{ArePassed}
 
 -- the UID is below the next one, and each of the messages that has it bears this mark, or none
 pub record IsMarkAmong (next : ℕ) (messages : List Message) (known : KnownMark) : Type 0 where

@@ -3,7 +3,7 @@ use Rattle.std.specs.Prelude.{◌≡◌, ℕ, ◌+◌, ◌<◌, ◌≤◌, ◌�
 use Rattle.device.specs.Calls.{Seen}
 use Rattle.device.specs.declared.DeviceFault.TheVariants.{Stopped as DeviceStopped, NoMemory as DeviceNoMemory}
 use Rattle.mailcore.specs.declared.keywords.Keyword.{Keyword}
-use Rattle.visitors.specs.Visitors.{Visitors}
+use Rattle.mailcore.specs.Visitors.{Visitors}
 use Rattle.maildir.specs.Folders.{Stored}
 use Rattle.maildir.specs.Gains.{Adds}
 use Rattle.near_box.specs.declared.near_fault.NearFault.{NearFault}

@@ -6,9 +6,9 @@ ghost use Rattle.std.specs.List.Sorted.{IsSearchInRange};
 ghost use Rattle.mailcore.specs.declared.mailbox.Message.{Message};
 ghost use Rattle.near_box.specs.KnownMarks.{AreKnown, AreMarksAmong, IsMarkAmong};
 
+use mailcore::passed_marks::PassedMarks;
 use mailcore::tuid::Tuid;
 use mailcore::uid::Uid;
-use passed_marks::PassedMarks;
 use std::alloc::{AllocError, Global};
 
 /// What the file of a message said of its mark.

@@ -1,7 +1,7 @@
 //! Laws of this crate's definitions, each shown by a function that does nothing.
 
 ghost use Rattle.std.specs.Prelude.{◌≡◌, ℕ, ◌<◌, ◌^◌, All, List};
-ghost use Rattle.mailbox.specs.Arrivals.{Arrives};
+ghost use Rattle.outside.specs.BoxArrivals.{Arrives};
 ghost use Rattle.mailcore.specs.declared.keywords.Keyword.{Keyword};
 ghost use Rattle.mailcore.specs.KeywordNames.{IsWithin};
 ghost use Rattle.mailcore.specs.Ranges.{AreFlagSets, IsInRange};
@@ -9,7 +9,7 @@ ghost use Rattle.mailcore.specs.Stores.{IsStore};
 ghost use Rattle.maildir.specs.Folders.{Stored};
 ghost use Rattle.maildir.specs.Gains.{Adds, Gains};
 ghost use Rattle.near_box.specs.Mailboxes.{IsMailbox, near_of};
-ghost use Rattle.visitors.specs.Visitors.{Visitors};
+ghost use Rattle.mailcore.specs.Visitors.{Visitors};
 
 use mailcore::side::Side;
 

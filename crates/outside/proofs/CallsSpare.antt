@@ -11,7 +11,7 @@ use Rattle.mailcore.specs.Stores.{Store, Waiting}
 use Rattle.rules.specs.Copies.{copy_of}
 use Rattle.book.specs.declared.book.Pending.{Pending}
 use Rattle.book.specs.Shelves.{Files}
-use Rattle.mailbox.specs.Operations.{removed}
+use Rattle.outside.specs.MailboxOperations.{removed}
 use Rattle.outside.specs.declared.fault.OutsideFault.{OutsideFault}
 use Rattle.outside.specs.declared.fault.OutsideFault.TheVariants as out
 use Rattle.outside.specs.declared.outside.Carried.{Carried}

@@ -8,7 +8,7 @@ use Rattle.mailcore.specs.declared.mailbox.Message.{Message}
 use Rattle.mailcore.specs.FlagSet.{DELETED, has}
 use Rattle.mailcore.specs.Rise.{Rise}
 use Rattle.mailcore.specs.Stores.{IsStore, Store}
-use Rattle.mailbox.specs.Operations.{removed}
+use Rattle.outside.specs.MailboxOperations.{removed}
 use Rattle.outside.specs.BoxCalls.{with_copy}
 
 -- messages come that rise from the next UID on

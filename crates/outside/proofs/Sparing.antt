@@ -15,7 +15,7 @@ use Rattle.mailcore.specs.Operations.{flagged, flags_added, flags_removed, with_
 use Rattle.mailcore.specs.Stores.{IsStore, Store, Waiting, numbered}
 use Rattle.mailcore.proofs.OperationLemmas.{is_store-flagged, is_store-numbered}
 use Rattle.rules.proofs.Walks.{All-from_contains, Contains-cases, Contains-filter, Contains-first, Contains-map, Contains-none, Contains-rest}
-use Rattle.mailbox.specs.Operations.{IsReading, read_admitted, removed}
+use Rattle.outside.specs.MailboxOperations.{IsReading, read_admitted, removed}
 use Rattle.outside.specs.Arrivals.{Arrives}
 use Rattle.outside.specs.BoxCalls.{Names, Turns, with_copy}
 use Rattle.outside.specs.Devices.{Device, Named, box, naming, on_box}

@@ -5,8 +5,8 @@ use Rattle.mailcore.specs.Content.{mark_of}
 use Rattle.mailcore.specs.Rise.{Rise}
 use Rattle.mailcore.specs.Stores.{Waiting}
 use Rattle.rules.specs.Opening.{IsFile}
-use Rattle.visitors.specs.Visitors.{IsForeign}
-use Rattle.mailbox.specs.Arrivals.{IsFarMessage}
+use Rattle.mailcore.specs.Visitors.{IsForeign}
+use Rattle.outside.specs.BoxArrivals.{IsFarMessage}
 use Rattle.outside.specs.Devices.{Device}
 
 -- Others add far messages, under UIDs of at least the next one, and near files, which wait for their UIDs. They are of bytes that their side

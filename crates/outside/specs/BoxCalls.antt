@@ -14,8 +14,8 @@ use Rattle.mailcore.specs.Mailboxes.{Mailbox}
 use Rattle.rules.specs.Copies.{copy_of}
 use Rattle.outside.specs.declared.outside.Carried.{Carried}
 use Rattle.outside.specs.declared.outside.Carried.TheVariants.{Absent, Unfit, Made}
-use Rattle.mailbox.specs.Operations as ops
-use Rattle.mailbox.specs.Operations.{Reports}
+use Rattle.outside.specs.MailboxOperations as ops
+use Rattle.outside.specs.MailboxOperations.{Reports}
 use Rattle.outside.specs.Devices.{Device, box, naming, on_box}
 
 -- ---- listings

@@ -6,3 +6,7 @@ pub mod Calls
 pub mod Opened
 pub mod BookCalls
 pub mod BoxCalls
+pub mod BoxArrivals
+pub mod MailboxCalls
+pub mod MailboxOperations
+pub mod FaultNumbers

@@ -3,5 +3,9 @@
 //! for mailboxes in memory.
 #![tactic(auto)]
 
+pub mod box_fault;
+pub mod far_next;
 pub mod fault;
+pub mod fault_number;
+pub mod mailbox;
 pub mod outside;

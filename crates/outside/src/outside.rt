@@ -47,7 +47,7 @@ pub trait Outside {
     ghost use Rattle.outside.specs.Calls.{Call, Changes, FromBook, FromBox, FromOpening, FromShelf, LeavesBy, Opens, Reads, Seen, Writes, opened_again, stopped};
     ghost use Rattle.outside.specs.Opened.{IsBook, IsHeld, IsOpen, IsRead, Opened, AreCommitted, AreGivenUp, TakesCommit, TakesDiscard, TakesGivingUp, TakesLog, TakesPlan, journal_of, shown_far, state_of, turned, with_box, with_listing};
     ghost use Rattle.outside.specs.BookCalls.{FromLog, LeavesUnread, OfBook, ReadsBook};
-    ghost use Rattle.mailbox.specs.Operations.{HasNumbers, ListsWithin, removed};
+    ghost use Rattle.outside.specs.MailboxOperations.{HasNumbers, ListsWithin, removed};
     ghost use Rattle.outside.specs.BoxCalls.{Admits, AdmitsPart, Carry, ListsFar, ListsNear, Names, SetsAside, Turns, copies_made};
 
     /// Server, folder and shelf have behaved as specified so far.

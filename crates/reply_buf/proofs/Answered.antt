@@ -5,7 +5,7 @@ use Rattle.wire_reader.specs.declared.answer.Read.TheVariants.{Whole}
 use Rattle.wire_reader.specs.Answers.{TakesEach, WaitsForMore, WholeAt}
 use Rattle.imap_replies.specs.declared.reply.Reply.{Reply}
 use Rattle.imap_replies.specs.Replies.{ReplyText, seen}
-use Rattle.law_session.proofs.Apart.{apart, replies_apart}
+use Rattle.imap_session.proofs.Apart.{apart, replies_apart}
 
 module _ (bytes : List ℕ) (len : ℕ) (reply : Reply) (is : WholeAt ReplyText bytes reply len) where
   -- no other one stands there

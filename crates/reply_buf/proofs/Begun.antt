@@ -6,8 +6,8 @@ use Rattle.wire_reader.specs.Lexical.{outside}
 use Rattle.wire_reader.specs.Scanning.{start, after, scanned, is_place, place_from, NoPlace}
 use Rattle.wire_reader.proofs.Scanned.{scanned-append, no_place}
 use Rattle.imap_replies.specs.Replies.{ReplyText}
-use Rattle.law_session.proofs.Apart.{fronts}
-use Rattle.law_session.proofs.Fronts.{outside_front}
+use Rattle.imap_session.proofs.Apart.{fronts}
+use Rattle.imap_session.proofs.Fronts.{outside_front}
 use Rattle.reply_buf.specs.Fronts.{BeginsReply, BeginsAtPlaces}
 
 -- ---- no byte is a place where none has come

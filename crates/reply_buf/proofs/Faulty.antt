@@ -8,8 +8,8 @@ use Rattle.wire_reader.specs.Lexical.{outside}
 use Rattle.wire_reader.specs.Answers.{Takes, TakesEach, IsOpen, WaitsForMore}
 use Rattle.imap_replies.specs.declared.reply.Reply.{Reply}
 use Rattle.imap_replies.specs.Replies.{ReplyText, seen}
-use Rattle.law_session.proofs.Apart.{fronts}
-use Rattle.law_session.proofs.Fronts.{outside_front}
+use Rattle.imap_session.proofs.Apart.{fronts}
+use Rattle.imap_session.proofs.Fronts.{outside_front}
 use Rattle.wire_reader.specs.declared.answer.WireFault.TheVariants as faults
 use Rattle.reply_buf.specs.Fronts.{IsFaulty, IsBreach}
 

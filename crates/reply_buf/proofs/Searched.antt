@@ -17,8 +17,8 @@ use Rattle.imap_replies.specs.declared.reply.Reply.{Reply}
 use Rattle.imap_replies.specs.Replies.{ReplyText, seen}
 use Rattle.imap_replies.proofs.ReplyParts.{reply_part}
 use Rattle.imap_replies.proofs.ReplyFeeds.{reply_feed}
-use Rattle.law_session.proofs.Apart.{fronts}
-use Rattle.law_session.proofs.AnswersApart.{reply_some}
+use Rattle.imap_session.proofs.Apart.{fronts}
+use Rattle.imap_session.proofs.AnswersApart.{reply_some}
 use Rattle.reply_buf.specs.Fronts.{BeginsAtPlaces, BeginsReply, NoneWhole}
 use Rattle.reply_buf.specs.declared.search.Search.{Search}
 use Rattle.reply_buf.specs.Searches.{IsSearched, IsNext}

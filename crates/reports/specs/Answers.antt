@@ -11,7 +11,7 @@ use Rattle.runner.specs.declared.pass.Pass.TheVariants.{Already, Ran, Finished}
 use Rattle.runner.specs.declared.performed.Performed.{Performed}
 use Rattle.runner.specs.declared.performed.StepResult.{StepResult}
 use Rattle.runner.specs.declared.performed.StepResult.TheVariants.{Found, Made, Plain, Void}
-use Rattle.plan_lines.specs.Lines.{number_text, step_line, unfit_line}
+use Rattle.worlds.specs.PlanLines.{number_text, step_line, unfit_line}
 
 abbrev pub answer_word : Pass → List ℕ
 answer_word Already = codes "already"

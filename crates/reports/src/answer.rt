@@ -7,10 +7,10 @@ ghost use Rattle.reports.specs.Answers.{answer_of, answer_word, performed_in, pe
 use crate::performed::PerformedLine;
 use mailcore::side::Side;
 use mailcore::uid::Uid;
-use plan_lines::UnfitLine;
 use runner::pass::Pass;
 use runner::performed::Performed;
 use std::alloc::{AllocError, Global};
+use worlds::plan_lines::UnfitLine;
 
 /// The word that an answer is reported with.
 pub fn answer_word(pass: &Pass) -> &'static str

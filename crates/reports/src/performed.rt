@@ -1,9 +1,9 @@
 //! The lines of what became of a run's steps (docs/FORMATS.md, "Performed lines").
 
-use plan_lines::StepLine;
 use rules::plan::Step;
 use runner::performed::{Performed, StepResult};
 use std::fmt;
+use worlds::plan_lines::StepLine;
 
 /// A step that was performed, as a line without its end.
 #[derive(Clone, Copy)]

@@ -9,9 +9,9 @@ use Rattle.mailcore.specs.declared.side.Side.{Side}
 use Rattle.mailcore.specs.declared.side.Side.TheVariants as sides
 use Rattle.mailcore.specs.Content.{mark_of}
 use Rattle.mailcore.specs.Mailboxes.{Mailbox}
-use Rattle.mailbox.specs.Arrivals as box
-use Rattle.visitors.specs.Visitors.{IsForeign}
-use Rattle.mailbox.proofs.Quiet.{none_come}
+use Rattle.outside.specs.BoxArrivals as box
+use Rattle.mailcore.specs.Visitors.{IsForeign}
+use Rattle.outside.proofs.Quiet.{none_come}
 use Rattle.outside.specs.Arrivals.{Arrives}
 use Rattle.outside.specs.Devices.{Device}
 use Rattle.run_pair.specs.Parts.{IsLess, both, put}

@@ -4,10 +4,10 @@ use Rattle.std.specs.Prelude.{IfOk}
 use Rattle.device.specs.Calls.{Effect, Follows}
 use Rattle.mailcore.specs.declared.side.Side.{Side}
 use Rattle.mailcore.specs.Mailboxes.{Mailbox}
-use Rattle.mailbox.specs.declared.fault.BoxFault.{BoxFault}
-use Rattle.mailbox.specs.declared.fault.BoxFault.TheVariants as boxes
-use Rattle.mailbox.specs.Calls as calls
-use Rattle.mailbox.specs.Calls.{Seen}
+use Rattle.outside.specs.declared.box_fault.BoxFault.{BoxFault}
+use Rattle.outside.specs.declared.box_fault.BoxFault.TheVariants as boxes
+use Rattle.outside.specs.MailboxCalls as calls
+use Rattle.outside.specs.MailboxCalls.{Seen}
 use Rattle.outside.specs.declared.fault.OutsideFault.{OutsideFault}
 use Rattle.outside.specs.Calls.{Call, FromBox, FromOpening}
 use Rattle.outside.specs.Calls as outside

@@ -2,7 +2,7 @@
 use Rattle.std.proofs.Common.{◌≡◌, ◌<◌, ◌⊎◌, inl, inr, ap, refl, subst, sym, ◌∙◌, ℕ, true, false, List, Option, None, Some, Result, Ok, Err}
 use Rattle.std.specs.Prelude.{IfErr, IsErrOf, ◌&&◌}
 use Rattle.book.specs.declared.shelf.Shelf as shelf
-use Rattle.mailbox.specs.declared.mailbox.Mailbox as mailbox
+use Rattle.outside.specs.declared.mailbox.Mailbox as mailbox
 use Rattle.device.specs.Calls.{Effect}
 use Rattle.mailcore.specs.declared.side.Side.TheVariants as side
 use Rattle.mailcore.specs.Stores.{Store}
@@ -13,7 +13,7 @@ use Rattle.sync_state.specs.declared.journal.Logged.{Logged}
 use Rattle.book.specs.declared.book.Pending.{Pending}
 use Rattle.book.specs.LostSides.{Lost}
 use Rattle.book.specs.Shelves.{Files}
-use Rattle.mailbox.specs.Arrivals as box
+use Rattle.outside.specs.BoxArrivals as box
 use Rattle.outside.specs.declared.fault.OutsideFault.{OutsideFault}
 use Rattle.outside.specs.declared.fault.OutsideFault.TheVariants as fault
 use Rattle.outside.specs.Arrivals.{Arrives}
@@ -24,7 +24,7 @@ use Rattle.outside.specs.GoingOn.{FilesGoOn}
 use Rattle.outside.proofs.CallsSpare.{AreSparing, book_spares, leaving_spares}
 use Rattle.outside.proofs.Sparing.{arrivals_spare, nothing_named}
 use Rattle.outside.specs.Opened as opened
-use Rattle.mailbox.proofs.Quiet.{quiet as box_quiet}
+use Rattle.outside.proofs.Quiet.{quiet as box_quiet}
 use Rattle.outside.proofs.GoingOn.{files_stay}
 use Rattle.run_pair.specs.PartCalls.{LeavesSome, Part, PartChanges}
 use Rattle.run_pair.specs.Stops.{Standing, StopsSo}

@@ -2,7 +2,7 @@
 use Rattle.std.proofs.Common.{◌≡◌, ◌∙◌, inl, inr, ap, sym, refl, subst, ℕ, Bool, true, false, List, ◌∷◌, Option, Result, Ok, Err}
 use Rattle.std.specs.Prelude.{IfErr, IfOk, OnOk, ◌&&◌, length}
 use Rattle.book.specs.declared.shelf.Shelf as shelf
-use Rattle.mailbox.specs.declared.mailbox.Mailbox as mailbox
+use Rattle.outside.specs.declared.mailbox.Mailbox as mailbox
 use Rattle.device.specs.Calls as dev
 use Rattle.device.specs.Calls.{Effect, Nothing, Stays, Follows}
 use Rattle.mailcore.specs.declared.listing.Listing.{Listing}
@@ -11,14 +11,14 @@ use Rattle.mailcore.specs.declared.side.Side.TheVariants.{Far, Near}
 use Rattle.mailcore.specs.Operations.{marked_from}
 use Rattle.mailcore.specs.Stores.{Store, Waiting}
 use Rattle.mailcore.specs.Mailboxes.{Mailbox}
-use Rattle.mailbox.specs.declared.fault.BoxFault.{BoxFault}
-use Rattle.mailbox.specs.declared.fault.BoxFault.TheVariants as boxes
-use Rattle.mailbox.specs.Arrivals as box
-use Rattle.mailbox.specs.Calls as calls
-use Rattle.mailbox.specs.Calls.{HasCause, Never, Seen}
-use Rattle.mailbox.specs.Operations as ops
-use Rattle.mailbox.proofs.Listed.{lists_weaker}
-use Rattle.mailbox.specs.Operations.{Answers, NoRoom}
+use Rattle.outside.specs.declared.box_fault.BoxFault.{BoxFault}
+use Rattle.outside.specs.declared.box_fault.BoxFault.TheVariants as boxes
+use Rattle.outside.specs.BoxArrivals as box
+use Rattle.outside.specs.MailboxCalls as calls
+use Rattle.outside.specs.MailboxCalls.{HasCause, Never, Seen}
+use Rattle.outside.specs.MailboxOperations as ops
+use Rattle.outside.proofs.Listed.{lists_weaker}
+use Rattle.outside.specs.MailboxOperations.{Answers, NoRoom}
 use Rattle.outside.specs.declared.fault.OutsideFault.{OutsideFault}
 use Rattle.outside.specs.Arrivals.{Arrives}
 use Rattle.outside.specs.BoxCalls.{Admits, AdmitsPart, ListsFar, ListsNear, Names, Turns}

@@ -2,7 +2,7 @@
 use Rattle.std.proofs.Common.{◌≡◌, ◌⊎◌, inl, inr, refl, ℕ, Bool, true, false, List, Result, Ok, Err}
 use Rattle.std.specs.Prelude.{IfErr, ◌&&◌}
 use Rattle.book.specs.declared.shelf.Shelf as shelf
-use Rattle.mailbox.specs.declared.mailbox.Mailbox as mailbox
+use Rattle.outside.specs.declared.mailbox.Mailbox as mailbox
 use Rattle.device.specs.Calls.{Effect, Follows}
 use Rattle.mailcore.specs.declared.side.Direction.{Direction}
 use Rattle.mailcore.specs.declared.side.Direction.TheVariants.{Pull, Push}
@@ -10,9 +10,9 @@ use Rattle.mailcore.specs.declared.side.Side.{Side}
 use Rattle.mailcore.specs.declared.side.Side.TheVariants as sides
 use Rattle.mailcore.specs.Sides.{target}
 use Rattle.mailcore.specs.Mailboxes.{Mailbox}
-use Rattle.mailbox.specs.declared.fault.BoxFault.{BoxFault}
-use Rattle.mailbox.specs.Calls.{HasCause, Never}
-use Rattle.mailbox.specs.Operations.{NoRoom}
+use Rattle.outside.specs.declared.box_fault.BoxFault.{BoxFault}
+use Rattle.outside.specs.MailboxCalls.{HasCause, Never}
+use Rattle.outside.specs.MailboxOperations.{NoRoom}
 use Rattle.outside.specs.declared.fault.OutsideFault.{OutsideFault}
 use Rattle.outside.specs.declared.fault.OutsideFault.TheVariants as fault
 use Rattle.outside.specs.declared.outside.Carried.{Carried}

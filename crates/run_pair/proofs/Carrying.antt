@@ -11,23 +11,23 @@ use Rattle.mailcore.specs.Sides.{source, target}
 use Rattle.std.proofs.lemmas.List.Elements.{All-weaker}
 use Rattle.mailcore.specs.Mailboxes.{Mailbox, on_store}
 use Rattle.rules.specs.Copies.{line_end}
-use Rattle.mailbox.specs.declared.fault.BoxFault.{BoxFault}
-use Rattle.mailbox.specs.declared.fault.BoxFault.TheVariants as boxes
-use Rattle.mailbox.specs.Arrivals as box
-use Rattle.mailbox.specs.Calls as calls
-use Rattle.mailbox.specs.Operations as ops
+use Rattle.outside.specs.declared.box_fault.BoxFault.{BoxFault}
+use Rattle.outside.specs.declared.box_fault.BoxFault.TheVariants as boxes
+use Rattle.outside.specs.BoxArrivals as box
+use Rattle.outside.specs.MailboxCalls as calls
+use Rattle.outside.specs.MailboxOperations as ops
 use Rattle.outside.specs.declared.fault.OutsideFault.{OutsideFault}
 use Rattle.outside.specs.declared.fault.OutsideFault.TheVariants as fault
 use Rattle.outside.specs.declared.outside.Carried.TheVariants.{Absent, Unfit, Made}
 use Rattle.outside.specs.Arrivals.{Arrives}
-use Rattle.mailbox.specs.Operations.{Reports}
+use Rattle.outside.specs.MailboxOperations.{Reports}
 use Rattle.outside.specs.BoxCalls.{Carry, SetsAside}
 use Rattle.outside.specs.Calls.{LeavesBy}
 use Rattle.outside.specs.Devices.{Device}
 use Rattle.run_pair.specs.Copies.{with_two}
 use Rattle.run_pair.specs.Faults.{reported}
 use Rattle.run_pair.specs.Parts.{IsLess}
-use Rattle.mailbox.proofs.Quiet.{quiet as box_quiet}
+use Rattle.outside.proofs.Quiet.{quiet as box_quiet}
 use Rattle.run_pair.proofs.Arriving.{is_foreign}
 
 -- ---- others act on both

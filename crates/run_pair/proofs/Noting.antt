@@ -2,7 +2,7 @@
 use Rattle.std.proofs.Common.{◌≡◌, ◌∙◌, ap, ℕ, List, Option}
 use Rattle.device.specs.declared.history.History.{History}
 use Rattle.book.specs.declared.shelf.Shelf as shelf
-use Rattle.mailbox.specs.declared.mailbox.Mailbox as mailbox
+use Rattle.outside.specs.declared.mailbox.Mailbox as mailbox
 use Rattle.outside.specs.Devices.{Device}
 use Rattle.outside.specs.Opened.{Opened}
 use Rattle.run_pair.specs.BookParts.{files_of, kept_of}

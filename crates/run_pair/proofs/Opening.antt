@@ -1,7 +1,7 @@
 -- Which boxes are open, and what they have answered.
 use Rattle.std.proofs.Common.{◌≡◌, ◌∙◌, ap, sym, refl, subst, ℕ, Bool, true, false, List, ◌∷◌, IsSome, Option, None, Some, Result, Ok, Err, OnOk, IfOk}
 use Rattle.mailcore.specs.declared.side.Side.TheVariants as side
-use Rattle.mailbox.specs.declared.fault.BoxFault.{BoxFault}
+use Rattle.outside.specs.declared.box_fault.BoxFault.{BoxFault}
 use Rattle.outside.specs.Devices.{Device}
 use Rattle.outside.specs.Opened.{Opened}
 use Rattle.outside.specs.Opened as opened

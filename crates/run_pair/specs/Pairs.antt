@@ -1,7 +1,7 @@
 -- The outside over two mailboxes and a shelf, as its calls are seen.
 use Rattle.std.specs.Prelude.{◌≡◌, ◌⊎◌, ◌<◌, ℕ, true, false, Option, ◌&&◌, Result}
 use Rattle.book.specs.declared.shelf.Shelf as shelf
-use Rattle.mailbox.specs.declared.mailbox.Mailbox as mailbox
+use Rattle.outside.specs.declared.mailbox.Mailbox as mailbox
 use Rattle.device.specs.Calls.{Effect}
 use Rattle.mailcore.specs.declared.side.Direction.{Direction}
 use Rattle.mailcore.specs.declared.side.Side.{Side}
@@ -10,9 +10,9 @@ use Rattle.mailcore.specs.Sides.{source, target}
 use Rattle.mailcore.specs.Mailboxes.{Mailbox as Box}
 use Rattle.book.specs.declared.book.Pending.{Pending}
 use Rattle.book.specs.Shelves.{Files}
-use Rattle.mailbox.specs.declared.fault.BoxFault.{BoxFault}
-use Rattle.mailbox.specs.Calls.{HasCause, Never}
-use Rattle.mailbox.specs.Operations.{NoRoom}
+use Rattle.outside.specs.declared.box_fault.BoxFault.{BoxFault}
+use Rattle.outside.specs.MailboxCalls.{HasCause, Never}
+use Rattle.outside.specs.MailboxOperations.{NoRoom}
 use Rattle.outside.specs.declared.fault.OutsideFault.{OutsideFault}
 use Rattle.outside.specs.Arrivals.{Arrives}
 use Rattle.outside.specs.BookCalls.{OfBook}

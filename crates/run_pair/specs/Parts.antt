@@ -4,7 +4,7 @@ use Rattle.mailcore.specs.declared.side.Side.{Side}
 use Rattle.mailcore.specs.declared.side.Side.TheVariants as side
 use Rattle.mailcore.specs.Mailboxes.{Mailbox}
 use Rattle.book.specs.Shelves.{Files}
-use Rattle.mailbox.specs.declared.fault.BoxFault.{BoxFault}
+use Rattle.outside.specs.declared.box_fault.BoxFault.{BoxFault}
 use Rattle.outside.specs.Devices.{Device, Named}
 use Rattle.outside.specs.Opened.{Opened}
 use Rattle.run_pair.specs.Kept.{Kept}

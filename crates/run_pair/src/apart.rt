@@ -5,8 +5,8 @@ ghost use Rattle.std.specs.Prelude.{◌≡◌};
 use crate::book_part::BookPart;
 use crate::pair::Pair;
 use book::shelf::Shelf;
-use mailbox::far_next::FarNext;
-use mailbox::mailbox::Mailbox;
+use outside::far_next::FarNext;
+use outside::mailbox::Mailbox;
 
 impl<F: Mailbox + Drop, N: Mailbox + Drop, S: Shelf + Drop> Pair<F, N, S> {
     /// Gives its parts back, without taking memory.

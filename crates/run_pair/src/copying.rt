@@ -4,8 +4,8 @@ ghost use Rattle.std.specs.Prelude.{◌≡◌, ◌⊎◌, ℕ, List, Bool, false
 ghost use Rattle.device.specs.Calls.{Follows};
 ghost use Rattle.mailcore.specs.KeywordNames.{kept};
 ghost use Rattle.mailcore.specs.Sides.{source, target};
-ghost use Rattle.mailbox.specs.Calls.{HasCause, Never};
-ghost use Rattle.mailbox.specs.Operations.{NoRoom};
+ghost use Rattle.outside.specs.MailboxCalls.{HasCause, Never};
+ghost use Rattle.outside.specs.MailboxOperations.{NoRoom};
 ghost use Rattle.outside.specs.Arrivals.{Arrives};
 ghost use Rattle.outside.specs.Devices.{Device};
 ghost use Rattle.run_pair.specs.Copies.{carries, with_two};
@@ -14,7 +14,6 @@ ghost use Rattle.run_pair.specs.Parts.{IsLess};
 ghost use Rattle.rules.specs.Copies.{line_end};
 
 use crate::tally::reported;
-use mailbox::mailbox::Mailbox;
 use mailcore::content::fit;
 use mailcore::copy_pieces::{CopyHead, CopyPieces};
 use mailcore::flags::Flags;
@@ -22,6 +21,7 @@ use mailcore::side::{Direction, LineEnd, Side};
 use mailcore::tuid::Tuid;
 use mailcore::uid::Uid;
 use outside::fault::OutsideFault;
+use outside::mailbox::Mailbox;
 use outside::outside::Carried;
 
 /// Copies the message with this UID from one mailbox to the other, under this mark and with these flags. The copy is made piece by piece from

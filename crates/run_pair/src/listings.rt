@@ -11,9 +11,9 @@ use crate::pair::Pair;
 use crate::tally::Tally;
 use book::shelf::Shelf;
 use device::history::History;
-use mailbox::fault::BoxFault;
-use mailbox::mailbox::Mailbox;
 use mailcore::listing::Listing;
+use outside::box_fault::BoxFault;
+use outside::mailbox::Mailbox;
 
 /// A mailbox was opened, with this answer.
 pub(crate) fn note_opened(validities: &mut History<u32>, answer: &Result<u32, BoxFault>)

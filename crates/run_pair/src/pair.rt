@@ -9,7 +9,7 @@ use crate::device_history::DeviceHistory;
 use crate::tally::Tally;
 use book::shelf::Shelf;
 use device::history::History;
-use mailbox::mailbox::Mailbox;
+use outside::mailbox::Mailbox;
 use std::alloc::Global;
 
 /// The outside of a run over a far mailbox, a near one and a book. While no call has failed, each of them is whole.

@@ -1,6 +1,7 @@
 //! The calls of a run over any two mailboxes and any shelf: each goes to the part that it concerns.
 
-ghost use Rattle.std.specs.Prelude.{◌≡◌, Ok, IfErr, IfOk, OnErr, OnOk, IsErrOf};
+ghost use Rattle.std.specs.Prelude.{◌≡◌, false, true, Ok, IfErr, IfOk, OnErr, OnOk, IsErrOf, length};
+ghost use Rattle.run_pair.specs.BookParts.{standing_of};
 
 use crate::copying::copy;
 use crate::listings::note_opened;
@@ -10,7 +11,6 @@ use crate::run_ended::commit_synced;
 use crate::run_given_up::give_up_synced;
 use book::lost_sides::LostSides;
 use book::shelf::Shelf;
-use mailbox::mailbox::Mailbox;
 use mailcore::flags::Flags;
 use mailcore::listing::Listing;
 use mailcore::side::{Direction, Side};
@@ -18,6 +18,7 @@ use mailcore::spared::Spared;
 use mailcore::tuid::Tuid;
 use mailcore::uid::Uid;
 use outside::fault::OutsideFault;
+use outside::mailbox::Mailbox;
 use outside::outside::{Carried, Outside};
 use rules::plan::Plan;
 use rules::state::SyncState;
@@ -41,10 +42,10 @@ impl<F: Mailbox + Drop, N: Mailbox + Drop, S: Shelf + Drop> Outside for Pair<F, 
     ghost use Rattle.outside.specs.Opened.{AreCommitted, AreGivenUp, IsBook, IsHeld, IsOpen, IsRead, shown_far, turned, with_box, with_listing};
     ghost use Rattle.outside.specs.Opened.{TakesCommit, TakesDiscard, TakesGivingUp, TakesLog, TakesPlan};
     ghost use Rattle.outside.specs.BookCalls.{FromLog, LeavesUnread, ReadsBook};
-    ghost use Rattle.mailbox.specs.Operations.{HasNumbers, ListsWithin, removed, NoRoom};
+    ghost use Rattle.outside.specs.MailboxOperations.{HasNumbers, ListsWithin, removed, NoRoom};
     ghost use Rattle.outside.specs.BoxCalls.{Admits, AdmitsPart, Carry, ListsFar, ListsNear, Names, SetsAside, Turns};
     ghost use Rattle.outside.specs.BoxCalls.{copies_made};
-    ghost use Rattle.mailbox.specs.Calls.{Never};
+    ghost use Rattle.outside.specs.MailboxCalls.{Never};
     ghost use Rattle.run_pair.specs.Faults.{OrRefusal};
     ghost use Rattle.run_pair.specs.Parts.{both};
     ghost use Rattle.run_pair.specs.Tallies.{Tallied, counted_again, ended, ended_naming, no_copies};

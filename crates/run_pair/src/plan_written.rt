@@ -5,8 +5,8 @@ ghost use Rattle.mailcore.specs.declared.side.Side.TheVariants as sides;
 ghost use Rattle.book.specs.declared.book.Pending.TheVariants.{Missing, Useless};
 ghost use Rattle.book.specs.Books.{Turns, TurnsHalf};
 ghost use Rattle.book.specs.BookLogs.{begun};
-ghost use Rattle.mailbox.specs.Arrivals.{Arrives};
-ghost use Rattle.mailbox.specs.Calls.{HasCause};
+ghost use Rattle.outside.specs.BoxArrivals.{Arrives};
+ghost use Rattle.outside.specs.MailboxCalls.{HasCause};
 ghost use Rattle.outside.specs.Calls.{FromBook};
 ghost use Rattle.run_pair.specs.PartCalls.{PartChanges};
 ghost use Rattle.run_pair.specs.BookParts.{files_of, kept_of, standing_of};
@@ -15,9 +15,9 @@ ghost use Rattle.run_pair.specs.Kept.{OfKept, TakesPlan, turned};
 use crate::book_part::BookPart;
 use crate::tally::reported;
 use book::shelf::Shelf;
-use mailbox::mailbox::Mailbox;
 use mailcore::side::Side;
 use outside::fault::OutsideFault;
+use outside::mailbox::Mailbox;
 use rules::plan::Plan;
 
 /// Writes the plan, after a sync of the near mailbox: it names UIDs that files there were given just before.

@@ -3,8 +3,8 @@
 ghost use Rattle.std.specs.Prelude.{◌≡◌, ◌⊎◌, ◌<◌, true, false, OnOk, IfErr, IsErrOf};
 ghost use Rattle.mailcore.specs.declared.side.Side.TheVariants as sides;
 ghost use Rattle.book.specs.Commits.{CommitsHalf, CommitsTo};
-ghost use Rattle.mailbox.specs.Arrivals.{Arrives};
-ghost use Rattle.mailbox.specs.Calls.{HasCause};
+ghost use Rattle.outside.specs.BoxArrivals.{Arrives};
+ghost use Rattle.outside.specs.MailboxCalls.{HasCause};
 ghost use Rattle.outside.specs.Calls.{FromBook};
 ghost use Rattle.run_pair.specs.PartCalls.{PartChanges};
 ghost use Rattle.run_pair.specs.BookParts.{files_of, kept_of, standing_of};
@@ -13,9 +13,9 @@ ghost use Rattle.run_pair.specs.Kept.{AreCommitted, IsHeld, OfKept, TakesCommit}
 use crate::book_part::BookPart;
 use crate::tally::reported;
 use book::shelf::Shelf;
-use mailbox::mailbox::Mailbox;
 use mailcore::side::Side;
 use outside::fault::OutsideFault;
+use outside::mailbox::Mailbox;
 
 /// Ends the run, after a sync of the near mailbox: no entry of the new state may outlive its message.
 pub(crate) fn commit_synced<N: Mailbox, S: Shelf + Drop>(

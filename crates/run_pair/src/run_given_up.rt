@@ -4,8 +4,8 @@ ghost use Rattle.std.specs.Prelude.{◌≡◌, ◌⊎◌, ◌<◌, true, false, 
 ghost use Rattle.mailcore.specs.declared.side.Side.TheVariants as sides;
 ghost use Rattle.book.specs.GivingUp.{GivesUpHalf, GivesUpTo};
 ghost use Rattle.book.specs.LostSides.{AreRising};
-ghost use Rattle.mailbox.specs.Arrivals.{Arrives};
-ghost use Rattle.mailbox.specs.Calls.{HasCause};
+ghost use Rattle.outside.specs.BoxArrivals.{Arrives};
+ghost use Rattle.outside.specs.MailboxCalls.{HasCause};
 ghost use Rattle.outside.specs.Calls.{FromBook};
 ghost use Rattle.run_pair.specs.PartCalls.{PartChanges};
 ghost use Rattle.run_pair.specs.BookParts.{files_of, kept_of, standing_of};
@@ -15,9 +15,9 @@ use crate::book_part::BookPart;
 use crate::tally::reported;
 use book::lost_sides::LostSides;
 use book::shelf::Shelf;
-use mailbox::mailbox::Mailbox;
 use mailcore::side::Side;
 use outside::fault::OutsideFault;
+use outside::mailbox::Mailbox;
 
 /// Gives the plan up, after a sync of the near mailbox: no entry of a copy may outlive it.
 pub(crate) fn give_up_synced<N: Mailbox, S: Shelf + Drop>(

@@ -10,12 +10,12 @@ use crate::book_part::BookPart;
 use crate::device_history::DeviceHistory;
 use book::shelf::Shelf;
 use device::history::History;
-use mailbox::fault::BoxFault;
-use mailbox::fault_number::FAR_REFUSED;
-use mailbox::mailbox::Mailbox;
 use mailcore::side::Side;
 use mailcore::uid::Uid;
+use outside::box_fault::BoxFault;
 use outside::fault::OutsideFault;
+use outside::fault_number::FAR_REFUSED;
+use outside::mailbox::Mailbox;
 use outside::outside::Carried;
 use std::marker::Model;
 

@@ -10,7 +10,7 @@ use crate::pair::Pair;
 use crate::tally::Tally;
 use book::shelf::Shelf;
 use device::history::History;
-use mailbox::mailbox::Mailbox;
+use outside::mailbox::Mailbox;
 use std::alloc::Global;
 
 impl<F: Mailbox + Drop, N: Mailbox + Drop, S: Shelf + Drop> Pair<F, N, S> {

@@ -7,7 +7,6 @@ use crate::failure::PlanFailure;
 use mailcore::marks::draw_marks;
 use mailcore::side::Side;
 use mailcore::uid::Uid;
-use plan_lines::{NoteLine, StepLine, UnfitLine};
 use planner::news::news;
 use planner::plan::plan;
 use planner::unfit::unfit;
@@ -16,6 +15,7 @@ use std::alloc::{AllocError, Global};
 use std::io;
 use std::io::{Read, Write};
 use worlds::listed::{ListedWorld, read_listed_world};
+use worlds::plan_lines::{NoteLine, StepLine, UnfitLine};
 use worlds::trial_generator::TrialGenerator;
 
 /// Whether a program is given arguments.

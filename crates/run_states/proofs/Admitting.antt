@@ -13,7 +13,7 @@ use Rattle.mailcore.specs.Mailboxes.{Mailbox}
 use Rattle.rules.specs.declared.state.SyncState.{SyncState}
 use Rattle.rules.specs.Admission.{numbered_under}
 use Rattle.rules.specs.World.{World, store}
-use Rattle.mailbox.specs.Operations.{IsReading, read_admitted}
+use Rattle.outside.specs.MailboxOperations.{IsReading, read_admitted}
 use Rattle.outside.specs.Devices.{Device}
 use Rattle.run_states.specs.Openings.{Grows, world_at}
 use Rattle.run_states.proofs.Foreign.{two}

@@ -13,9 +13,9 @@ use Rattle.rules.specs.World.{World, store}
 use Rattle.rules.specs.WorldAfter.{messages_under}
 use Rattle.sync_state.specs.declared.version.Version.{Version}
 use Rattle.sync_state.specs.declared.journal.Logged.{Logged}
-use Rattle.law_steps.specs.OwnLaws.{is_own}
-use Rattle.law_steps.proofs.Among.{unseen}
-use Rattle.law_steps.proofs.Fold.{rise-raised}
+use Rattle.law_outcome.specs.OwnLaws.{is_own}
+use Rattle.law_outcome.proofs.Among.{unseen}
+use Rattle.law_outcome.proofs.Fold.{rise-raised}
 use Rattle.law_outcome.specs.AlikeLaws.{own_world}
 use Rattle.outside.specs.Arrivals.{Arrives}
 use Rattle.outside.specs.Devices.{Device, Named}

@@ -24,14 +24,14 @@ use Rattle.planner.specs.Written.{all_steps}
 use Rattle.sync_state.specs.declared.version.Version.{Version}
 use Rattle.sync_state.specs.declared.journal.Logged.{Logged}
 use Rattle.sync_state.specs.declared.journal.Logged.TheVariants.{Copied, Done, Void}
-use Rattle.law_steps.specs.Steps.{Boxes, Test, after, boxes_of, bytes_at, given, own, own_in, step_after, uid_given, box as messages_in, with_box as with_messages_in}
-use Rattle.law_steps.specs.OwnLaws.{bears, is_own, is_the, marked_uid}
-use Rattle.law_steps.proofs.Among.{among, more_among}
-use Rattle.law_steps.proofs.Copying.{uid_given-new}
-use Rattle.law_steps.proofs.Fold.{fit-more, given-more, rises-more}
-use Rattle.law_steps.proofs.OwnPlan.{plan_step_own, not_found, found_after}
+use Rattle.law_outcome.specs.Steps.{Boxes, Test, after, boxes_of, bytes_at, given, own, own_in, step_after, uid_given, box as messages_in, with_box as with_messages_in}
+use Rattle.law_outcome.specs.OwnLaws.{bears, is_own, is_the, marked_uid}
+use Rattle.law_outcome.proofs.Among.{among, more_among}
+use Rattle.law_outcome.proofs.Copying.{uid_given-new}
+use Rattle.law_outcome.proofs.Fold.{fit-more, given-more, rises-more}
+use Rattle.law_outcome.proofs.OwnPlan.{plan_step_own, not_found, found_after}
 use Rattle.law_outcome.specs.CommitLaws.{results_of}
-use Rattle.mailbox.specs.Operations.{Reports}
+use Rattle.outside.specs.MailboxOperations.{Reports}
 use Rattle.outside.specs.BoxCalls.{Carries, IsUnfit, with_copy}
 use Rattle.outside.specs.Devices.{Device, Named, box, on_box}
 use Rattle.run_states.specs.Plans.{IsPlanned, begun, first_uid, next_of}

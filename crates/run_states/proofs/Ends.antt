@@ -22,9 +22,9 @@ use Rattle.book.specs.declared.book.Pending.TheVariants.{Missing, Useless}
 use Rattle.book.specs.Books.{Holds}
 use Rattle.book.specs.Commits.{CommitsTo, CommitsHalf, HoldsCommitted}
 use Rattle.book.specs.Committed.{Commits}
-use Rattle.law_steps.specs.Steps.{Boxes, Fit, Rises, after, boxes_of, given, box as messages_in}
-use Rattle.law_steps.proofs.Given.{each_given}
-use Rattle.law_steps.proofs.Whole.{plan_reaches}
+use Rattle.law_outcome.specs.Steps.{Boxes, Fit, Rises, after, boxes_of, given, box as messages_in}
+use Rattle.law_outcome.proofs.Given.{each_given}
+use Rattle.law_outcome.proofs.WholePlans.{plan_reaches}
 use Rattle.law_outcome.specs.AlikeLaws.{own_world}
 use Rattle.law_outcome.specs.CommitLaws.{results_of}
 use Rattle.law_outcome.proofs.Committed.{commit_reaches}

@@ -13,9 +13,9 @@ use Rattle.rules.specs.Called.{is_expunged}
 use Rattle.rules.specs.World.{World, IsInOrder, scene_of, store}
 use Rattle.sync_state.specs.declared.version.Version.{Version}
 use Rattle.sync_state.specs.declared.journal.Logged.{Logged}
-use Rattle.law_steps.specs.Steps.{Boxes, Rises, after, boxes_of, own, box as messages_in}
-use Rattle.law_steps.specs.OwnLaws.{is_own}
-use Rattle.law_steps.proofs.Expunging.{deleted_before, next_expunged, none_then}
+use Rattle.law_outcome.specs.Steps.{Boxes, Rises, after, boxes_of, own, box as messages_in}
+use Rattle.law_outcome.specs.OwnLaws.{is_own}
+use Rattle.law_outcome.proofs.Expunging.{deleted_before, next_expunged, none_then}
 use Rattle.law_outcome.specs.CommitLaws.{results_of}
 use Rattle.outside.specs.Devices.{Device, Named, box}
 use Rattle.run_states.specs.Plans.{begun, next_of}

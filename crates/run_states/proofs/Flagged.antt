@@ -4,7 +4,7 @@ use Rattle.std.specs.Prelude.{◌==◌}
 use Rattle.mailcore.specs.declared.side.Side.{Side}
 use Rattle.mailcore.specs.declared.side.Side.TheVariants.{Far, Near}
 use Rattle.mailcore.specs.declared.mailbox.Message.{Message}
-use Rattle.law_steps.specs.Steps.{Boxes, box, with_box, reflagged, Test, own_in, own}
+use Rattle.law_outcome.specs.Steps.{Boxes, box, with_box, reflagged, Test, own_in, own}
 
 -- both mailboxes with the flags of a message of a side changed
 abbrev pub flagged : Boxes → Side → (uid : ℕ) → (ℕ → ℕ) → Boxes

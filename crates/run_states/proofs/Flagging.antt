@@ -15,8 +15,8 @@ use Rattle.rules.specs.World.{World, scene_of}
 use Rattle.sync_state.specs.declared.version.Version.{Version}
 use Rattle.sync_state.specs.declared.journal.Logged.{Logged}
 use Rattle.sync_state.specs.declared.journal.Logged.TheVariants.{Done}
-use Rattle.law_steps.specs.Steps.{Boxes, Test, after, boxes_of, changed_uid, own, step_after}
-use Rattle.law_steps.specs.OwnLaws.{is_own}
+use Rattle.law_outcome.specs.Steps.{Boxes, Test, after, boxes_of, changed_uid, own, step_after}
+use Rattle.law_outcome.specs.OwnLaws.{is_own}
 use Rattle.law_outcome.specs.CommitLaws.{results_of}
 use Rattle.outside.specs.Devices.{Device, Named}
 use Rattle.run_states.specs.Plans.{IsPlanned, begun, names_of, next_of}

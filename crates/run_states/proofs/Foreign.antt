@@ -11,10 +11,10 @@ use Rattle.mailcore.specs.declared.mailbox.Message.{Message}
 use Rattle.mailcore.specs.Content.{mark_of}
 use Rattle.mailcore.specs.Rise.{Rise}
 use Rattle.rules.specs.World.{World, store}
-use Rattle.law_steps.specs.Steps.{own_in, own}
-use Rattle.law_steps.specs.OwnLaws.{is_the, bears, is_own}
-use Rattle.law_steps.proofs.Among.{unseen}
-use Rattle.visitors.specs.Visitors.{IsForeign}
+use Rattle.law_outcome.specs.Steps.{own_in, own}
+use Rattle.law_outcome.specs.OwnLaws.{is_the, bears, is_own}
+use Rattle.law_outcome.proofs.Among.{unseen}
+use Rattle.mailcore.specs.Visitors.{IsForeign}
 
 -- a fact of each side
 pub two : (p : Side → Type 0) → p Far → p Near → (side : Side) → p side

@@ -18,3 +18,15 @@ pub mod Expunging
 pub mod GivenMarks
 pub mod Stale
 pub mod Spared
+pub mod OtherMarks
+pub mod Moved
+pub mod NoMore
+pub mod InOrder
+pub mod Found
+pub mod Runs
+pub mod Beginnings
+pub mod GivenUp
+pub mod CalledNext
+pub mod Others
+pub mod Among
+pub mod Waited

@@ -18,12 +18,12 @@ use Rattle.rules.specs.Entries.{uid_of}
 use Rattle.rules.specs.World.{World, NamesBelow, store}
 use Rattle.book.specs.declared.book.Pending.TheVariants.{Missing}
 use Rattle.book.specs.Books.{Holds}
-use Rattle.law_steps.specs.Steps.{Boxes, Fit, boxes_of, own}
-use Rattle.law_steps.specs.OwnLaws.{is_own}
-use Rattle.law_steps.proofs.Fold.{after-none, given-none}
-use Rattle.law_steps.proofs.OwnPlan.{opening_own}
-use Rattle.mailbox.specs.Operations.{ReportsNext}
-use Rattle.mailbox.proofs.Listed.{reported_alone, reported_least, reported_store}
+use Rattle.law_outcome.specs.Steps.{Boxes, Fit, boxes_of, own}
+use Rattle.law_outcome.specs.OwnLaws.{is_own}
+use Rattle.law_outcome.proofs.Fold.{after-none, given-none}
+use Rattle.law_outcome.proofs.OwnPlan.{opening_own}
+use Rattle.outside.specs.MailboxOperations.{ReportsNext}
+use Rattle.outside.proofs.Listed.{reported_alone, reported_least, reported_store}
 use Rattle.outside.specs.Arrivals.{Arrives}
 use Rattle.outside.specs.Devices.{Device, Named, box}
 use Rattle.run_states.specs.Openings.{Grows, listed_world, world_at}

@@ -15,9 +15,9 @@ use Rattle.rules.specs.World.{World, store}
 use Rattle.sync_state.specs.declared.version.Version.{Version}
 use Rattle.sync_state.specs.declared.journal.Logged.{Logged}
 use Rattle.book.specs.Books.{Holds}
-use Rattle.law_steps.specs.Steps.{Boxes, Rises, given, own, box as messages_in, with_box as with_messages_in}
-use Rattle.law_steps.specs.OwnLaws.{is_own}
-use Rattle.law_steps.proofs.Fold.{rise-raised}
+use Rattle.law_outcome.specs.Steps.{Boxes, Rises, given, own, box as messages_in, with_box as with_messages_in}
+use Rattle.law_outcome.specs.OwnLaws.{is_own}
+use Rattle.law_outcome.proofs.Fold.{rise-raised}
 use Rattle.law_outcome.specs.CommitLaws.{results_of}
 use Rattle.outside.specs.Arrivals.{Arrives}
 use Rattle.outside.specs.Devices.{Device, Named, box, naming, on_box}

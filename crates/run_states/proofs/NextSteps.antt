@@ -6,7 +6,7 @@ use Rattle.std.proofs.lemmas.List.{length-map}
 use Rattle.rules.specs.declared.plan.Step.{Step}
 use Rattle.rules.proofs.Walks.{Contains-first, Contains-rest}
 use Rattle.sync_state.specs.declared.journal.Logged.{Logged}
-use Rattle.law_steps.specs.Steps.{Fit, makes_copy}
+use Rattle.law_outcome.specs.Steps.{Fit, makes_copy}
 use Rattle.law_outcome.specs.CommitLaws.{result_of, results_of}
 use Rattle.run_states.specs.Plans.{next_of}
 

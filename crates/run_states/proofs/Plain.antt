@@ -12,11 +12,11 @@ use Rattle.rules.specs.World.{World, store}
 use Rattle.sync_state.specs.declared.version.Version.{Version}
 use Rattle.sync_state.specs.declared.journal.Logged.{Logged}
 use Rattle.sync_state.specs.declared.journal.Logged.TheVariants.{Done}
-use Rattle.law_steps.specs.Steps.{Boxes, Fit, Rises, Test, IsOwnStep, after, boxes_of, given, makes_copy, own, step_after, uid_given}
-use Rattle.law_steps.specs.OwnLaws.{is_own}
-use Rattle.law_steps.proofs.Again.{again, from_half}
-use Rattle.law_steps.proofs.Among.{among}
-use Rattle.law_steps.proofs.Fold.{after-more, fit-more, given-more}
+use Rattle.law_outcome.specs.Steps.{Boxes, Fit, Rises, Test, IsOwnStep, after, boxes_of, given, makes_copy, own, step_after, uid_given}
+use Rattle.law_outcome.specs.OwnLaws.{is_own}
+use Rattle.law_outcome.proofs.Again.{again, from_half}
+use Rattle.law_outcome.proofs.Among.{among}
+use Rattle.law_outcome.proofs.Fold.{after-more, fit-more, given-more}
 use Rattle.law_outcome.specs.CommitLaws.{result_of, results_of}
 use Rattle.outside.specs.Devices.{Device, Named, box}
 use Rattle.run_states.specs.Plans.{begun, names_of, next_of}

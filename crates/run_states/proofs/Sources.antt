@@ -28,10 +28,10 @@ use Rattle.planner.specs.Listed.{of_step, of_note}
 use Rattle.planner.specs.Written.{all_steps, all_notes, all_new}
 use Rattle.planner.proofs.Following.{new_steps_all}
 use Rattle.planner.proofs.Sound.{sound}
-use Rattle.law_steps.specs.Steps.{Boxes, box, boxes_of, bytes_at, step_after, after, makes_copy, Test, own_in}
-use Rattle.law_steps.proofs.Fold.{after-none, after-split}
-use Rattle.law_steps.proofs.Copying.{bytes_there}
-use Rattle.law_steps.proofs.PlanParts.{changes, changes_copy_nothing}
+use Rattle.law_outcome.specs.Steps.{Boxes, box, boxes_of, bytes_at, step_after, after, makes_copy, Test, own_in}
+use Rattle.law_outcome.proofs.Fold.{after-none, after-split}
+use Rattle.law_outcome.proofs.Copying.{bytes_there}
+use Rattle.law_outcome.proofs.PlanParts.{changes, changes_copy_nothing}
 use Rattle.sync_state.specs.declared.journal.Logged.{Logged}
 use Rattle.law_outcome.specs.CommitLaws.{results_of}
 use Rattle.run_states.specs.Plans.{next_of}

@@ -35,12 +35,12 @@ use Rattle.planner.specs.Written.{all_notes, all_steps}
 use Rattle.planner.proofs.Sound.{sound}
 use Rattle.sync_state.specs.declared.journal.Logged.{Logged}
 use Rattle.sync_state.specs.declared.version.Version.{Version}
-use Rattle.law_steps.specs.Steps.{Boxes, Rises, after, boxes_of, changed_uid, given, is_side, own, reflagged, step_after, uid_given, without, with_flags, box as messages_in}
-use Rattle.law_steps.specs.OwnLaws.{is_own}
-use Rattle.law_steps.proofs.Changes.{flags_all, flags_then}
-use Rattle.law_steps.proofs.Copying.{box-with}
-use Rattle.law_steps.proofs.Expunging.{all_back, all_flags, is_below, is_deleted, right_part, seen, stored_in}
-use Rattle.law_steps.proofs.PlanParts.{fate_of_flags}
+use Rattle.law_outcome.specs.Steps.{Boxes, Rises, after, boxes_of, changed_uid, given, is_side, own, reflagged, step_after, uid_given, without, with_flags, box as messages_in}
+use Rattle.law_outcome.specs.OwnLaws.{is_own}
+use Rattle.law_outcome.proofs.Changes.{flags_all, flags_then}
+use Rattle.law_outcome.proofs.Copying.{box-with}
+use Rattle.law_outcome.proofs.Expunging.{all_back, all_flags, is_below, is_deleted, right_part, seen, stored_in}
+use Rattle.law_outcome.proofs.PlanParts.{fate_of_flags}
 use Rattle.law_outcome.specs.CommitLaws.{results_of}
 use Rattle.outside.specs.Devices.{Device, Named, box}
 use Rattle.run_states.specs.Laws.{NothingIsStale}

@@ -5,3 +5,10 @@ pub mod Endings
 pub mod Conditions
 pub mod Stale
 pub mod Laws
+pub mod Worlds
+pub mod Runs
+pub mod Beginnings
+pub mod GivenUp
+pub mod Others
+pub mod Among
+pub mod Waited

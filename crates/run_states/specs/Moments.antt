@@ -10,8 +10,8 @@ use Rattle.sync_state.specs.declared.journal.Logged.TheVariants.{Copied}
 use Rattle.book.specs.declared.book.Pending.{Pending}
 use Rattle.book.specs.declared.book.Pending.TheVariants.{Missing, Planned}
 use Rattle.book.specs.Books.{Holds}
-use Rattle.law_steps.specs.Steps.{Boxes, Fit, Rises, after, boxes_of, own}
-use Rattle.law_steps.specs.OwnLaws.{is_own}
+use Rattle.law_outcome.specs.Steps.{Boxes, Fit, Rises, after, boxes_of, own}
+use Rattle.law_outcome.specs.OwnLaws.{is_own}
 use Rattle.law_outcome.specs.CommitLaws.{results_of}
 use Rattle.outside.specs.Devices.{Device, Named, box}
 use Rattle.run_states.specs.Plans.{IsPlanned, NamedBy, begun, next_of}

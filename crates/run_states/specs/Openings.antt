@@ -11,7 +11,7 @@ use Rattle.rules.specs.World.{World, IsInOrder, NamesBelow, store}
 use Rattle.book.specs.declared.book.Pending.{Pending}
 use Rattle.book.specs.declared.book.Pending.TheVariants.{Missing, Useless, Planned}
 use Rattle.book.specs.Books.{Holds}
-use Rattle.law_steps.specs.Keywords.{IsWithinWorld}
+use Rattle.law_outcome.specs.Keywords.{IsWithinWorld}
 use Rattle.outside.specs.Devices.{Device, Named}
 
 -- The setting of a run: which marks nobody else writes (`ours`), whether nobody else adds messages (`alone`), the world that the run is made on,

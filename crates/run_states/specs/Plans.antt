@@ -13,8 +13,8 @@ use Rattle.rules.specs.AlikeBy.{AreMarks}
 use Rattle.rules.specs.World.{World, store}
 use Rattle.sync_state.specs.declared.journal.Logged.{Logged}
 use Rattle.law_outcome.specs.CommitLaws.{IsPlanOf}
-use Rattle.law_steps.specs.Laws.{half_flagged}
-use Rattle.law_steps.specs.Steps.{Boxes, changed_uid}
+use Rattle.law_outcome.specs.StepLaws.{half_flagged}
+use Rattle.law_outcome.specs.Steps.{Boxes, changed_uid}
 use Rattle.outside.specs.Devices.{Device, Named, box}
 use Rattle.outside.specs.Sparing.{IsAdmitted, StaysBut}
 

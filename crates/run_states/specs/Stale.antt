@@ -8,7 +8,7 @@ use Rattle.mailcore.specs.FlagSet.{DELETED, has}
 use Rattle.mailcore.specs.Sides.{source, target}
 use Rattle.rules.specs.declared.plan.Step.{Step}
 use Rattle.rules.specs.declared.plan.Step.TheVariants as step
-use Rattle.law_steps.specs.Steps.{Boxes, box, changed_uid, is_side}
+use Rattle.law_outcome.specs.Steps.{Boxes, box, changed_uid, is_side}
 
 -- a message of this side with this UID is there
 pub record IsThere (b : Boxes) (side : Side) (uid : ℕ) : Type 0 where

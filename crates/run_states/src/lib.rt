@@ -1,7 +1,10 @@
 //! The states that a run can be in, defined in `specs/` for the contracts of `runner`: no plan yet, a plan that is carried out to
 //! some step, or over. Lemmas in `proofs/` say how calls and messages that others add lead from one to the next; the laws here
-//! say what a reader expects, for example that a run stays underway whatever others add.
+//! say what a reader expects, for example that a run stays underway whatever others add, and `run_laws` has more, for whoever doubts the
+//! definitions.
 #![tactic(auto)]
+
+pub mod run_laws;
 
 ghost use Rattle.run_states.specs.Laws as law;
 

@@ -10,7 +10,7 @@ use Rattle.rules.specs.declared.plan.Step.{Step}
 use Rattle.rules.specs.World.{World, store}
 use Rattle.sync_state.specs.declared.version.Version.{Version}
 use Rattle.sync_state.specs.declared.journal.Logged.{Logged}
-use Rattle.law_steps.specs.Steps.{Rises}
+use Rattle.law_outcome.specs.Steps.{Rises}
 use Rattle.law_outcome.specs.CommitLaws.{results_of}
 use Rattle.outside.specs.Devices.{Device, Named, box}
 use Rattle.run_states.specs.Conditions.{IsOver, IsPending, Underway}

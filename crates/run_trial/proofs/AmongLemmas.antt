@@ -17,13 +17,13 @@ use Rattle.run_trial.specs.declared.setting.TrialSetting.{TrialSetting}
 use Rattle.run_trial.specs.Settings.{device_at, device_in}
 use Rattle.rules.specs.declared.options.Options.{Options}
 use Rattle.rules.specs.World.{World}
-use Rattle.visitors.specs.Visitors.{IsForeign}
+use Rattle.mailcore.specs.Visitors.{IsForeign}
 use Rattle.outside.specs.Calls.{Seen}
 use Rattle.outside.specs.Devices.{Device}
 use Rattle.run_pair.specs.Parts.{both}
 use Rattle.run_states.specs.Conditions.{IsOver, Underway}
-use Rattle.law_alike.specs.Beginnings.{HoldsWorld, opening_of}
-use Rattle.law_alike.specs.Others.{OthersLeft}
+use Rattle.run_states.specs.Beginnings.{HoldsWorld, opening_of}
+use Rattle.run_states.specs.Others.{OthersLeft}
 use Rattle.runner.specs.declared.fault.RunFault.{RunFault}
 use Rattle.runner.specs.Attempts.{HasNoNext, ReportsNoNext}
 use Rattle.runner.specs.Faults.{LeavesRun}

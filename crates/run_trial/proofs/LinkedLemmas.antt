@@ -6,13 +6,13 @@ use Rattle.rules.specs.declared.state.SyncState.{SyncState}
 use Rattle.rules.specs.World.{World}
 use Rattle.book.specs.declared.book.Pending.{Pending}
 use Rattle.book.specs.Books.{Holds}
-use Rattle.visitors.specs.Visitors.{Visitors, others_but}
+use Rattle.mailcore.specs.Visitors.{Visitors, others_but}
 use Rattle.outside.specs.Calls.{Seen}
 use Rattle.outside.specs.Devices.{Device}
 use Rattle.run_pair.specs.Parts.{both}
 use Rattle.run_states.specs.Conditions.{IsOver, Underway}
-use Rattle.law_alike.specs.Beginnings.{opening_of}
-use Rattle.law_alike.specs.Others.{OthersLeft}
+use Rattle.run_states.specs.Beginnings.{opening_of}
+use Rattle.run_states.specs.Others.{OthersLeft}
 use Rattle.runner.specs.declared.fault.RunFault.{RunFault}
 use Rattle.runner.specs.Attempts.{HasNoNext, ReportsNoNext}
 use Rattle.runner.specs.Faults.{LeavesRun}

@@ -23,7 +23,7 @@ use Rattle.book.specs.MemShelves.{files_of}
 use Rattle.book.specs.Shelves.{Files, bytes_of}
 use Rattle.near_box.specs.Mailboxes.{near_of}
 use Rattle.imap_session.specs.Servers.{Server}
-use Rattle.far_side.specs.Chosen.{settled, store_at}
+use Rattle.mail_sides.specs.Chosen.{settled, store_at}
 use Rattle.outside.specs.Calls.{Seen}
 use Rattle.outside.specs.Devices.{Device}
 use Rattle.run_pair.specs.Parts.{device_with}
@@ -32,7 +32,7 @@ use Rattle.maildir.specs.Gains.{nobody}
 use Rattle.run_states.specs.Conditions.{IsOver}
 use Rattle.run_states.specs.Endings.{IsDone}
 use Rattle.run_states.specs.Openings.{Opening, world_at}
-use Rattle.law_alike.specs.Beginnings.{Begins, HoldsWorld, opening_of}
+use Rattle.run_states.specs.Beginnings.{Begins, HoldsWorld, opening_of}
 use Rattle.runner.specs.declared.fault.RunFault.{RunFault}
 use Rattle.runner.specs.Attempts.{HasNoNext, ReportsNoNext}
 use Rattle.run_trial.specs.declared.trial.Trial.{Trial}

@@ -17,10 +17,10 @@ use Rattle.outside.proofs.GoingOn.{goes_after}
 use Rattle.run_states.specs.Conditions.{IsOver, Underway}
 use Rattle.run_states.specs.Endings.{IsDone}
 use Rattle.run_states.specs.Openings.{Opening, world_at}
-use Rattle.law_alike.specs.Beginnings.{Begins, opening_of}
-use Rattle.law_alike.specs.Others.{HasOrder, OthersLeft}
-use Rattle.law_alike.proofs.Beginnings.{world_is_unplanned}
-use Rattle.law_alike.proofs.Others.{begun_order, others_left}
+use Rattle.run_states.specs.Beginnings.{Begins, opening_of}
+use Rattle.run_states.specs.Others.{HasOrder, OthersLeft}
+use Rattle.run_states.proofs.Beginnings.{world_is_unplanned}
+use Rattle.run_states.proofs.Others.{begun_order, others_left}
 use Rattle.runner.specs.declared.fault.RunFault.{RunFault}
 use Rattle.runner.specs.Answers.{Inputs}
 use Rattle.runner.specs.declared.fault.RunFault.TheVariants as run

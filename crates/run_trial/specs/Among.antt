@@ -12,8 +12,8 @@ use Rattle.outside.specs.Calls.{Seen}
 use Rattle.outside.specs.Devices.{Device}
 use Rattle.run_pair.specs.Tallies.{seen_with, untouched}
 use Rattle.run_states.specs.Conditions.{IsOver, Underway}
-use Rattle.law_alike.specs.Beginnings.{opening_of}
-use Rattle.law_alike.specs.Others.{OthersLeft}
+use Rattle.run_states.specs.Beginnings.{opening_of}
+use Rattle.run_states.specs.Others.{OthersLeft}
 use Rattle.runner.specs.declared.fault.RunFault.{RunFault}
 use Rattle.runner.specs.Faults.{LeavesRun}
 use Rattle.run_trial.specs.declared.arrival.FarArrival.{FarArrival}

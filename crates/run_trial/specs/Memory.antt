@@ -10,7 +10,7 @@ use Rattle.run_pair.specs.Tallies.{seen_with, untouched}
 use Rattle.run_states.specs.Conditions.{IsOver, Underway}
 use Rattle.run_states.specs.Endings.{IsDone}
 use Rattle.run_states.specs.Openings.{Opening}
-use Rattle.law_alike.specs.Beginnings.{opening_of}
+use Rattle.run_states.specs.Beginnings.{opening_of}
 use Rattle.runner.specs.declared.fault.RunFault.{RunFault}
 use Rattle.runner.specs.Faults.{LeavesRun}
 

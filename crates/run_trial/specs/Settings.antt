@@ -9,7 +9,7 @@ use Rattle.maildir.specs.MemFolders.{stored_in}
 use Rattle.book.specs.MemShelves.{files_of}
 use Rattle.book.specs.Shelves.{Files, bytes_of}
 use Rattle.near_box.specs.Mailboxes.{near_of}
-use Rattle.far_side.specs.Chosen.{box_at}
+use Rattle.mail_sides.specs.Chosen.{box_at}
 use Rattle.outside.specs.Devices.{Device}
 use Rattle.run_pair.specs.Parts.{device_with}
 use Rattle.run_trial.specs.declared.trial.Trial.{Trial}

@@ -6,7 +6,7 @@ use Rattle.maildir.specs.Gains.{nobody}
 use Rattle.rules.specs.Opening.{IsOpening}
 use Rattle.book.specs.Shelves.{bytes_of}
 use Rattle.near_box.specs.Mailboxes.{near_of}
-use Rattle.far_side.specs.Chosen.{settled}
+use Rattle.mail_sides.specs.Chosen.{settled}
 use Rattle.outside.specs.Devices.{Device}
 use Rattle.run_pair.specs.Parts.{device_with}
 use Rattle.run_states.specs.Openings.{Opening}

@@ -10,12 +10,12 @@ ghost use Rattle.mem_link.specs.Others.{AreForeign};
 ghost use Rattle.maildir.specs.MemFolders.{stored_in};
 ghost use Rattle.book.specs.MemShelves.{files_of};
 ghost use Rattle.run_pair.specs.Pairs.{seen_of};
-ghost use Rattle.law_alike.specs.Beginnings.{Begins};
+ghost use Rattle.run_states.specs.Beginnings.{Begins};
 ghost use Rattle.runner.specs.Attempts.{HasNoNext, ReportsNoNext};
 ghost use Rattle.runner.specs.Validities.{IsKept};
 ghost use Rattle.run_trial.specs.Trials.{HasNext, IsLast, IsStart};
 ghost use Rattle.run_trial.specs.Openings.{AreOurs};
-ghost use Rattle.visitors.specs.Visitors.{IsForeign};
+ghost use Rattle.mailcore.specs.Visitors.{IsForeign};
 ghost use Rattle.run_trial.specs.Worlds.{device_of, world_of};
 ghost use Rattle.run_trial.specs.Among.{IsOverAmong, LeavesAmong, OthersLeftAmong};
 ghost use Rattle.run_trial.specs.Settings.{device_at};
@@ -25,12 +25,12 @@ use crate::failure::TrialError;
 use crate::setting::setting_of;
 use crate::trial::Trial;
 use crate::visited::{NearSetting, VisitedSetting, visited};
+use mailcore::others::Others;
 use maildir::visited_folder::VisitedFolder;
 use mem_link::mem_link::MemLink;
 use mem_link::visited_link::VisitedLink;
 use runner::fault::RunFault;
 use std::alloc::Global;
-use visitors::others::Others;
 
 /// Makes the run of a trial to which others add messages, and gives its outside beside what it came to.
 ///

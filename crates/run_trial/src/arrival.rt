@@ -3,7 +3,7 @@
 ghost use Rattle.std.specs.Prelude.{◌≡◌, ◌&&◌, All, IfErr, true};
 ghost use Rattle.std.specs.List.{list_all};
 ghost use Rattle.mailcore.specs.Content.{mark_of};
-ghost use Rattle.visitors.specs.Visitors.{IsForeign, is_foreign};
+ghost use Rattle.mailcore.specs.Visitors.{IsForeign, is_foreign};
 ghost use Rattle.worlds.specs.Lines.{IsOf};
 
 use crate::count::read_ordinal;
@@ -12,11 +12,11 @@ use crate::stop::{StopCommand, command_of, folder_call_of};
 use mailcore::flags::Flags;
 use mailcore::keywords::Keywords;
 use mailcore::octets::Octets;
+use mailcore::others::Others;
 use mailcore::side::Side;
 use maildir::visited_folder::ArrivingFile;
 use std::alloc::Global;
 use texts::lines::Line;
-use visitors::others::Others;
 use worlds::fault::WorldFault;
 use worlds::read_mailbox::{is_far, read_bytes};
 use worlds::words::{read_named, split_word};

@@ -11,8 +11,8 @@ ghost use Rattle.run_pair.specs.Tallies.{seen_with, untouched};
 ghost use Rattle.run_states.specs.Conditions.{IsOver, Underway};
 ghost use Rattle.run_states.specs.Endings.{IsDone};
 ghost use Rattle.run_states.specs.Openings.{Opening};
-ghost use Rattle.law_alike.specs.Beginnings.{Begins, opening_of};
-ghost use Rattle.law_alike.specs.Others.{HasOrder, OthersLeft};
+ghost use Rattle.run_states.specs.Beginnings.{Begins, opening_of};
+ghost use Rattle.run_states.specs.Others.{HasOrder, OthersLeft};
 ghost use Rattle.runner.specs.Attempts.{HasNoNext, MetStops};
 ghost use Rattle.runner.specs.Faults.{LeavesRun};
 ghost use Rattle.run_trial.specs.Openings.{AreOurs, StandsAt};
@@ -25,8 +25,11 @@ use crate::server::{TrialLink, account_of};
 use crate::shelf::state_in;
 use book::mem_shelf::MemShelf;
 use book::shelf::Shelf;
-use far_side::far_side::FarSide;
+use mail_sides::both::Both;
+use mail_sides::far_side::FarSide;
+use mail_sides::sides::BothSides;
 use mailcore::keywords::Keywords;
+use mailcore::others::Others;
 use maildir::folder::Folder;
 use maildir::mem_folder::MemFolder;
 use maildir::meta::Meta;
@@ -34,14 +37,11 @@ use maildir::visited_folder::VisitedFolder;
 use outside::outside::Outside;
 use rules::options::Options;
 use rules::state::SyncState;
-use run_both::both::Both;
-use run_both::sides::BothSides;
 use runner::fault::RunFault;
 use runner::pass::Settled;
 use std::alloc::Global;
 use std::num::NonZeroU32;
-use visitors::others::Others;
-use written_worlds::write::{WrittenMailbox, WrittenWorld, write_parts};
+use worlds::write::{WrittenMailbox, WrittenWorld, write_parts};
 
 /// Makes one run over an outside whose shelf holds this state, by the map of its options, and gives it back beside what the run came to.
 ///
@@ -170,7 +170,7 @@ impl<L: TrialLink + Drop> Devices<L> {
     ghost use Rattle.maildir.specs.MemFolders.{seen_of as seen_in, stored_in};
     ghost use Rattle.maildir.specs.VisitedFolders.{AddsAlone};
     ghost use Rattle.run_pair.specs.BookParts.{files_of as files_in};
-    ghost use Rattle.visitors.specs.Visitors.{others_but};
+    ghost use Rattle.mailcore.specs.Visitors.{others_but};
 
     /// What the outside of a run stands on.
     pub fn of(outside: Both<L, MemFolder, MemShelf>) -> Self

@@ -4,7 +4,7 @@
 ghost use Rattle.std.specs.Prelude.{◌≡◌, IfErr, IfOk, IsErrOf, OnOk, false};
 ghost use Rattle.book.specs.MemShelves.{files_of};
 ghost use Rattle.imap_client.specs.Seen.{HasMap};
-ghost use Rattle.law_alike.specs.Beginnings.{Begins};
+ghost use Rattle.run_states.specs.Beginnings.{Begins};
 ghost use Rattle.maildir.specs.MemFolders.{stored_in};
 ghost use Rattle.rules.specs.World.{World};
 ghost use Rattle.run_pair.specs.Pairs.{seen_of};
@@ -12,17 +12,17 @@ ghost use Rattle.run_trial.specs.Among.{IsOverAmong, LeavesAmong, OthersLeftAmon
 ghost use Rattle.run_trial.specs.Openings.{AreOurs};
 ghost use Rattle.run_trial.specs.Settings.{device_at};
 ghost use Rattle.runner.specs.Attempts.{HasNoNext};
-ghost use Rattle.visitors.specs.Visitors.{others_but};
+ghost use Rattle.mailcore.specs.Visitors.{others_but};
 
 use crate::devices::{Run, settle_all, together};
 use crate::failure::TrialError;
 use crate::server::TrialLink;
 use crate::visited::NearSetting;
+use mailcore::others::Others;
 use maildir::visited_folder::VisitedFolder;
 use rules::options::Options;
 use runner::fault::RunFault;
 use std::alloc::Global;
-use visitors::others::Others;
 
 /// Makes one run over this link, the folder and the shelf, and gives its outside beside what it came to.
 ///

@@ -3,7 +3,7 @@
 ghost use Rattle.std.specs.Prelude.{◌≡◌};
 
 use mailcore::copies::mark_of;
-use visitors::others::Others;
+use mailcore::others::Others;
 use worlds::trial_generator::may_give;
 
 /// Others whose messages bear none of the marks that the generator of trials may give.

@@ -3,7 +3,7 @@
 ghost use Rattle.std.specs.Prelude.{◌≡◌, ◌≤◌, All, IfOk, IsErr};
 ghost use Rattle.imap_server.specs.Boxes.{AreServed};
 ghost use Rattle.mailcore.specs.Content.{mark_of};
-ghost use Rattle.visitors.specs.Visitors.{IsForeign};
+ghost use Rattle.mailcore.specs.Visitors.{IsForeign};
 ghost use Rattle.imap_client.specs.Seen.{HasMap};
 
 use crate::among::run_among;
@@ -20,6 +20,7 @@ use crate::trial::Trial;
 use crate::visited::{NearSetting, VisitedSetting, visited};
 use link_face::face_link::FaceLink;
 use link_face::words::Words;
+use mailcore::others::{AnyMarks, Others};
 use mem_link::loop_link::LoopLink;
 use mem_link::mem_link::MemLink;
 use mem_link::visited_link::VisitedLink;
@@ -31,7 +32,6 @@ use std::io;
 use std::io::{Read, Write};
 use std::net::Net;
 use std::rc::Rc;
-use visitors::others::{AnyMarks, Others};
 
 /// What a program is asked for by its arguments.
 #[derive(Clone, Copy, PartialEq, Eq)]
@@ -121,7 +121,7 @@ fn reported_of_trial<R: Net + AllocGlobal + Clone + Drop>(
 }
 
 /// What is reported of this trial, in which others add messages.
-#[tactic(auto, using(visitors::proofs::Foreign::any_foreign))]
+#[tactic(auto, using(mailcore::proofs::Foreign::any_foreign))]
 fn reported_among(alloc: Global, trial: Trial) -> Result<(String, u8), TrialError>
     ensures { IfOk result (λ reported. reported.1 ≤ 1) }
 {
@@ -135,7 +135,7 @@ fn reported_among(alloc: Global, trial: Trial) -> Result<(String, u8), TrialErro
 }
 
 /// What is reported of this trial where at most so many bytes are received at once.
-#[tactic(auto, using(visitors::proofs::Foreign::any_foreign))]
+#[tactic(auto, using(mailcore::proofs::Foreign::any_foreign))]
 fn reported_in_pieces(alloc: Global, trial: Trial, piece: usize) -> Result<(String, u8), TrialError>
     ensures { IfOk result (λ reported. reported.1 ≤ 1) }
 {
@@ -152,7 +152,7 @@ fn reported_in_pieces(alloc: Global, trial: Trial, piece: usize) -> Result<(Stri
 }
 
 /// What is reported of this trial through a face.
-#[tactic(auto, using(visitors::proofs::Foreign::any_foreign))]
+#[tactic(auto, using(mailcore::proofs::Foreign::any_foreign))]
 fn reported_over_face(alloc: Global, trial: Trial) -> Result<(String, u8), TrialError>
     ensures { IfOk result (λ reported. reported.1 ≤ 1) }
 {

@@ -6,20 +6,20 @@ ghost use Rattle.imap_server.specs.Boxes.{AreServed};
 ghost use Rattle.run_trial.specs.Settings.{inbox_of};
 
 use crate::failure::TrialError;
-use far_side::account::Account;
 use imap_link::link::Link;
 use imap_server::served::are_served;
 use imap_server::server::Server;
 use link_face::face_link::FaceLink;
+use mail_sides::account::Account;
 use mailcore::keywords::Keywords;
 use mailcore::mailbox::StoredMailbox;
 use mailcore::mailbox_name::MailboxName;
+use mailcore::others::Others;
 use mem_link::loop_link::LoopLink;
 use mem_link::mem_link::MemLink;
 use mem_link::visited_link::VisitedLink;
 use std::alloc::{AllocError, Global};
 use std::net::Net;
-use visitors::others::Others;
 
 /// The one user, the password, and the mailbox.
 const USER: &[u8] = b"u";

@@ -5,7 +5,7 @@ ghost use Rattle.imap_server.specs.Boxes.{AreServed};
 ghost use Rattle.mailcore.specs.Content.{mark_of};
 ghost use Rattle.maildir.specs.MemFolders.{stored_in};
 ghost use Rattle.mem_link.specs.Others.{AreForeign};
-ghost use Rattle.visitors.specs.Visitors.{IsForeign};
+ghost use Rattle.mailcore.specs.Visitors.{IsForeign};
 ghost use Rattle.book.specs.MemShelves.{files_of};
 ghost use Rattle.run_trial.specs.Among.{AreKept, arrival_of};
 
@@ -15,6 +15,7 @@ use crate::server::MAILBOX;
 use crate::setting::{FarSetting, TrialSetting};
 use book::mem_shelf::MemShelf;
 use mailcore::octets::Octets;
+use mailcore::others::Others;
 use maildir::folder::Folder;
 use maildir::mem_folder::MemFolder;
 use maildir::visited_folder::{ArrivingFile as NearArrival, VisitedFolder};
@@ -23,7 +24,6 @@ use mem_link::command::Nth;
 use rules::options::Options;
 use rules::state::SyncState;
 use std::alloc::{AllocError, Global};
-use visitors::others::Others;
 
 /// What the run of a trial is made over in which others add messages, before there is a link to the server.
 #[derive(Drop)]

@@ -16,8 +16,8 @@ use Rattle.book.specs.Books.{Holds, Turns as TurnsJournal, TurnsHalf}
 use Rattle.book.specs.BookLogs.{begun}
 use Rattle.outside.specs.Arrivals.{Arrives}
 use Rattle.outside.specs.BookCalls.{OfBook}
-use Rattle.mailbox.specs.Operations.{ListsWithin}
-use Rattle.mailbox.proofs.Listed.{lists_since, reported_most}
+use Rattle.outside.specs.MailboxOperations.{ListsWithin}
+use Rattle.outside.proofs.Listed.{lists_since, reported_most}
 use Rattle.outside.specs.BoxCalls.{Admits, AdmitsPart, ListsFar}
 use Rattle.outside.specs.Devices.{Device}
 use Rattle.outside.specs.Opened.{Opened, shown_far, turned, with_listing}

@@ -29,11 +29,11 @@ use Rattle.book.specs.declared.book.Pending.TheVariants.{Missing, Useless, Plann
 use Rattle.book.specs.Books.{Holds, Turns, mended}
 use Rattle.book.specs.Shelves.{Files}
 use Rattle.book.proofs.KnownBooks.{book_known}
-use Rattle.law_steps.specs.Steps.{Boxes, after, boxes_of, own, step_after, box as messages_in, with_box as with_messages_in}
-use Rattle.law_steps.specs.OwnLaws.{is_own}
-use Rattle.law_steps.proofs.Fold.{after-more}
+use Rattle.law_outcome.specs.Steps.{Boxes, after, boxes_of, own, step_after, box as messages_in, with_box as with_messages_in}
+use Rattle.law_outcome.specs.OwnLaws.{is_own}
+use Rattle.law_outcome.proofs.Fold.{after-more}
 use Rattle.law_outcome.specs.CommitLaws.{results_of}
-use Rattle.visitors.specs.Visitors.{IsForeign}
+use Rattle.mailcore.specs.Visitors.{IsForeign}
 use Rattle.outside.specs.Arrivals.{Arrives}
 use Rattle.outside.specs.BookCalls.{OfBook}
 use Rattle.outside.specs.Calls.{Seen}

@@ -26,13 +26,13 @@ use Rattle.sync_state.specs.declared.journal.Logged.{Logged}
 use Rattle.sync_state.specs.declared.journal.Logged.TheVariants.{Copied, Done, Void}
 use Rattle.book.specs.Agreement.{Copy, copies_of, is_side, is_source_of}
 use Rattle.book.specs.BookLogs.{at_step, is_free, is_free_for}
-use Rattle.law_steps.specs.Steps.{given, is_side as is_that}
+use Rattle.law_outcome.specs.Steps.{given, is_side as is_that}
 use Rattle.law_outcome.specs.CommitLaws.{results_of}
 use Rattle.run_states.specs.Moments.{Midway}
 use Rattle.run_states.specs.Plans.{next_of}
 use Rattle.outside.specs.Devices.{Device, Named, box}
-use Rattle.law_steps.proofs.Copying.{uid_given-new}
-use Rattle.law_steps.proofs.Fold.{given-more}
+use Rattle.law_outcome.proofs.Copying.{uid_given-new}
+use Rattle.law_outcome.proofs.Fold.{given-more}
 use Rattle.run_states.proofs.NextSteps.{result_is, result_less, results_more}
 use Rattle.run_states.proofs.Sources.{source_of}
 use Rattle.rules.specs.declared.options.Options.{Options}

@@ -23,7 +23,7 @@ use Rattle.book.specs.BookLogs.{fresh}
 use Rattle.book.specs.Books.{IsSound}
 use Rattle.book.proofs.BegunPlans.{begun_agrees}
 use Rattle.rand_core.specs.Stream.{Stream}
-use Rattle.mailbox.specs.Operations.{HasNumbers}
+use Rattle.outside.specs.MailboxOperations.{HasNumbers}
 use Rattle.outside.specs.Opened.{IsRead, Opened, TakesPlan, state_of}
 use Rattle.run_states.specs.Plans.{IsPlanned, first_uid}
 use Rattle.runner.specs.Answers.{AreDrawn, IsDrawn, Moves, RepeatsFor, RepeatsIn, run_of}

@@ -20,7 +20,7 @@ use Rattle.book.specs.declared.book.Pending.TheVariants.{Missing, Useless, Plann
 use Rattle.book.specs.Books.{Holds}
 use Rattle.book.specs.Commits.{CommitsTo, Makes}
 use Rattle.book.specs.Committed.{entries_of_copies, entry_of_copy, kept_entries}
-use Rattle.law_steps.specs.Steps.{Fit}
+use Rattle.law_outcome.specs.Steps.{Fit}
 use Rattle.law_outcome.specs.CommitLaws.{results_of}
 use Rattle.outside.specs.Arrivals.{Arrives}
 use Rattle.outside.specs.BookCalls.{OfBook}

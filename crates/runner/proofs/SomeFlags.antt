@@ -31,7 +31,7 @@ use Rattle.rules.proofs.LookUps.{pair_says}
 use Rattle.rules.proofs.Walks.{All-filter_map}
 use Rattle.planner.specs.Written.{all_steps, expunge_step, expunge_steps, flags_step, flags_steps, gone_step, gone_steps}
 use Rattle.planner.proofs.Following.{expunge_given, flags_given, gone_given, new_steps_all}
-use Rattle.law_steps.specs.Keywords.{IsWithinWorld}
+use Rattle.law_outcome.specs.Keywords.{IsWithinWorld}
 use Rattle.outside.specs.Devices.{Device}
 use Rattle.outside.specs.Opened.{Opened}
 use Rattle.run_states.specs.Moments.{HasBegun}

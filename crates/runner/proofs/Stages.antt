@@ -14,13 +14,13 @@ use Rattle.rules.specs.World.{World, NamesBelow}
 use Rattle.sync_state.specs.declared.version.Version.{Version}
 use Rattle.sync_state.specs.declared.journal.Logged.{Logged}
 use Rattle.sync_state.specs.declared.journal.Logged.TheVariants.{Copied, Done}
-use Rattle.law_steps.specs.Steps.{changed_uid, step_after, box as messages_in}
+use Rattle.law_outcome.specs.Steps.{changed_uid, step_after, box as messages_in}
 use Rattle.outside.specs.declared.fault.OutsideFault.{OutsideFault}
 use Rattle.outside.specs.declared.fault.OutsideFault.TheVariants as out
 use Rattle.outside.specs.declared.outside.Carried.{Carried}
 use Rattle.outside.specs.declared.outside.Carried.TheVariants.{Absent, Unfit, Made}
 use Rattle.outside.specs.Arrivals.{Arrives}
-use Rattle.mailbox.specs.Operations.{Reports, removed}
+use Rattle.outside.specs.MailboxOperations.{Reports, removed}
 use Rattle.outside.specs.BoxCalls.{Carry, Names, SetsAside, Turns}
 use Rattle.outside.specs.Calls.{DoesSome, LeavesBy}
 use Rattle.outside.specs.Devices.{Device, Named, box}
@@ -216,7 +216,7 @@ module _ {ours : List ℕ → Bool} {alone : Bool} (opening : Opening ours alone
 
   -- ---- a call that is a whole step
 
-  pub whole_made : (s : Step) → next_at opened ≡ Some s → Rattle.law_steps.specs.Steps.makes_copy s ≡ false → (d m d' : Device) → Arrives ours alone d m → BeforeStep opening opened true d → IsMoved (names_of s) m d' (step_after (boxes_at m) s None) → AfterStep opening opened Done d'
+  pub whole_made : (s : Step) → next_at opened ≡ Some s → Rattle.law_outcome.specs.Steps.makes_copy s ≡ false → (d m d' : Device) → Arrives ours alone d m → BeforeStep opening opened true d → IsMoved (names_of s) m d' (step_after (boxes_at m) s None) → AfterStep opening opened Done d'
   whole_made s is plain d m d' a r c = moment_map opening opened _ _ (λ w g b at. any_whole ours alone opening.named w opening.options version plan log s is plain false m d' at c) (ready_arrives true d m a r)
 
   -- a message whose expunge is next is marked as deleted, if it is there

@@ -11,8 +11,8 @@ use Rattle.mailcore.specs.Operations.{flags_added}
 use Rattle.mailcore.specs.Sides.{target}
 use Rattle.rules.specs.declared.plan.Step.TheVariants as step
 use Rattle.rules.specs.FlagRule.{with_deleted}
-use Rattle.law_steps.specs.Steps.{Boxes, changed_uid, step_after, without, box as messages_in, with_box as with_messages_in}
-use Rattle.mailbox.specs.Operations.{removed}
+use Rattle.law_outcome.specs.Steps.{Boxes, changed_uid, step_after, without, box as messages_in, with_box as with_messages_in}
+use Rattle.outside.specs.MailboxOperations.{removed}
 use Rattle.outside.specs.BoxCalls.{Turns}
 use Rattle.outside.specs.Devices.{Device}
 use Rattle.run_states.specs.Moments.{boxes_at}

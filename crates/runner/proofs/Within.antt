@@ -15,8 +15,8 @@ use Rattle.rules.specs.declared.plan.Step.{Step}
 use Rattle.rules.specs.declared.plan.Step.TheVariants as step
 use Rattle.rules.specs.World.{World}
 use Rattle.sync_state.specs.declared.journal.Logged.{Logged}
-use Rattle.law_steps.specs.Keywords.{IsWithinStep, IsWithinWorld}
-use Rattle.law_steps.proofs.Within.{deleted_within, plan_within}
+use Rattle.law_outcome.specs.Keywords.{IsWithinStep, IsWithinWorld}
+use Rattle.law_outcome.proofs.Within.{deleted_within, plan_within}
 use Rattle.outside.specs.Devices.{Device}
 use Rattle.outside.specs.Opened.{Opened}
 use Rattle.run_states.specs.Moments.{HasBegun, Stands}

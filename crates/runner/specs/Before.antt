@@ -12,7 +12,7 @@ use Rattle.rules.specs.Entries.{uid_of}
 use Rattle.rules.specs.World.{World, NamesBelow}
 use Rattle.book.specs.Books.{Holds, IsPlanned as HasPlanned}
 use Rattle.book.specs.declared.book.Pending.TheVariants.{Missing}
-use Rattle.mailbox.specs.Operations.{ListsWithin}
+use Rattle.outside.specs.MailboxOperations.{ListsWithin}
 use Rattle.outside.specs.BoxCalls.{ListsFar}
 use Rattle.outside.specs.Devices.{Device}
 use Rattle.outside.specs.Opened.{IsHeld, Opened, listed_of, shown_far, state_of}

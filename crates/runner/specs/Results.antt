@@ -14,7 +14,7 @@ use Rattle.planner.specs.Listed.{all_unfit, marks_of}
 use Rattle.sync_state.specs.declared.journal.Logged.{Logged}
 use Rattle.book.specs.declared.book.Pending.TheVariants.{Missing}
 use Rattle.book.specs.Books.{Holds}
-use Rattle.law_steps.specs.Steps.{Fit}
+use Rattle.law_outcome.specs.Steps.{Fit}
 use Rattle.law_outcome.specs.CommitLaws.{results_of}
 use Rattle.outside.specs.Devices.{Device, Named}
 use Rattle.outside.specs.Opened.{Opened}

@@ -3,7 +3,7 @@
 ghost use Rattle.std.specs.Prelude.{◌≡◌, Some, IfOk, true, false};
 ghost use Rattle.rules.specs.declared.plan.Step.TheVariants as step;
 ghost use Rattle.sync_state.specs.declared.journal.Logged.TheVariants.{Done};
-ghost use Rattle.law_steps.specs.Steps.{changed_uid};
+ghost use Rattle.law_outcome.specs.Steps.{changed_uid};
 ghost use Rattle.run_states.specs.Conditions.{Underway};
 ghost use Rattle.run_states.specs.Openings.{Opening};
 ghost use Rattle.runner.specs.Parts.{StepPart};

@@ -13,11 +13,11 @@ ghost use Rattle.runner.specs.Sources.{BySource};
 use crate::fault::{RunFault, step_fault};
 use crate::pending::first_uid;
 use crate::performed::StepResult;
-use mailbox::fault_number::FAR_UNKNOWN_ANSWER;
 use mailcore::flags::Flags;
 use mailcore::side::{Direction, Side};
 use mailcore::tuid::Tuid;
 use mailcore::uid::Uid;
+use outside::fault_number::FAR_UNKNOWN_ANSWER;
 use outside::outside::{Carried, Outside};
 
 /// Looks for the copy that an earlier pass may have made: it has a UID that the target gave since the plan was made.

@@ -3,9 +3,9 @@
 ghost use Rattle.std.specs.Prelude.{◌≡◌};
 ghost use Rattle.runner.specs.Faults as spec;
 
-use mailbox::fault_number::FAR_REFUSED;
 use mailcore::side::Side;
 use outside::fault::OutsideFault;
+use outside::fault_number::FAR_REFUSED;
 use std::error::Error;
 use std::fmt;
 

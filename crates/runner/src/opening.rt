@@ -4,7 +4,7 @@ ghost use Rattle.std.specs.Prelude.{◌≡◌, None, Some, OnOk, IfOk, true, fal
 ghost use Rattle.book.specs.declared.book.Pending.TheVariants.{Missing};
 ghost use Rattle.book.specs.Books.{mended};
 ghost use Rattle.book.specs.BookLogs.{begun};
-ghost use Rattle.mailbox.specs.Operations.{HasNumbers};
+ghost use Rattle.outside.specs.MailboxOperations.{HasNumbers};
 ghost use Rattle.mailcore.specs.Spared.{spares};
 ghost use Rattle.outside.specs.Opened.{IsBook, IsHeld, IsOpen, IsRead, TakesPlan, shown_far, state_of, turned, with_listing};
 ghost use Rattle.run_states.specs.Conditions.{Underway};

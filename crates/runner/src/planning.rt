@@ -1,7 +1,7 @@
 //! How a plan is made: marks are drawn for the new messages of two listings.
 
 ghost use Rattle.std.specs.Prelude.{◌≡◌, ◌+◌, ◌<◌, ◌^◌, All, Some, IfOk, IfErr, true};
-ghost use Rattle.mailbox.specs.Operations.{HasNumbers};
+ghost use Rattle.outside.specs.MailboxOperations.{HasNumbers};
 ghost use Rattle.outside.specs.Opened.{IsRead, TakesPlan, state_of};
 ghost use Rattle.rules.specs.World.{World, IsInOrder};
 ghost use Rattle.planner.specs.Listed.{marks_of};

@@ -6,7 +6,7 @@ use Rattle.std.proofs.KnownBytes.{Consumes-nil, Consumes-trans, Consumes-kept, A
 use Rattle.imap_session.specs.Servers.{Server}
 use Rattle.imap_session.specs.Unread.{Kept}
 use Rattle.imap_session.specs.Serving.{End, Runs, FeedsFrom, Feeds, ServesSome, FeedsSome}
-use Rattle.law_session.proofs.Joins.{runs-join, feeds-join}
+use Rattle.imap_session.proofs.Joins.{runs-join, feeds-join}
 use Rattle.imap_server.specs.Taking.{Host, Fed}
 use Rattle.imap_session.specs.Lines.{greeting}
 use Rattle.imap_session.specs.Heard.{AreReplies}

@@ -1,7 +1,7 @@
 //! What is printed about configurations that are refused.
 
+use config::advice::advice;
 use config::read::read_config;
-use config_advice::advice::advice;
 use std::alloc::Global;
 use test_scripts::failure::Failure;
 use test_scripts::reported::Reported;

@@ -1,4 +1,5 @@
-//! Scripts of what the user writes: configurations, the names that patterns choose, and command lines of `mbsync`.
+//! Scripts of what the user writes: configurations, the names that patterns choose, and command lines of `mbsync`; and of where near
+//! mailboxes are (`near_places_play`).
 //!
 //! The lines of a script of `config`, with [`play::run`]:
 //!
@@ -24,8 +25,11 @@
 #![tactic(auto)]
 
 mod advised;
+mod changes;
 pub mod command_lines;
 mod configs;
+mod ground;
+pub mod near_places_play;
 mod patterns;
 pub mod play;
 mod requests;

@@ -1,6 +1,6 @@
 //! Which names patterns choose.
 
-use box_patterns::patterns::{Pattern, Patterns, matches};
+use config_words::patterns::{Pattern, Patterns, matches};
 use std::alloc::Global;
 use test_scripts::failure::Failure;
 use test_scripts::reported::Reported;

@@ -3,7 +3,7 @@
 use crate::near::{Devices, Near};
 use crate::whole_run::{account, settle};
 use book::shelf::ShelfFile;
-use far_side::far_side::FarSide;
+use mail_sides::far_side::FarSide;
 use mailcore::keywords::Keywords;
 use std::alloc::Global;
 use std::cell::RefCell;

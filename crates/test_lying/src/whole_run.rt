@@ -3,9 +3,10 @@
 ghost use Rattle.std.specs.Prelude.{◌≡◌, []};
 
 use crate::near::Devices;
-use far_side::account::Account;
-use far_side::far_side::FarSide;
 use imap_link::link::Link;
+use mail_sides::account::Account;
+use mail_sides::far_side::FarSide;
+use mail_sides::sides::BothSides;
 use mailcore::keywords::Keywords;
 use mailcore::side::Side;
 use outside::outside::Outside;
@@ -13,7 +14,6 @@ use reports::answer::answer_word;
 use reports::performed::PerformedLine;
 use rules::options;
 use rules::options::{Cells, Directions, Options};
-use run_both::sides::BothSides;
 use run_trial::attempts::settle_trial;
 use runner::fault::RunFault;
 use runner::pass::{Pass, Settled};

@@ -1,6 +1,7 @@
 //! What stands in a folder, seen from outside its mailbox.
 
 use crate::stopped_at::print_notes;
+use mailcore::others::NoMarks;
 use maildir::disk_folder::DiskFolder;
 use maildir::folder::{Folder, Place};
 use maildir::mem_folder::MemFolder;
@@ -9,7 +10,6 @@ use std::alloc::{AllocError, Global};
 use std::fs;
 use test_scripts::failure::Failure;
 use test_scripts::reported::Reported;
-use visitors::others::NoMarks;
 
 /// A file that stands in a folder.
 #[derive(Drop)]

@@ -4,6 +4,7 @@ use crate::files::{gather, print_files};
 use crate::seat::Seat;
 use crate::stop::read_call;
 use mailcore::octets::Octets;
+use mailcore::others::NoMarks;
 use maildir::mem_folder::MemFolder;
 use maildir::visited_folder::{ArrivingFile, VisitedFolder};
 use std::alloc::Global;
@@ -12,7 +13,6 @@ use test_scripts::failure::Failure;
 use test_scripts::reported::Reported;
 use test_scripts::script::Script;
 use test_scripts::words::Words;
-use visitors::others::NoMarks;
 
 /// An empty folder, which is made when it is first called, and the files that come to it.
 #[derive(Drop)]

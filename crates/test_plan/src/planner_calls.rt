@@ -5,7 +5,6 @@ use crate::written::world_of;
 use mailcore::listing::Listing;
 use mailcore::side::Side;
 use mailcore::tuid::Tuid;
-use plan_lines::{NoteLine, StepLine, UnfitLine};
 use planner::fault::PlanFault;
 use planner::news::news;
 use planner::plan::plan;
@@ -15,6 +14,7 @@ use std::alloc::Global;
 use test_scripts::failure::Failure;
 use test_scripts::reported::Reported;
 use test_scripts::words::Words;
+use worlds::plan_lines::{NoteLine, StepLine, UnfitLine};
 use worlds::world::{Waiting, World};
 
 /// Prints what a call of the planner answers on the world of a text: `news`, `unfit`, or `plan` with the marks that the rest of the

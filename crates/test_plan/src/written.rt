@@ -10,7 +10,7 @@ use test_scripts::words::Words;
 use worlds::fault::WorldFault;
 use worlds::read::read_world;
 use worlds::world::{Waiting, World};
-use written_worlds::write::{write_from_far, write_world};
+use worlds::write::{write_from_far, write_world};
 
 /// Prints how what the rest of the line says is written of a world: all of it, a line, or its part from `far` on.
 pub fn print_written(

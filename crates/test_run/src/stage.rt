@@ -25,7 +25,7 @@ use test_scripts::failure::Failure;
 use worlds::fault::WorldFault;
 use worlds::read::read_world;
 use worlds::world::{Waiting, WaitingFile, World};
-use written_worlds::write::{WrittenMailbox, WrittenWorld, write_parts};
+use worlds::write::{WrittenMailbox, WrittenWorld, write_parts};
 
 /// The outside of a run over two mailboxes and a shelf in memory.
 pub type MemOutside = Pair<MemMailbox<OfFar>, MemMailbox<OfNear>, MemShelf>;

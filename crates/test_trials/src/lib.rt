@@ -1,3 +1,6 @@
+//! Scripts of runs over a server, a folder and a shelf in memory: trials (`play`), runs that are stopped at each of their calls
+//! (`stops_play`), and runs that end with a fault (`wanting_play`).
+//!
 //! Trials as `mbtrial` makes them (docs/FORMATS.md, "Trial"), each over a server, a folder and a shelf in memory. After a line `play`
 //! stand the lines that are printed, those of standard error, each after `err`, and the exit status.
 //!
@@ -14,5 +17,12 @@
 //! | `play for each B from N to M in pieces` | whether each comes to the same as in memory where what the server says is received in pieces |
 #![tactic(auto)]
 
+mod alike;
 mod numbered;
 pub mod play;
+mod renaming;
+mod stop;
+pub mod stops_play;
+mod sweep;
+pub mod wanting_play;
+mod world;

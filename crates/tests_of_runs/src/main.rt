@@ -21,8 +21,8 @@ impl Libraries for Runs {
             b"cut_calls" => test_client::cut_calls::run_cuts(rt, script),
             b"run" => test_run::play::run(rt, script),
             b"trials" => test_trials::play::run(rt, script),
-            b"stops" => test_stops::play::run(rt, script),
-            b"wanting" => test_wanting::play::run(rt, script),
+            b"stops" => test_trials::stops_play::run(rt, script),
+            b"wanting" => test_trials::wanting_play::run(rt, script),
             b"channels" => test_channels::play::run(rt, script),
             _ => Err(Failure::Script),
         }

@@ -15,7 +15,7 @@ impl Libraries for Stores {
     fn play(&self, rt: &HostRuntime, name: &[u8], script: &mut Script<'_>) -> Result<(), Failure> {
         match name {
             b"near_mailbox" => test_near_mailbox::play::run(rt, script),
-            b"near_places" => test_near_places::play::run(rt, script),
+            b"near_places" => test_config::near_places_play::run(rt, script),
             b"book" => test_book::play::run(rt, script),
             _ => Err(Failure::Script),
         }

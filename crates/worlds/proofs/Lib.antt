@@ -4,3 +4,6 @@ pub mod NamedLemmas
 pub mod TextLemmas
 pub mod WordLemmas
 pub mod CountedMarks
+pub mod FileTexts
+pub mod KeywordTexts
+pub mod LetterLemmas

@@ -4,3 +4,6 @@ pub mod Lines
 pub mod Trial
 pub mod WorldText
 pub mod Worlds
+pub mod Written
+pub mod OptionsText
+pub mod PlanLines

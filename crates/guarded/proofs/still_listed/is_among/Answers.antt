@@ -1,7 +1,8 @@
 use Rattle.std.proofs.Common.{◌∙◌, true, rules}
 use Rattle.std.proofs.lemmas.List.Sorted.{answers_always}
 use Rattle.mailcore.specs.declared.listing.Item.{Item}
-use Rattle.guarded.proofs.LookedUp.{is_there, rises}
+use Rattle.maildir.proofs.SearchedLemmas.{is_there}
+use Rattle.guarded.proofs.LookedUp.{rises}
 use Rattle.guarded.proofs.still_listed.is_among.Goals as goal
 
 pub returns : goal.returns

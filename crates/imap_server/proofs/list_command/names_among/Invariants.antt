@@ -1,6 +1,6 @@
 use Rattle.std.proofs.Common.{◌≡◌, ◌+◌, length, map, filter, take}
 use Rattle.mailcore.specs.MailboxPatterns.{matches}
-use Rattle.imap_messages.specs.Boxes.{all_of}
+use Rattle.imap_session.specs.Boxes.{all_of}
 use Rattle.imap_server.proofs.list_command.names_among.Given as goal
 
 abbrev pub invariant-loop-mailbox : goal.invariant-loop-mailbox

@@ -2,7 +2,7 @@ use Rattle.std.proofs.Common.{◌≡◌, ℕ, List, [], ◌∷◌, ◌∙◌, ap
 use Rattle.mailcore.specs.KeywordNames.{names_of}
 use Rattle.imap_session.specs.Answering.{listed}
 use Rattle.imap_session.specs.MailboxCommands.{all_names}
-use Rattle.imap_messages.specs.Boxes.{far_of}
+use Rattle.imap_session.specs.Boxes.{far_of}
 use Rattle.imap_server.specs.Writing.{Wrote}
 use Rattle.imap_server.proofs.CommandLemmas.{opening_wrote}
 use Rattle.imap_server.proofs.mailbox_commands.say_opening.Goals as goal

@@ -4,8 +4,8 @@ use Rattle.mailcore.specs.declared.mailbox.Message.{Message}
 use Rattle.wire_tokens.specs.Sets.{names}
 use Rattle.imap_session.specs.NamedMessages.{greatest, named_in}
 use Rattle.imap_session.specs.MessageCommands.{fetched}
-use Rattle.imap_messages.specs.Boxes.{store_of}
-use Rattle.imap_messages.specs.Naming.{IsReach}
+use Rattle.imap_session.specs.Boxes.{store_of}
+use Rattle.imap_session.specs.Naming.{IsReach}
 use Rattle.imap_server.specs.Writing.{Wrote}
 use Rattle.imap_server.proofs.CommandLemmas.{count_fits}
 use Rattle.imap_server.proofs.FetchLemmas.{wrote_named, wrote_unnamed}

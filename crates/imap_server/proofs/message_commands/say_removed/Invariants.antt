@@ -1,7 +1,7 @@
 use Rattle.std.proofs.Common.{◌≡◌, ◌+◌, take}
 use Rattle.imap_session.specs.NamedMessages.{named_in}
 use Rattle.imap_session.specs.MessageCommands.{removed}
-use Rattle.imap_messages.specs.Boxes.{store_of}
+use Rattle.imap_session.specs.Boxes.{store_of}
 use Rattle.imap_server.specs.Writing.{Wrote}
 use Rattle.imap_server.proofs.ExpungeLemmas.{left}
 use Rattle.imap_server.proofs.message_commands.say_removed.Given as goal

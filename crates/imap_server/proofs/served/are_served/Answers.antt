@@ -1,5 +1,5 @@
 use Rattle.std.proofs.lemmas.List.Elements.{All-map}
-use Rattle.imap_messages.specs.Boxes.{far_of, IsServed}
+use Rattle.imap_session.specs.Boxes.{far_of, IsServed}
 use Rattle.imap_server.proofs.ServedLemmas.{all_unmap}
 use Rattle.imap_server.proofs.served.are_served.Goals as goal
 

@@ -2,7 +2,7 @@ use Rattle.std.proofs.Common.{All, refl, subst}
 use Rattle.std.proofs.lemmas.List.{take_all}
 use Rattle.std.proofs.lemmas.List.Elements.{All-more}
 use Rattle.mailcore.specs.declared.mailbox.StoredMailbox.{StoredMailbox}
-use Rattle.imap_messages.specs.Boxes.{far_of, IsServed}
+use Rattle.imap_session.specs.Boxes.{far_of, IsServed}
 use Rattle.imap_server.proofs.served.each_is_served.Goals as goal
 
 -- src/served.rt:23:5

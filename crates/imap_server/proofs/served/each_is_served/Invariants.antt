@@ -1,5 +1,5 @@
 use Rattle.std.proofs.Common.{All, take}
-use Rattle.imap_messages.specs.Boxes.{far_of, IsServed}
+use Rattle.imap_session.specs.Boxes.{far_of, IsServed}
 use Rattle.imap_server.proofs.served.each_is_served.Given as goal
 
 abbrev pub invariant-loop-mailbox : goal.invariant-loop-mailbox

@@ -1,6 +1,6 @@
 use Rattle.std.proofs.Common.{◌∙◌, refl}
-use Rattle.law_session.proofs.Visiting.{nobody_visits, visits_follow}
-use Rattle.visitors.specs.Visitors.{others_but}
+use Rattle.imap_session.proofs.Visiting.{nobody_visits, visits_follow}
+use Rattle.mailcore.specs.Visitors.{others_but}
 use Rattle.mem_link.specs.MemLinks.{line_of}
 use Rattle.mem_link.proofs.Visiting.{as_said, line_after}
 use Rattle.mem_link.proofs.arrivals.bring.Goals as goal

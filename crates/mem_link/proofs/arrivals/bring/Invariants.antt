@@ -2,7 +2,7 @@ use Rattle.std.proofs.Common.{◌≡◌, ℕ, Bool, List}
 use Rattle.imap_session.specs.Visits.{Visits}
 use Rattle.imap_link.specs.Sending.{visited}
 use Rattle.mem_link.specs.Others.{AreForeign}
-use Rattle.visitors.specs.Visitors.{others_but}
+use Rattle.mailcore.specs.Visitors.{others_but}
 use Rattle.mem_link.specs.MemLinks.{line_of, stops_of}
 use Rattle.mem_link.proofs.arrivals.bring.Given as goal
 

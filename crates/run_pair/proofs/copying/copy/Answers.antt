@@ -3,9 +3,9 @@ use Rattle.mailcore.specs.CopyPieces.{text_left}
 use Rattle.mailcore.specs.KeywordNames.{kept}
 use Rattle.mailcore.specs.Sides.{source, target}
 use Rattle.device.specs.Calls.{Nothing}
-use Rattle.mailbox.specs.Arrivals as box
-use Rattle.mailbox.specs.Calls.{HasCause, Never}
-use Rattle.mailbox.specs.Operations as ops
+use Rattle.outside.specs.BoxArrivals as box
+use Rattle.outside.specs.MailboxCalls.{HasCause, Never}
+use Rattle.outside.specs.MailboxOperations as ops
 use Rattle.outside.specs.BoxCalls.{Carry, SetsAside}
 use Rattle.run_pair.proofs.BoxCalls.{is_reported}
 use Rattle.run_pair.proofs.Carrying.{absent, after_both, after_load, fits_so, made, not_made, read_stays, stays_left, text_so, reported_as, unfit}

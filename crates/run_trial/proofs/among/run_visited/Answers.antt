@@ -7,7 +7,7 @@ use Rattle.maildir.specs.MemFolders.{stored_in}
 use Rattle.book.specs.MemShelves.{files_of}
 use Rattle.outside.specs.Calls.{Seen}
 use Rattle.run_pair.specs.Pairs.{seen_of}
-use Rattle.law_alike.specs.Beginnings.{Begins, opening_of}
+use Rattle.run_states.specs.Beginnings.{Begins, opening_of}
 use Rattle.run_states.specs.Conditions.{Underway}
 use Rattle.runner.specs.Attempts.{MetStops}
 use Rattle.runner.specs.Faults.{LeavesRun}

@@ -1,4 +1,4 @@
-use Rattle.law_alike.specs.Beginnings.{opening_of}
+use Rattle.run_states.specs.Beginnings.{opening_of}
 use Rattle.run_trial.proofs.devices.settle_world.Given as goal
 
 abbrev pub ghost-settle_from : goal.ghost-settle_from

@@ -3,7 +3,7 @@ use Rattle.std.proofs.Common.{◌∙◌, false, refl, sym, ap, subst}
 use Rattle.std.specs.Prelude.{IfErr}
 use Rattle.outside.specs.Calls.{Seen}
 use Rattle.run_pair.specs.Pairs.{seen_of}
-use Rattle.law_alike.specs.Beginnings.{Begins, opening_of}
+use Rattle.run_states.specs.Beginnings.{Begins, opening_of}
 use Rattle.run_states.specs.Conditions.{Underway}
 use Rattle.runner.specs.Attempts.{MetStops}
 use Rattle.runner.specs.Faults.{LeavesRun}

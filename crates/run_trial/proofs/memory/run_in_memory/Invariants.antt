@@ -1,7 +1,7 @@
 use Rattle.maildir.specs.Gains.{nobody}
 use Rattle.book.specs.MemShelves.{files_of}
 use Rattle.run_states.specs.Openings.{world_at}
-use Rattle.law_alike.specs.Beginnings.{opening_of}
+use Rattle.run_states.specs.Beginnings.{opening_of}
 use Rattle.run_trial.specs.Settings.{device_in}
 use Rattle.run_trial.proofs.Picks.{picked}
 use Rattle.run_trial.proofs.memory.run_in_memory.Given as goal

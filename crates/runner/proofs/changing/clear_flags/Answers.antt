@@ -2,7 +2,7 @@ use Rattle.std.proofs.Common.{◌≡◌, ◌==◌, ◌∙◌, ℕ, true, refl, a
 use Rattle.std.proofs.lemmas.Bool.{both_ways, eqb-true}
 use Rattle.mailcore.specs.Sides.{target}
 use Rattle.rules.specs.declared.plan.Step.TheVariants as step
-use Rattle.law_steps.specs.Steps.{changed_uid}
+use Rattle.law_outcome.specs.Steps.{changed_uid}
 use Rattle.sync_state.specs.declared.journal.Logged.TheVariants.{Done}
 use Rattle.run_states.specs.Conditions.{Underway}
 use Rattle.runner.specs.Going.{sets_some}

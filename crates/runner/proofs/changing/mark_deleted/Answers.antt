@@ -1,7 +1,7 @@
 use Rattle.std.proofs.Common.{refl, true}
 use Rattle.mailcore.specs.KeywordNames.{kept}
 use Rattle.mailcore.specs.Sides.{target}
-use Rattle.law_steps.specs.Steps.{changed_uid}
+use Rattle.law_outcome.specs.Steps.{changed_uid}
 use Rattle.rules.specs.declared.plan.Step.TheVariants as step
 use Rattle.sync_state.specs.declared.journal.Logged.TheVariants.{Done}
 use Rattle.run_states.specs.Conditions.{Underway}

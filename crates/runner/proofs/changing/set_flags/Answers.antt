@@ -2,7 +2,7 @@ use Rattle.std.proofs.Common.{◌≡◌, ◌==◌, ◌∙◌, ℕ, not, Bool, tr
 use Rattle.std.proofs.lemmas.Bool.{both_ways}
 use Rattle.mailcore.specs.Sides.{target}
 use Rattle.rules.specs.declared.plan.Step.TheVariants as step
-use Rattle.law_steps.specs.Steps.{changed_uid}
+use Rattle.law_outcome.specs.Steps.{changed_uid}
 use Rattle.run_states.specs.Conditions.{Underway}
 use Rattle.runner.specs.Going.{DuringStep, sets_some}
 use Rattle.runner.proofs.PartCalls.{from_box, left_step, line_of_box, passed_call, passed_none}

@@ -1,6 +1,6 @@
 use Rattle.std.proofs.Common.{true, List, sym, subst}
 use Rattle.mailcore.specs.declared.keywords.Keyword.{Keyword}
-use Rattle.mailbox.specs.Operations.{ListsWithin}
+use Rattle.outside.specs.MailboxOperations.{ListsWithin}
 use Rattle.mailcore.specs.declared.side.Side.TheVariants.{Near}
 use Rattle.runner.proofs.PartCalls.{from_opening, left_call, line_of_opening, opening_unrefused, passed_reported}
 use Rattle.runner.proofs.Begun.{clear_arrives, clear_underway, near_listed}

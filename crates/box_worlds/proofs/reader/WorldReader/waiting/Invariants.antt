@@ -1,5 +1,5 @@
 use Rattle.std.proofs.Common.{◌≡◌, true}
-use Rattle.near_side.specs.NearSides.{seen_of}
+use Rattle.mail_sides.specs.NearSides.{seen_of}
 use Rattle.box_worlds.proofs.reader.WorldReader.waiting.Given as goal
 
 -- what is read stays

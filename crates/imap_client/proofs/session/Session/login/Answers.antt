@@ -11,7 +11,7 @@ use Rattle.imap_client.proofs.LoggingIn.{not_yet, let_in_among, then_ends, ends_
 use Rattle.imap_client.proofs.Transcribed.{first_fails, second_fails, third_ends}
 use Rattle.imap_client.specs.Transcripts.{EndsBy, of_login, of_enable, LoginHears}
 use Rattle.imap_session.specs.Visits.{Visits}
-use Rattle.law_session.proofs.Visiting.{visits_follow}
+use Rattle.imap_session.proofs.Visiting.{visits_follow}
 use Rattle.imap_client.proofs.Visited.{earlier}
 use Rattle.imap_client.proofs.session.Session.login.Goals as goal
 

@@ -22,7 +22,7 @@ use Rattle.imap_client.proofs.Changed.{outcome_err}
 use Rattle.imap_client.proofs.Fetched.{replies_for, FetchReports, fetch_exchanged, fetch_unchanged, reads_so, reads_err}
 use Rattle.imap_client.proofs.Marks.{finds_mark}
 use Rattle.imap_client.proofs.ShownAll.{shows_passed}
-use Rattle.passed_marks.specs.Passed.{ArePassed}
+use Rattle.mailcore.specs.Passed.{ArePassed}
 use Rattle.imap_client.proofs.session.Session.mark.Goals as goal
 
 pub returns-in_err-ask_into-clause-outcome : goal.returns-in_err-ask_into-clause-outcome

@@ -3,7 +3,7 @@ use Rattle.std.specs.Prelude.{slice_get}
 use Rattle.mailcore.specs.declared.mailbox.StoredMailbox.{StoredMailbox}
 use Rattle.mailcore.specs.Operations.{added}
 use Rattle.imap_session.specs.Servers.{Server}
-use Rattle.imap_messages.specs.Boxes.{far_of, store_of, IsServed}
+use Rattle.imap_session.specs.Boxes.{far_of, store_of, IsServed}
 use Rattle.imap_server.proofs.PlaceLemmas.{far_length, far_there, served_there}
 use Rattle.imap_server.proofs.AppendLemmas.{served_added, served_after, view_after}
 use Rattle.imap_server.proofs.service.Service.add.Goals as goal

@@ -1,8 +1,8 @@
 use Rattle.std.proofs.Common.{◌++◌, refl, subst}
 use Rattle.imap_session.specs.Servers.{Server, news, reported}
 use Rattle.imap_session.specs.Portions.{Asks}
-use Rattle.law_session.specs.Short.{AreNamed}
-use Rattle.law_session.proofs.ShortReplies.{short_append, news_short, does_short}
+use Rattle.imap_session.specs.Short.{AreNamed}
+use Rattle.imap_session.proofs.ShortReplies.{short_append, news_short, does_short}
 use Rattle.imap_server.proofs.WritingLemmas.{wrote_then}
 use Rattle.imap_server.proofs.HostLemmas.{are_named}
 use Rattle.imap_server.proofs.service.Service.answer_command.Goals as goal

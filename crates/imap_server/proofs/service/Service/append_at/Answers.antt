@@ -2,7 +2,7 @@ use Rattle.std.proofs.Common.{◌≡◌, ◌<◌, ◌^◌, ◌+◌, ℕ, List, O
 use Rattle.mailcore.specs.KeywordNames.{named_set}
 use Rattle.mailcore.specs.Operations.{added}
 use Rattle.imap_session.specs.Servers.{Server}
-use Rattle.imap_messages.specs.Boxes.{far_of}
+use Rattle.imap_session.specs.Boxes.{far_of}
 use Rattle.imap_server.specs.Places.{changed_there}
 use Rattle.imap_server.specs.Services.{condition_of}
 use Rattle.imap_server.proofs.AppendLemmas.{append_at_ok}

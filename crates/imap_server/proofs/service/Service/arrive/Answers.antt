@@ -1,6 +1,6 @@
 use Rattle.std.proofs.Common.{◌∙◌, refl}
 use Rattle.imap_session.specs.Arrivals.{NoUid}
-use Rattle.imap_messages.specs.Boxes.{far_of}
+use Rattle.imap_session.specs.Boxes.{far_of}
 use Rattle.imap_server.proofs.PlaceLemmas.{last_uid}
 use Rattle.imap_server.proofs.service.Service.arrive.Goals as goal
 

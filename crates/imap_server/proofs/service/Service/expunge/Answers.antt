@@ -1,4 +1,4 @@
-use Rattle.imap_messages.specs.Boxes.{far_of}
+use Rattle.imap_session.specs.Boxes.{far_of}
 use Rattle.imap_server.proofs.ExpungeLemmas.{expunge_answered}
 use Rattle.imap_server.proofs.service.Service.expunge.Goals as goal
 

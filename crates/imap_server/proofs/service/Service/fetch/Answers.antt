@@ -1,6 +1,6 @@
 use Rattle.std.proofs.Common.{◌∙◌, ap}
 use Rattle.imap_session.specs.Servers.{Server}
-use Rattle.imap_messages.specs.Boxes.{far_of}
+use Rattle.imap_session.specs.Boxes.{far_of}
 use Rattle.imap_server.proofs.FetchLemmas.{fetch_answered}
 use Rattle.imap_server.proofs.service.Service.fetch.Goals as goal
 

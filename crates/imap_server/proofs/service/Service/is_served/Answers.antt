@@ -1,6 +1,6 @@
 use Rattle.std.proofs.Common.{subst}
 use Rattle.imap_session.specs.Servers.{Server}
-use Rattle.imap_messages.specs.Boxes.{AreServed}
+use Rattle.imap_session.specs.Boxes.{AreServed}
 use Rattle.imap_server.proofs.service.Service.is_served.Goals as goal
 
 pub returns : goal.returns

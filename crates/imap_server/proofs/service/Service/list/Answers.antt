@@ -2,7 +2,7 @@ use Rattle.std.proofs.Common.{◌≡◌, ◌∙◌, true, ℕ, List, Bor, map, s
 use Rattle.mailcore.specs.declared.mailbox.StoredMailbox.{StoredMailbox}
 use Rattle.imap_session.specs.Servers.{Server, is_logged_in}
 use Rattle.imap_session.specs.MailboxCommands.{names_matched}
-use Rattle.imap_messages.specs.Boxes.{all_of, AreServed}
+use Rattle.imap_session.specs.Boxes.{all_of, AreServed}
 use Rattle.imap_server.proofs.ListLemmas.{are_names, list_answered}
 use Rattle.imap_server.proofs.service.Service.list.Goals as goal
 

@@ -3,7 +3,7 @@ use Rattle.std.proofs.lemmas.Result.{IfOk-weaker}
 use Rattle.imap_session.specs.Servers.{news, reported}
 use Rattle.imap_session.specs.Portions.{Asks, Ends, TagIs}
 use Rattle.imap_session.specs.Serving.{ends}
-use Rattle.law_session.proofs.ShortReplies.{short_append, news_short}
+use Rattle.imap_session.proofs.ShortReplies.{short_append, news_short}
 use Rattle.imap_server.proofs.LineFeeds.{begun_sound, read_portion, command_reads, read_begin, limit_reads}
 use Rattle.imap_server.proofs.WritingLemmas.{wrote_none}
 use Rattle.imap_server.proofs.PlaceAnswers.{whole_there, literal_asked, begins_there, syntax_there, literal_there, limit_there, no_tag_there}

@@ -2,7 +2,7 @@ use Rattle.std.proofs.Common.{◌≡◌, true, ℕ, List, sym, ◌∙◌, ap, su
 use Rattle.imap_session.specs.Mailboxes.{mailbox_at}
 use Rattle.imap_session.specs.Servers.{Condition, Server, is_logged_in}
 use Rattle.imap_session.specs.MailboxCommands.{closes}
-use Rattle.imap_messages.specs.Boxes.{far_of}
+use Rattle.imap_session.specs.Boxes.{far_of}
 use Rattle.imap_server.specs.Writing.{Wrote}
 use Rattle.imap_server.proofs.CommandLemmas.{select_there, select_none}
 use Rattle.imap_server.proofs.service.Service.select.Goals as goal

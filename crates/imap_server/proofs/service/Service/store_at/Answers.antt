@@ -2,7 +2,7 @@ use Rattle.std.proofs.Common.{◌<◌, length, refl, sym, ap, subst, arith}
 use Rattle.mailcore.specs.declared.mailbox.StoredMailbox.{StoredMailbox}
 use Rattle.imap_session.specs.NamedMessages.{stored}
 use Rattle.imap_session.specs.Servers.{Server}
-use Rattle.imap_messages.specs.Boxes.{far_of, IsServed}
+use Rattle.imap_session.specs.Boxes.{far_of, IsServed}
 use Rattle.imap_server.proofs.PlaceLemmas.{far_length, served_there}
 use Rattle.imap_server.proofs.AppendLemmas.{served_set, view_set}
 use Rattle.imap_server.proofs.service.Service.store_at.Goals as goal

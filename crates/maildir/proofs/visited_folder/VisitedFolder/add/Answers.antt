@@ -1,6 +1,6 @@
 use Rattle.std.proofs.Common.{◌≡◌, ◌∙◌, ℕ, List, true, ap, refl, subst, sym}
 use Rattle.mailcore.specs.Content.{mark_of}
-use Rattle.visitors.specs.Visitors.{AreOctets, IsForeign, others_but}
+use Rattle.mailcore.specs.Visitors.{AreOctets, IsForeign, others_but}
 use Rattle.maildir.specs.MemFolders.{seen_of}
 use Rattle.maildir.specs.Names.{is_waiting}
 use Rattle.maildir.proofs.AddedLemmas.{alone_added, alone_none, alone_same}

@@ -1,5 +1,5 @@
 use Rattle.std.proofs.Common.{◌∙◌, refl}
-use Rattle.visitors.specs.Visitors.{others_but}
+use Rattle.mailcore.specs.Visitors.{others_but}
 use Rattle.maildir.specs.MemFolders.{seen_of}
 use Rattle.maildir.proofs.AddedLemmas.{alone_more, alone_none}
 use Rattle.maildir.proofs.visited_folder.VisitedFolder.take_in.Goals as goal

@@ -1,6 +1,6 @@
 use Rattle.std.proofs.Common.{◌≡◌}
 use Rattle.maildir.specs.MemFolders.{seen_of}
-use Rattle.visitors.specs.Visitors.{others_but}
+use Rattle.mailcore.specs.Visitors.{others_but}
 use Rattle.maildir.specs.VisitedFolders.{AddsAlone}
 use Rattle.maildir.proofs.visited_folder.VisitedFolder.take_in.Given as goal
 

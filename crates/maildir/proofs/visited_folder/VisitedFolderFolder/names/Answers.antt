@@ -1,7 +1,7 @@
 use Rattle.std.proofs.Common.{true, subst}
 use Rattle.device.specs.Calls.{Read}
 use Rattle.maildir.specs.Folders.{Lists, listed}
-use Rattle.visitors.specs.Visitors.{others_but}
+use Rattle.mailcore.specs.Visitors.{others_but}
 use Rattle.maildir.specs.MemFolders.{seen_of}
 use Rattle.maildir.proofs.AddedLemmas.{read_anew}
 use Rattle.maildir.proofs.visited_folder.VisitedFolderFolder.names.Goals as goal

@@ -1,6 +1,6 @@
 use Rattle.std.proofs.Common.{List, subst, sym}
-use Rattle.law_session.proofs.Visiting.{nobody_visits}
-use Rattle.visitors.specs.Visitors.{others_but}
+use Rattle.imap_session.proofs.Visiting.{nobody_visits}
+use Rattle.mailcore.specs.Visitors.{others_but}
 use Rattle.mem_link.specs.declared.arrivals.Arrival.{Arrival}
 use Rattle.mem_link.specs.Others.{AreForeign}
 use Rattle.mem_link.proofs.arrivals.Arrivals.come.Goals as goal

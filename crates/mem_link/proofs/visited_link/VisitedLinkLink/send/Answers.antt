@@ -1,6 +1,6 @@
 use Rattle.imap_link.specs.Sending.{visited}
 use Rattle.mem_link.specs.MemLinks.{line_of}
-use Rattle.visitors.specs.Visitors.{others_but}
+use Rattle.mailcore.specs.Visitors.{others_but}
 use Rattle.mem_link.proofs.Giving.{on_err, some_none}
 use Rattle.mem_link.proofs.Visiting.{feeds_among, sends_among}
 use Rattle.mem_link.proofs.visited_link.VisitedLinkLink.send.Goals as goal

@@ -2,8 +2,8 @@ use Rattle.std.proofs.Common.{◌∙◌, ap, length, arith}
 use Rattle.std.proofs.lemmas.List.{length-map}
 use Rattle.std.proofs.lemmas.Result.{err_from_is_err_and}
 use Rattle.std.specs.Prelude.{true}
-use Rattle.mailbox.specs.Operations.{NoRoom, is_full}
-use Rattle.mailbox.proofs.Admitted.{admits_all}
+use Rattle.outside.specs.MailboxOperations.{NoRoom, is_full}
+use Rattle.outside.proofs.Admitted.{admits_all}
 use Rattle.mem_mailbox.specs.Views.{near_of, waiting_of}
 use Rattle.mem_mailbox.proofs.MemCalls.{ends, fails, full, lacks}
 use Rattle.mem_mailbox.proofs.Within.{admitted_within, stays_within}

@@ -2,7 +2,7 @@ use Rattle.std.proofs.Common.{◌∙◌, ap, Some}
 use Rattle.std.proofs.lemmas.Result.{err_from_is_err_and}
 use Rattle.mailcore.specs.CopyPieces.{text_left}
 use Rattle.mailcore.specs.KeywordNames.{kept}
-use Rattle.mailbox.specs.Operations.{NoRoom, is_full}
+use Rattle.outside.specs.MailboxOperations.{NoRoom, is_full}
 use Rattle.mem_mailbox.specs.Views.{near_of, store_of}
 use Rattle.mem_mailbox.proofs.MemCalls.{added_next, ends, fails, full, lacks, stays}
 use Rattle.mem_mailbox.proofs.Within.{copy_within, same_within}

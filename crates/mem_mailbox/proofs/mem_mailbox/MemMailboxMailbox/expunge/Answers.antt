@@ -1,6 +1,6 @@
 use Rattle.std.proofs.lemmas.Result.{err_from_is_err_and}
-use Rattle.mailbox.specs.Operations.{removed}
-use Rattle.mailbox.specs.Calls.{Never}
+use Rattle.outside.specs.MailboxOperations.{removed}
+use Rattle.outside.specs.MailboxCalls.{Never}
 use Rattle.mem_mailbox.specs.Views.{near_of, store_of}
 use Rattle.mem_mailbox.proofs.MemCalls.{ends, fails, turned}
 use Rattle.mem_mailbox.proofs.Within.{left_within, same_within}

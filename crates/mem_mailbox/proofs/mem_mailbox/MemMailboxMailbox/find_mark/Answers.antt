@@ -1,6 +1,6 @@
 use Rattle.std.proofs.Common.{refl}
 use Rattle.std.proofs.lemmas.Result.{err_from_is_err_and}
-use Rattle.mailbox.specs.Calls.{Never}
+use Rattle.outside.specs.MailboxCalls.{Never}
 use Rattle.mem_mailbox.specs.Views.{near_of}
 use Rattle.mem_mailbox.proofs.MemCalls.{ends, fails}
 use Rattle.mem_mailbox.proofs.mem_mailbox.MemMailboxMailbox.find_mark.Goals as goal

@@ -1,7 +1,7 @@
 use Rattle.std.proofs.Common.{refl}
 use Rattle.std.proofs.lemmas.Result.{err_from_is_err_and}
 use Rattle.mailcore.specs.Spared.{spares}
-use Rattle.mailbox.specs.Calls.{Never}
+use Rattle.outside.specs.MailboxCalls.{Never}
 use Rattle.mem_mailbox.specs.Views.{near_of, store_of}
 use Rattle.mem_mailbox.proofs.MemCalls.{ends, fails, lacks, lists}
 use Rattle.mem_mailbox.proofs.Within.{ends_within, listed_within}

@@ -1,6 +1,6 @@
 use Rattle.std.proofs.Common.{refl, sym, ◌∙◌}
 use Rattle.std.proofs.lemmas.Result.{err_from_is_err_and}
-use Rattle.mailbox.specs.Calls.{Never}
+use Rattle.outside.specs.MailboxCalls.{Never}
 use Rattle.mem_mailbox.specs.Views.{near_of}
 use Rattle.mem_mailbox.proofs.MemCalls.{ends, fails, lacks}
 use Rattle.mem_mailbox.proofs.mem_mailbox.MemMailboxMailbox.load.Goals as goal

@@ -1,7 +1,7 @@
 use Rattle.std.proofs.lemmas.Result.{err_from_is_err_and}
 use Rattle.mailcore.specs.KeywordNames.{kept}
 use Rattle.mailcore.specs.Operations.{flags_removed}
-use Rattle.mailbox.specs.Calls.{Never}
+use Rattle.outside.specs.MailboxCalls.{Never}
 use Rattle.mem_mailbox.specs.Views.{near_of, store_of}
 use Rattle.mem_mailbox.proofs.MemCalls.{ends, fails, turned}
 use Rattle.mem_mailbox.proofs.Within.{same_within, cleared_within}

@@ -1,7 +1,7 @@
 use Rattle.std.proofs.Common.{◌≡◌, refl}
 use Rattle.std.proofs.lemmas.Result.{err_from_is_err_and}
 use Rattle.device.specs.Calls.{Nothing}
-use Rattle.mailbox.specs.Calls.{Never}
+use Rattle.outside.specs.MailboxCalls.{Never}
 use Rattle.mem_mailbox.specs.Views.{near_of}
 use Rattle.mem_mailbox.proofs.MemCalls.{answers, ends, stays, stops}
 use Rattle.mem_mailbox.proofs.mem_mailbox.MemMailboxMailbox.sync.Goals as goal

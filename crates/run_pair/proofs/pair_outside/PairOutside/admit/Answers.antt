@@ -1,7 +1,7 @@
 use Rattle.std.proofs.Common.{◌∙◌, sym, inl, refl}
 use Rattle.std.specs.Prelude.{◌&&◌, length}
 use Rattle.mailcore.specs.declared.side.Side.TheVariants as side
-use Rattle.mailbox.specs.Operations.{NoRoom}
+use Rattle.outside.specs.MailboxOperations.{NoRoom}
 use Rattle.run_pair.specs.BookParts.{kept_of}
 use Rattle.run_pair.specs.Faults.{unstepped}
 use Rattle.run_pair.specs.Pairs.{device_of, far_answered}

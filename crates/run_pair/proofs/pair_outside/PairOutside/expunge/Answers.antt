@@ -1,6 +1,6 @@
 use Rattle.std.proofs.Common.{◌∙◌, sym, inl, refl}
 use Rattle.mailcore.specs.declared.side.Side.TheVariants as side
-use Rattle.mailbox.specs.Operations.{removed}
+use Rattle.outside.specs.MailboxOperations.{removed}
 use Rattle.outside.proofs.Sparing.{removal_changes_one}
 use Rattle.run_pair.specs.BookParts.{kept_of}
 use Rattle.run_pair.specs.Pairs.{device_of, far_answered, near_answered}

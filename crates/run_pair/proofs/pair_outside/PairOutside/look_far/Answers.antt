@@ -2,8 +2,8 @@ use Rattle.std.proofs.Common.{◌∙◌, sym, refl}
 use Rattle.std.specs.Prelude.{◌&&◌}
 use Rattle.mailcore.specs.declared.side.Side.TheVariants as side
 use Rattle.mailcore.specs.Spared.{spares}
-use Rattle.mailbox.specs.Calls.{Never}
-use Rattle.mailbox.specs.Operations.{HasNumbers, ListsWithin}
+use Rattle.outside.specs.MailboxCalls.{Never}
+use Rattle.outside.specs.MailboxOperations.{HasNumbers, ListsWithin}
 use Rattle.run_pair.specs.BookParts.{kept_of}
 use Rattle.run_pair.specs.Faults.{unstepped}
 use Rattle.run_pair.specs.Pairs.{device_of, near_answered}

@@ -3,7 +3,7 @@ use Rattle.std.specs.List.{list_all}
 use Rattle.std.proofs.lemmas.Iterator.{YieldsList-from_slice}
 use Rattle.std.proofs.lemmas.Iterator.Search.{all_from_yields_List}
 use Rattle.mailcore.specs.Content.{mark_of}
-use Rattle.visitors.specs.Visitors.{is_foreign}
+use Rattle.mailcore.specs.Visitors.{is_foreign}
 use Rattle.maildir.specs.declared.visited_folder.ArrivingFile.{ArrivingFile}
 use Rattle.run_trial.specs.declared.arrival.FarArrival.{FarArrival}
 use Rattle.run_trial.proofs.ForeignLemmas.{all_foreign}

@@ -1,7 +1,0 @@
-use Rattle.std.proofs.Common.{◌↔◌, take}
-use Rattle.std.specs.Prelude.{IsTrue}
-use Rattle.box_patterns.specs.Patterns.{IsChosen}
-use Rattle.box_patterns.proofs.patterns.matches.Given as goal
-
-abbrev pub invariant-loop-word : goal.invariant-loop-word
-invariant-loop-word l = IsTrue l.is_chosen ↔ IsChosen (take l.word-index l.word-items) l.name

@@ -1,7 +1,0 @@
-use Rattle.std.proofs.Common.{◌≡◌, refl}
-use Rattle.far_side.specs.FarSides.{honest_of, seen_of}
-use Rattle.far_side.proofs.Outcomes.{rests}
-use Rattle.far_side.proofs.far_side.FarSideMailbox.sync.Goals as goal
-
-pub returns-clause-call : goal.returns-clause-call
-returns-clause-call g c = rests g.L.Link.visitors (honest_of c.args.self.now) (λ b b'. b' ≡ b) (seen_of c.args.self.now) c.requires.whole refl

@@ -1,4 +1,0 @@
-pub mod NamingLemmas
-pub mod ReachLemmas
-pub mod StoreLemmas
-pub mod ExpungeLemmas

@@ -1,3 +1,0 @@
-pub mod Boxes
-pub mod Naming
-pub mod Changing

@@ -1,5 +1,0 @@
-use Rattle.law_alike.proofs.Found.{as_many_entries, as_many_messages}
-use Rattle.law_alike.proofs.alike_worlds_have_as_many.Goals as goal
-
-pub returns : goal.returns
-returns c = record { messages = as_many_messages; entries = as_many_entries }

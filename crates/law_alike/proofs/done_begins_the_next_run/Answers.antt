@@ -1,5 +1,0 @@
-use Rattle.law_alike.proofs.Runs.{done_is_opening, done_is_unplanned}
-use Rattle.law_alike.proofs.done_begins_the_next_run.Goals as goal
-
-pub returns : goal.returns
-returns c = record { unplanned = done_is_unplanned; opening = done_is_opening }

@@ -1,5 +1,0 @@
-use Rattle.law_alike.proofs.Beginnings.{others_keep_opening, world_is_unplanned}
-use Rattle.law_alike.proofs.world_begins_a_run.Goals as goal
-
-pub returns : goal.returns
-returns c = record { unplanned = world_is_unplanned; others = others_keep_opening }

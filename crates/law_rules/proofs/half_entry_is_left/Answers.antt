@@ -1,5 +1,0 @@
-use Rattle.law_rules.proofs.HalfEntries.{half_entry_is_left}
-use Rattle.law_rules.proofs.half_entry_is_left.Goals as goal
-
-pub returns : goal.returns
-returns c = half_entry_is_left

@@ -1,5 +1,0 @@
-use Rattle.law_rules.proofs.Places.{in_order}
-use Rattle.law_rules.proofs.order_is_total.Goals as goal
-
-pub returns-clause-total : goal.returns-clause-total
-returns-clause-total c = in_order

@@ -1,5 +1,0 @@
-use Rattle.law_session.proofs.Greeted.{greeted}
-use Rattle.law_session.proofs.exchanges.new_lines_are_idle.Goals as goal
-
-pub returns : goal.returns
-returns c = greeted

@@ -1,5 +1,0 @@
-use Rattle.law_session.proofs.Joins.{feeds-join}
-use Rattle.law_session.proofs.sessions.pieces_join.Goals as goal
-
-pub returns : goal.returns
-returns c = feeds-join

@@ -1,5 +1,0 @@
-use Rattle.law_session.proofs.Refusing.{does_fine}
-use Rattle.law_session.proofs.sessions.refusals_change_nothing.Goals as goal
-
-pub returns : goal.returns
-returns c = does_fine

@@ -1,5 +1,0 @@
-use Rattle.law_session.proofs.Visiting.{nobody_visits, visits_follow, visits_reported, arrival_visits}
-use Rattle.law_session.proofs.sessions.visits_follow.Goals as goal
-
-pub returns : goal.returns
-returns c = record { nobody = nobody_visits; follow = visits_follow; reported = visits_reported; arrival = arrival_visits }

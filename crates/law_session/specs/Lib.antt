@@ -1,4 +1,0 @@
-pub mod SessionLaws
-pub mod Short
-pub mod VisitLaws
-pub mod ExchangeLaws

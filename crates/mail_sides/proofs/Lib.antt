@@ -1,0 +1,14 @@
+pub mod Removals
+pub mod NearCalls
+pub mod Opening
+pub mod Within
+pub mod Mailboxes
+pub mod SeenThrough
+pub mod Visited
+pub mod Endings
+pub mod Outcomes
+pub mod OpenCalls
+pub mod Operations
+pub mod Joined
+pub mod SideCalls
+pub mod CopyOctets

@@ -1,3 +1,0 @@
-pub mod Quiet
-pub mod Admitted
-pub mod Listed

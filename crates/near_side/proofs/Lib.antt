@@ -1,4 +1,0 @@
-pub mod Removals
-pub mod NearCalls
-pub mod Opening
-pub mod Within

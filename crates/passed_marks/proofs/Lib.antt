@@ -1,2 +1,0 @@
-pub mod KeptPassed
-pub mod PassedLemmas

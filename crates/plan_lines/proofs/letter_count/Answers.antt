@@ -1,9 +1,0 @@
-use Rattle.std.proofs.Common.{◌<◌, ◌^◌, ◌∙◌, ap, subst, sym}
-use Rattle.std.specs.Prelude.{count_ones}
-use Rattle.plan_lines.proofs.LetterLemmas.{letters-count}
-use Rattle.plan_lines.proofs.letter_count.Goals as goal
-
-pub returns : goal.returns
-returns c =
-    let same = c.bits.ensures.bits in
-    ap count_ones same ∙ sym (letters-count c.args.flags (subst (λ n. n < 2 ^ 32) same c.bits.ensures.set))

@@ -1,8 +1,0 @@
-//! A mailbox at a server, one in a folder, and a book, as the outside of a run.
-
-use far_side::far_side::FarSide;
-use near_side::near_side::NearSide;
-use run_pair::pair::Pair;
-
-/// The outside of a run over a mailbox that is reached by the link `L`, one in the folder `F`, and a book on the shelf `S`.
-pub type Both<L, F, S> = Pair<FarSide<L>, NearSide<F>, S>;

@@ -1,2 +1,0 @@
-pub mod FileTexts
-pub mod KeywordTexts

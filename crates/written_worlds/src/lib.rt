@@ -1,4 +1,0 @@
-//! How the texts of worlds are written.
-#![tactic(auto)]
-
-pub mod write;
