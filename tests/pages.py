@@ -218,6 +218,7 @@ def main():
     is_current(tally, "bin/list-crates", "--check")
     is_current(tally, "bin/make-manual", "--check")
     is_current(tally, "bin/link-clauses", "--check")
+    is_current(tally, "bin/draw-walk", "--check")
     is_current(tally, "bin/silent-refusals")
     links(tally)
     clauses(tally)

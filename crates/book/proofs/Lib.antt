@@ -9,6 +9,7 @@ pub mod CommittedLists
 pub mod CommittedPairs
 pub mod CommittedPlaces
 pub mod CopiedUids
+pub mod DiskShelfLemmas
 pub mod EntryOrderLemmas
 pub mod EntryPairLemmas
 pub mod FreshAgreement

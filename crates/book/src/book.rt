@@ -30,11 +30,12 @@ pub enum Pending {
 
 /// The state that the state's file holds. No file: no run was made.
 fn read_state_file<S: Shelf>(alloc: Global, shelf: &mut S) -> Result<SyncState, BookFault>
-    ensures holds { IfOk result (λ state. S.is_honest ≡ true → HoldsState (S.seen shelf.new).stored.state state) }
+    ensures holds { IfOk result (λ state. S.honest shelf.new → HoldsState (S.seen shelf.new).stored.state state) }
     ensures sound { IfOk result IsSound }
-    ensures files { S.is_honest ≡ true → (S.seen shelf.new).stored ≡ (S.seen shelf.old).stored }
+    ensures was_honest { S.honest shelf.new → S.honest shelf.old }
+    ensures files { S.honest shelf.new → (S.seen shelf.new).stored ≡ (S.seen shelf.old).stored }
     ensures unstopped { OnOk result (IsUnstopped (S.seen shelf.old) (S.seen shelf.new)) }
-    ensures refused { IfErr result (λ fault. S.is_honest ≡ true → ReportsStateFile (S.seen shelf.new).stored.state fault) }
+    ensures refused { IfErr result (λ fault. S.honest shelf.new → ReportsStateFile (S.seen shelf.new).stored.state fault) }
     ensures reported { IfErr result (λ fault. StopsReported fault (S.seen shelf.old) (S.seen shelf.new)) }
 {
     match shelf.read(ShelfFile::State)? {
@@ -49,11 +50,12 @@ fn read_journal_file<S: Shelf>(
     shelf: &mut S,
     state: &SyncState,
 ) -> Result<Pending, BookFault>
-    ensures holds { IfOk result (λ pending. S.is_honest ≡ true → HoldsJournal state.now (S.seen shelf.new).stored.journal pending) }
+    ensures holds { IfOk result (λ pending. S.honest shelf.new → HoldsJournal state.now (S.seen shelf.new).stored.journal pending) }
     ensures fits { IfOk result (Fits state.now) }
-    ensures files { S.is_honest ≡ true → (S.seen shelf.new).stored ≡ (S.seen shelf.old).stored }
+    ensures was_honest { S.honest shelf.new → S.honest shelf.old }
+    ensures files { S.honest shelf.new → (S.seen shelf.new).stored ≡ (S.seen shelf.old).stored }
     ensures unstopped { OnOk result (IsUnstopped (S.seen shelf.old) (S.seen shelf.new)) }
-    ensures refused { IfErr result (λ fault. S.is_honest ≡ true → ReportsJournalFile state.now (S.seen shelf.new).stored.journal fault) }
+    ensures refused { IfErr result (λ fault. S.honest shelf.new → ReportsJournalFile state.now (S.seen shelf.new).stored.journal fault) }
     ensures reported { IfErr result (λ fault. StopsReported fault (S.seen shelf.old) (S.seen shelf.new)) }
 {
     match shelf.read(ShelfFile::Journal)? {
@@ -88,13 +90,14 @@ fn read_files<S: Shelf>(
     alloc: Global,
     shelf: &mut S,
 ) -> Result<(SyncState, Pending, Taken), BookFault>
-    ensures holds { IfOk result (λ held. S.is_honest ≡ true → Holds (S.seen shelf.new).stored held.0 held.1) }
+    ensures holds { IfOk result (λ held. S.honest shelf.new → Holds (S.seen shelf.new).stored held.0 held.1) }
     ensures fits { IfOk result (λ held. Fits held.0 held.1) }
     ensures sound { IfOk result (λ held. IsSound held.0) }
     ensures knows { IfOk result (λ held. Knows held.0.entries held.1 held.2) }
     ensures unstopped { OnOk result (IsUnstopped (S.seen shelf.old) (S.seen shelf.new)) }
-    ensures files { S.is_honest ≡ true → (S.seen shelf.new).stored ≡ (S.seen shelf.old).stored }
-    ensures refused { IfErr result (λ fault. S.is_honest ≡ true → ReportsOpen (S.seen shelf.new).stored fault) }
+    ensures was_honest { S.honest shelf.new → S.honest shelf.old }
+    ensures files { S.honest shelf.new → (S.seen shelf.new).stored ≡ (S.seen shelf.old).stored }
+    ensures refused { IfErr result (λ fault. S.honest shelf.new → ReportsOpen (S.seen shelf.new).stored fault) }
     ensures reported { IfErr result (λ fault. StopsReported fault (S.seen shelf.old) (S.seen shelf.new)) }
 {
     let state = read_state_file(alloc, shelf)?;
@@ -125,7 +128,7 @@ pub struct Book<S: Shelf> {
     pub(crate) taken: Taken,
     pub(crate) is_ready: bool,
     pub ghost is_whole: { is_ready ≡ true → (S.seen shelf).is_broken ≡ false },
-    pub ghost holds: { is_ready ≡ true → S.is_honest ≡ true → Holds (S.seen shelf).stored state pending },
+    pub ghost holds: { is_ready ≡ true → S.honest shelf → Holds (S.seen shelf).stored state pending },
     pub ghost fits: { Fits state pending } by { Fits-prop state pending },
     pub ghost sound: { IsSound state } by { IsSound-prop state },
     pub ghost knows: { is_ready ≡ true → Knows state.entries pending taken } by { Knows-prop is_ready state.entries pending taken },
@@ -138,12 +141,14 @@ impl<S: Shelf> Book<S> {
     /// is not spelled so, or it is of a run above the next one, which is line 2, or it is of the next one and disagrees
     /// with the state.
     pub fn open(alloc: Global, shelf: S) -> Result<Book<S>, OpenFault<S>>
-        ensures files { IfOk result (λ book. S.is_honest ≡ true → (S.seen book.shelf).stored ≡ (S.seen shelf).stored) }
+        ensures was_honest { IfOk result (λ book. S.honest book.shelf → S.honest shelf) }
+        ensures files { IfOk result (λ book. S.honest book.shelf → (S.seen book.shelf).stored ≡ (S.seen shelf).stored) }
         ensures ready { IfOk result (λ book. book.is_ready ≡ true) }
-        ensures held { IfOk result (λ book. S.is_honest ≡ true → Holds (S.seen book.shelf).stored book.state book.pending) }
+        ensures held { IfOk result (λ book. S.honest book.shelf → Holds (S.seen book.shelf).stored book.state book.pending) }
         ensures unstopped { IfOk result (λ book. IsUnstopped (S.seen shelf) (S.seen book.shelf)) }
-        ensures handed_back { IfErr result (λ f. S.is_honest ≡ true → (S.seen f.shelf).stored ≡ (S.seen shelf).stored) }
-        ensures refused { IfErr result (λ f. S.is_honest ≡ true → ReportsOpen (S.seen f.shelf).stored f.fault) }
+        ensures handed_honest { IfErr result (λ f. S.honest f.shelf → S.honest shelf) }
+        ensures handed_back { IfErr result (λ f. S.honest f.shelf → (S.seen f.shelf).stored ≡ (S.seen shelf).stored) }
+        ensures refused { IfErr result (λ f. S.honest f.shelf → ReportsOpen (S.seen f.shelf).stored f.fault) }
         ensures reported { IfErr result (λ f. StopsReported f.fault (S.seen shelf) (S.seen f.shelf)) }
     {
         let mut shelf = shelf;
@@ -178,13 +183,14 @@ impl<S: Shelf> Book<S> {
     /// Opens the book: reads both files and changes nothing. A book that is open stays so, and nothing is called. The faults are those
     /// of `open`.
     pub fn enter(&mut self) -> Result<(), BookFault>
-        ensures files { S.is_honest ≡ true → (S.seen self.new.shelf).stored ≡ (S.seen self.old.shelf).stored }
+        ensures was_honest { S.honest self.new.shelf → S.honest self.old.shelf }
+        ensures files { S.honest self.new.shelf → (S.seen self.new.shelf).stored ≡ (S.seen self.old.shelf).stored }
         ensures ready { OnOk result (self.new.is_ready ≡ true) }
         ensures failed { OnErr result (self.new.is_ready ≡ false) }
         ensures untouched { self.old.is_ready ≡ true → (result ≡ Ok tt) × (self.new ≡ self.old) }
-        ensures held { OnOk result (S.is_honest ≡ true → Holds (S.seen self.new.shelf).stored self.new.state self.new.pending) }
+        ensures held { OnOk result (S.honest self.new.shelf → Holds (S.seen self.new.shelf).stored self.new.state self.new.pending) }
         ensures unstopped { OnOk result (IsUnstopped (S.seen self.old.shelf) (S.seen self.new.shelf)) }
-        ensures refused { IfErr result (λ fault. S.is_honest ≡ true → ReportsOpen (S.seen self.new.shelf).stored fault) }
+        ensures refused { IfErr result (λ fault. S.honest self.new.shelf → ReportsOpen (S.seen self.new.shelf).stored fault) }
         ensures reported { IfErr result (λ fault. StopsReported fault (S.seen self.old.shelf) (S.seen self.new.shelf)) }
     {
         if self.is_ready {
@@ -200,6 +206,7 @@ impl<S: Shelf> Book<S> {
 
     /// Closes the book, and opens its shelf again.
     pub fn reopen(&mut self)
+        ensures was_honest { S.honest self.new.shelf → S.honest self.old.shelf }
         ensures closed { self.new.is_ready ≡ false }
         ensures shelf { S.seen self.new.shelf ≡ record (S.seen self.old.shelf) { is_broken = false } }
     {
@@ -230,7 +237,7 @@ impl<S: Shelf> Book<S> {
     pub fn into_shelf(self) -> S
         ensures shelf { result ≡ self.shelf }
         ensures whole { self.is_ready ≡ true → (S.seen result).is_broken ≡ false }
-        ensures holds { S.is_honest ≡ true → self.is_ready ≡ true → Holds (S.seen result).stored self.state self.pending }
+        ensures holds { S.honest result → self.is_ready ≡ true → Holds (S.seen result).stored self.state self.pending }
     {
         let Book {
             alloc: _,
@@ -245,11 +252,12 @@ impl<S: Shelf> Book<S> {
 
     /// Removes the journal, if there is one: one `remove`, or no call of the shelf.
     pub fn discard(&mut self) -> Result<(), BookFault>
+        ensures was_honest { S.honest self.new.shelf → S.honest self.old.shelf }
         ensures state { self.new.state ≡ self.old.state }
         ensures removed { OnOk result (self.new.pending ≡ Pending.Missing) }
         ensures kept { OnErr result (self.new.pending ≡ self.old.pending) }
         ensures untouched { self.old.is_ready ≡ true → self.old.pending ≡ Pending.Missing → (result ≡ Ok tt) × (self.new.shelf ≡ self.old.shelf) }
-        ensures leaves { S.is_honest ≡ true → LeavesJournal self.old.pending Pending.Missing Pending.Missing self.old self.new result }
+        ensures leaves { S.honest self.new.shelf → LeavesJournal self.old.pending Pending.Missing Pending.Missing self.old self.new result }
         ensures ends { Ends false (standing self.old) (standing self.new) result }
     {
         if !self.is_ready {
@@ -268,12 +276,13 @@ impl<S: Shelf> Book<S> {
     /// Takes a torn last line off a journal whose plan is pending, if there is one: one `replace`, or no call of the shelf.
     /// The journal keeps its version.
     pub fn mend(&mut self) -> Result<(), BookFault>
+        ensures was_honest { S.honest self.new.shelf → S.honest self.old.shelf }
         ensures state { self.new.state ≡ self.old.state }
         ensures mended { OnOk result (self.new.pending ≡ mended self.old.pending) }
         ensures kept { OnErr result (self.new.pending ≡ self.old.pending) }
         ensures untouched { self.old.is_ready ≡ true → mended self.old.pending ≡ self.old.pending
             → (result ≡ Ok tt) × (self.new.shelf ≡ self.old.shelf) }
-        ensures leaves { S.is_honest ≡ true → LeavesJournal self.old.pending (mended self.old.pending) self.old.pending self.old self.new result }
+        ensures leaves { S.honest self.new.shelf → LeavesJournal self.old.pending (mended self.old.pending) self.old.pending self.old self.new result }
         ensures ends { Ends false (standing self.old) (standing self.new) result }
     {
         if !self.is_ready {

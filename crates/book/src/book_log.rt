@@ -31,10 +31,11 @@ impl<S: Shelf> Book<S> {
         requires has_text { IsPlan plan }
         requires next { plan.run ≡ self.old.state.run + 1 }
         requires agrees { Agrees self.old.state.entries (fresh plan) }
+        ensures was_honest { S.honest self.new.shelf → S.honest self.old.shelf }
         ensures state { self.new.state ≡ self.old.state }
         ensures begun { OnOk result (self.new.pending ≡ begun plan) }
         ensures kept { OnErr result (self.new.pending ≡ self.old.pending) }
-        ensures leaves { S.is_honest ≡ true → LeavesJournal Pending.Missing (begun plan) Pending.Useless self.old self.new result }
+        ensures leaves { S.honest self.new.shelf → LeavesJournal Pending.Missing (begun plan) Pending.Useless self.old self.new result }
         ensures ends { Ends false (standing self.old) (standing self.new) result }
     {
         if !self.is_ready {
@@ -61,10 +62,11 @@ impl<S: Shelf> Book<S> {
     /// `BadState(0)`: the copy's UID is taken. Nothing has changed then.
     pub fn done(&mut self, step: usize, copy: Option<Uid>) -> Result<(), BookFault>
         requires next { MayLog self.old.pending step (as_done copy) }
+        ensures was_honest { S.honest self.new.shelf → S.honest self.old.shelf }
         ensures state { self.new.state ≡ self.old.state }
         ensures logged { OnOk result (self.new.pending ≡ logged_more self.old.pending (as_done copy)) }
         ensures kept { OnErr result (self.new.pending ≡ self.old.pending) }
-        ensures leaves { S.is_honest ≡ true
+        ensures leaves { S.honest self.new.shelf
             → LeavesJournal self.old.pending (logged_more self.old.pending (as_done copy)) (torn self.old.pending) self.old self.new result }
         ensures ends { Ends (is_refused self.old.state.entries self.old.pending (as_done copy)) (standing self.old) (standing self.new) result }
     {
@@ -82,10 +84,11 @@ impl<S: Shelf> Book<S> {
     /// more, or could not be copied.
     pub fn void(&mut self, step: usize) -> Result<(), BookFault>
         requires next { MayLog self.old.pending step Logged.Void }
+        ensures was_honest { S.honest self.new.shelf → S.honest self.old.shelf }
         ensures state { self.new.state ≡ self.old.state }
         ensures logged { OnOk result (self.new.pending ≡ logged_more self.old.pending Logged.Void) }
         ensures kept { OnErr result (self.new.pending ≡ self.old.pending) }
-        ensures leaves { S.is_honest ≡ true
+        ensures leaves { S.honest self.new.shelf
             → LeavesJournal self.old.pending (logged_more self.old.pending Logged.Void) (torn self.old.pending) self.old self.new result }
         ensures ends { Ends false (standing self.old) (standing self.new) result }
     {
@@ -96,10 +99,11 @@ impl<S: Shelf> Book<S> {
     fn log(&mut self, step: usize, logged: Logged) -> Result<(), BookFault>
         requires next { MayLog self.old.pending step logged }
         requires free { self.old.is_ready ≡ true → is_refused self.old.state.entries self.old.pending logged ≡ false }
+        ensures was_honest { S.honest self.new.shelf → S.honest self.old.shelf }
         ensures state { self.new.state ≡ self.old.state }
         ensures logged { OnOk result (self.new.pending ≡ logged_more self.old.pending logged) }
         ensures kept { OnErr result (self.new.pending ≡ self.old.pending) }
-        ensures leaves { S.is_honest ≡ true
+        ensures leaves { S.honest self.new.shelf
             → LeavesJournal self.old.pending (logged_more self.old.pending logged) (torn self.old.pending) self.old self.new result }
         ensures ends { Ends false (standing self.old) (standing self.new) result }
     {

@@ -2,14 +2,16 @@
 
 ghost use Rattle.std.specs.Prelude.{◌≡◌, ◌<◌, ◌^◌, IfOk};
 ghost use Rattle.device.specs.Conditions.{disk_at};
+ghost use Rattle.device.specs.OwnFiles.{KeptWord, NoFile, Touches};
+ghost use Rattle.book.specs.DiskShelves.{file_name, files_on};
+ghost use Rattle.book.specs.Shelves.{Gives};
 
 use crate::shelf::{Shelf, ShelfFile};
 use device::DeviceFault;
-use device::disk::Disk;
+use device::own_files::OwnFiles;
 use device::trouble::Trouble;
 use std::alloc::AllocError;
 use std::io;
-use std::io::Write;
 use std::marker::Model;
 use std::rt::Files;
 
@@ -37,21 +39,21 @@ pub struct ShelfStop {
 /// has to be there before its first step; a file that is replaced before it is renamed, and its name after that; and the journal with
 /// its name where one is read, since the call that wrote it may have stopped before it was synced. Further bytes of a journal
 /// and the removal of a file may be lost: docs/DECISIONS.md says what follows. A file that is replaced is written anew as
-/// `.mbsyncstate.new` and renamed over the old one, so that it is whole or as before. Whether a disk gives back what was synced
-/// no proof can say: so no contract promises what a real shelf stores.
+/// `.mbsyncstate.new` and renamed over the old one, so that it is whole or as before.
+///
+/// Each call of the system is noted with its answer, and what the shelf stores is read off this record. Whether the answers are
+/// those of a file system no proof can say: that is a premise (`honest`) of what is proved.
 #[derive(Drop)]
 pub struct DiskShelf<R: Files + AllocGlobal + Clone + Drop> {
-    disk: Disk<R>,
-    /// The journal, open for further bytes. None: the last call was another than `append`, or none was made.
-    journal: Option<R::File>,
+    disk: OwnFiles<R>,
     /// Where a call stopped since the shelf was opened.
     stop: Option<ShelfStop>,
 }
 
 impl<R: Files + AllocGlobal + Clone + Drop> Model for DiskShelf<R> {
-    ghost use Rattle.device.specs.Conditions.{DiskParts};
+    ghost use Rattle.device.specs.OwnFiles.{FilesParts};
 
-    ghost Value = { DiskParts };
+    ghost Value = { FilesParts };
 
     ghost view = { λ shelf. shelf.disk };
 }
@@ -59,18 +61,18 @@ impl<R: Files + AllocGlobal + Clone + Drop> Model for DiskShelf<R> {
 impl<R: Files + AllocGlobal + Clone + Drop> DiskShelf<R> {
     /// The shelf in the folder at this path, which is there; it is looked at by the first call.
     pub fn new(rt: R, path: &str) -> Result<Self, AllocError>
-        ensures { IfOk result (λ shelf. shelf ≡ disk_at path.now) }
+        ensures disk { IfOk result (λ shelf. shelf.disk ≡ disk_at path.now) }
+        ensures honest { IfOk result (λ shelf. ⟦<DiskShelf<R> as Shelf>⟧.honest shelf) }
     {
         Ok(DiskShelf {
-            disk: Disk::new(rt, path)?,
-            journal: None,
+            disk: OwnFiles::new(rt, path)?,
             stop: None,
         })
     }
 
     /// How many calls have stopped, up to the top of its type.
     pub fn stops(&self) -> usize
-        ensures { self.now.condition.stops < 2 ^ 64 → result ≡ self.now.condition.stops }
+        ensures { self.now.disk.condition.stops < 2 ^ 64 → result ≡ self.now.disk.condition.stops }
     {
         self.disk.stops()
     }
@@ -92,41 +94,23 @@ impl<R: Files + AllocGlobal + Clone + Drop> DiskShelf<R> {
     }
 
     // The bytes of a file. A journal is synced before it is relied on, and with its name that of the state.
-    fn bytes_of(&self, file: ShelfFile) -> io::Result<Option<Vec<u8>>> {
-        let bytes = self.disk.read_own(name_of(file))?;
+    fn bytes_of(&mut self, file: ShelfFile) -> io::Result<Option<Vec<u8>>>
+        ensures touches { Touches NoFile self.old self.new }
+        ensures gives { IfOk result (λ bytes. KeptWord self.new → Gives file bytes (files_on self.old)) }
+    {
+        let bytes = self.disk.read(name_of(file))?;
         if file == ShelfFile::Journal && bytes.is_some() {
             self.disk.sync_file(JOURNAL)?;
             self.disk.sync_names()?;
         }
         Ok(bytes)
     }
-
-    // Appends bytes to a file. A journal stays open for those that follow.
-    fn extend(&mut self, file: ShelfFile, bytes: &[u8]) -> io::Result<()>
-        ensures { self.new ≡ self.old }
-    {
-        match (&mut self.journal, file) {
-            (Some(journal), ShelfFile::Journal) => journal.write_all(bytes),
-            (_, ShelfFile::State) => {
-                self.disk.append(STATE, bytes)?;
-                Ok(())
-            }
-            (None, ShelfFile::Journal) => {
-                self.journal = Some(self.disk.append(JOURNAL, bytes)?);
-                Ok(())
-            }
-        }
-    }
-
-    // Replaces a file by one with these bytes.
-    fn exchange(&self, file: ShelfFile, bytes: &[u8]) -> io::Result<()> {
-        self.disk.replace(name_of(file), NEXT, bytes)?;
-        self.disk.sync_names()
-    }
 }
 
 /// The name of a file in the folder of a shelf on a disk.
-pub fn name_of(file: ShelfFile) -> &'static str {
+pub fn name_of(file: ShelfFile) -> &'static str
+    ensures { result.now ≡ file_name file }
+{
     match file {
         ShelfFile::State => STATE,
         ShelfFile::Journal => JOURNAL,
@@ -134,16 +118,15 @@ pub fn name_of(file: ShelfFile) -> &'static str {
 }
 
 impl<R: Files + AllocGlobal + Clone + Drop> Shelf for DiskShelf<R> {
-    ghost use Rattle.std.specs.Prelude.{false};
+    ghost use Rattle.device.specs.OwnFiles.{KeptWord};
     ghost use Rattle.book.specs.DiskShelves.{seen_on_disk};
 
-    ghost is_honest = { false };
+    ghost honest = { KeptWord };
 
     ghost seen = { seen_on_disk };
 
     fn read(&mut self, file: ShelfFile) -> Result<Option<Vec<u8>>, DeviceFault> {
         self.disk.check()?;
-        self.journal = None;
         let answer = self.bytes_of(file);
         let answer = self.disk.report(answer);
         self.note(name_of(file));
@@ -152,7 +135,7 @@ impl<R: Files + AllocGlobal + Clone + Drop> Shelf for DiskShelf<R> {
 
     fn append(&mut self, file: ShelfFile, bytes: &[u8]) -> Result<(), DeviceFault> {
         self.disk.check()?;
-        let answer = self.extend(file, bytes);
+        let answer = self.disk.append(name_of(file), bytes);
         let answer = self.disk.report(answer);
         self.note(name_of(file));
         answer
@@ -160,8 +143,7 @@ impl<R: Files + AllocGlobal + Clone + Drop> Shelf for DiskShelf<R> {
 
     fn replace(&mut self, file: ShelfFile, bytes: &[u8]) -> Result<(), DeviceFault> {
         self.disk.check()?;
-        self.journal = None;
-        let answer = self.exchange(file, bytes);
+        let answer = self.disk.replace(name_of(file), NEXT, bytes);
         let answer = self.disk.report(answer);
         self.note(NEXT);
         answer
@@ -169,8 +151,7 @@ impl<R: Files + AllocGlobal + Clone + Drop> Shelf for DiskShelf<R> {
 
     fn remove(&mut self, file: ShelfFile) -> Result<(), DeviceFault> {
         self.disk.check()?;
-        self.journal = None;
-        let answer = self.disk.remove_if_there(name_of(file));
+        let answer = self.disk.remove(name_of(file));
         let answer = self.disk.report(answer);
         self.note(name_of(file));
         answer
@@ -178,7 +159,6 @@ impl<R: Files + AllocGlobal + Clone + Drop> Shelf for DiskShelf<R> {
 
     fn reopen(&mut self) {
         self.stop = None;
-        self.journal = None;
         self.disk.reopen();
     }
 }

@@ -20,11 +20,12 @@ impl<S: Shelf> Book<S> {
     pub fn give_up(&mut self, lost: &LostSides) -> Result<(), BookFault>
         requires planned { IsPlanned self.old.pending }
         requires rising { AreRising lost.now }
+        ensures was_honest { S.honest self.new.shelf → S.honest self.old.shelf }
         ensures left { OnOk result (LeftOf lost.now self.old.pending self.old.state self.new.state) }
         ensures removed { OnOk result (self.new.pending ≡ Pending.Missing) }
         ensures kept { OnErr result ((self.new.state ≡ self.old.state) × (self.new.pending ≡ self.old.pending)) }
-        ensures held { OnOk result (S.is_honest ≡ true → Holds (files_in self.new) self.new.state Pending.Missing) }
-        ensures leaves { S.is_honest ≡ true → LeavesGivenUp lost.now self.old.pending (files_in self.old) (files_in self.new) result }
+        ensures held { OnOk result (S.honest self.new.shelf → Holds (files_in self.new) self.new.state Pending.Missing) }
+        ensures leaves { S.honest self.new.shelf → LeavesGivenUp lost.now self.old.pending (files_in self.old) (files_in self.new) result }
         ensures ends { Ends false (standing self.old) (standing self.new) result }
     {
         if !self.is_ready {

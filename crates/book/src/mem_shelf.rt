@@ -113,10 +113,9 @@ fn extend(file: &mut Option<Vec<u8>>, alloc: Global, bytes: &[u8]) -> Result<(),
 }
 
 impl Shelf for MemShelf {
-    ghost use Rattle.std.specs.Prelude.{true};
     ghost use Rattle.book.specs.MemShelves.{seen_of};
 
-    ghost is_honest = { true };
+    ghost honest = { λ _. Unit {0} };
 
     ghost seen = { seen_of };
 

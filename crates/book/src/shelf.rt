@@ -1,6 +1,6 @@
 //! Where the state and the journal are kept: two files as a device whose calls may stop.
 
-ghost use Rattle.std.specs.Prelude.{◌≡◌, None, Some, Bool, false};
+ghost use Rattle.std.specs.Prelude.{◌≡◌, None, Some, false};
 
 use device::DeviceFault;
 
@@ -20,30 +20,35 @@ pub trait Shelf {
     ghost use Rattle.device.specs.Calls.{Seen, Call, Read, Nothing, Reopens};
     ghost use Rattle.book.specs.Shelves.{Files, Gives, Puts, Appends, AppendsPart};
 
-    /// Whether the shelf gives back what was written, and nobody else writes to it.
-    ghost is_honest: { Bool };
+    /// The shelf has given back what was written so far, and nobody else wrote to it.
+    ghost honest: { Self → Type 0 };
 
     /// The files, whether a call has stopped since the shelf was opened, and how many calls have stopped.
     ghost seen: { Self → Seen Files };
 
     /// The bytes of a file, or none if it is missing.
     fn read(&mut self, file: ShelfFile) -> Result<Option<Vec<u8>>, DeviceFault>
-        ensures { Read is_honest (Gives file) (seen self.old) (seen self.new) result };
+        ensures was_honest { honest self.new → honest self.old }
+        ensures call { Read (honest self.new) (Gives file) (seen self.old) (seen self.new) result };
 
     /// Adds bytes after those of a file, which is made if it is missing. A stopped call may leave any beginning of them. A disk
     /// keeps the bytes that a file is made with where the power fails; it may lose those that are added later.
     fn append(&mut self, file: ShelfFile, bytes: &[u8]) -> Result<(), DeviceFault>
-        ensures { Call is_honest (Appends file bytes.now) (AppendsPart file bytes.now) (seen self.old) (seen self.new) result };
+        ensures was_honest { honest self.new → honest self.old }
+        ensures call { Call (honest self.new) (Appends file bytes.now) (AppendsPart file bytes.now) (seen self.old) (seen self.new) result };
 
     /// Replaces the bytes of a file by these, all of them or none.
     fn replace(&mut self, file: ShelfFile, bytes: &[u8]) -> Result<(), DeviceFault>
-        ensures { Call is_honest (Puts file (Some bytes.now)) Nothing (seen self.old) (seen self.new) result };
+        ensures was_honest { honest self.new → honest self.old }
+        ensures call { Call (honest self.new) (Puts file (Some bytes.now)) Nothing (seen self.old) (seen self.new) result };
 
     /// Removes a file, if it is there. A disk may bring it back where the power fails.
     fn remove(&mut self, file: ShelfFile) -> Result<(), DeviceFault>
-        ensures { Call is_honest (Puts file None) Nothing (seen self.old) (seen self.new) result };
+        ensures was_honest { honest self.new → honest self.old }
+        ensures call { Call (honest self.new) (Puts file None) Nothing (seen self.old) (seen self.new) result };
 
     /// Opens the shelf again, so that calls are answered again.
     fn reopen(&mut self)
-        ensures { Reopens (seen self.old) (seen self.new) };
+        ensures was_honest { honest self.new → honest self.old }
+        ensures call { Reopens (seen self.old) (seen self.new) };
 }

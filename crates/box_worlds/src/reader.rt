@@ -58,7 +58,7 @@ impl WorldReader<'_> {
     ) -> Result<String, UnreadWorld>
         ensures far { M.alone ≡ true → M.honest far.new → (M.seen far.new).stored ≡ (M.seen far.old).stored }
         ensures near { F.visitors.alone ≡ true → F.is_honest ≡ true → (seen_of near.new).stored ≡ (seen_of near.old).stored }
-        ensures files { S.is_honest ≡ true → (S.seen book.new.shelf).stored ≡ (S.seen book.old.shelf).stored }
+        ensures files { S.honest book.new.shelf → (S.seen book.new.shelf).stored ≡ (S.seen book.old.shelf).stored }
     {
         open_planless(book)?;
         let state = book.state();
@@ -80,7 +80,7 @@ impl WorldReader<'_> {
         book: &mut Book<S>,
     ) -> Result<String, UnreadWorld>
         ensures near { F.visitors.alone ≡ true → F.is_honest ≡ true → (seen_of near.new).stored ≡ (seen_of near.old).stored }
-        ensures files { S.is_honest ≡ true → (S.seen book.new.shelf).stored ≡ (S.seen book.old.shelf).stored }
+        ensures files { S.honest book.new.shelf → (S.seen book.new.shelf).stored ≡ (S.seen book.old.shelf).stored }
     {
         open_planless(book)?;
         let state = book.state();
@@ -139,7 +139,7 @@ impl WorldReader<'_> {
 
 /// Opens a book. `Unfinished`: a plan is pending in it.
 fn open_planless<S: Shelf>(book: &mut Book<S>) -> Result<(), UnreadWorld>
-    ensures { S.is_honest ≡ true → (S.seen book.new.shelf).stored ≡ (S.seen book.old.shelf).stored }
+    ensures { S.honest book.new.shelf → (S.seen book.new.shelf).stored ≡ (S.seen book.old.shelf).stored }
 {
     book.reopen();
     book.enter()?;

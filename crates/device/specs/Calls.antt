@@ -81,16 +81,16 @@ abbrev pub IsStop : DeviceFault → Type 0
 IsStop fault = fault ≡ Stopped
 
 -- a call: with its effect where it is Ok, else without it, or with it, or with a part of it
-abbrev pub Call : {Stored T : Type 0} → Bool → (does part : Effect Stored) → Seen Stored → Seen Stored → Result T DeviceFault → Type 0
-Call is_honest does part = Acts (is_honest ≡ true) IsStop Nobody (λ answer. does) (λ fault. Leaves does part)
+abbrev pub Call : {Stored T : Type 0} → (honest : Type 0) → (does part : Effect Stored) → Seen Stored → Seen Stored → Result T DeviceFault → Type 0
+Call honest does part = Acts honest IsStop Nobody (λ answer. does) (λ fault. Leaves does part)
 
 -- a call that changes nothing and answers what is so
-abbrev pub Read : {Stored T : Type 0} → Bool → (states : T → Stored → Type 0) → Seen Stored → Seen Stored → Result T DeviceFault → Type 0
-Read is_honest states = Acts (is_honest ≡ true) IsStop Nobody (Answers states) (λ fault. Stays)
+abbrev pub Read : {Stored T : Type 0} → (honest : Type 0) → (states : T → Stored → Type 0) → Seen Stored → Seen Stored → Result T DeviceFault → Type 0
+Read honest states = Acts honest IsStop Nobody (Answers states) (λ fault. Stays)
 
 -- a call that changes nothing and answers nothing
-abbrev pub Rest : {Stored T : Type 0} → Bool → Seen Stored → Seen Stored → Result T DeviceFault → Type 0
-Rest is_honest = Acts (is_honest ≡ true) IsStop Nobody (λ answer. Stays) (λ fault. Stays)
+abbrev pub Rest : {Stored T : Type 0} → (honest : Type 0) → Seen Stored → Seen Stored → Result T DeviceFault → Type 0
+Rest honest = Acts honest IsStop Nobody (λ answer. Stays) (λ fault. Stays)
 
 -- the device is opened again: its calls are answered again, what it stores stays, and how many calls have stopped
 abbrev pub Reopens : {Stored : Type 0} → Seen Stored → Seen Stored → Type 0

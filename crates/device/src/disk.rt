@@ -1,6 +1,6 @@
 //! A folder of a disk as a device: its files, and what the system's faults are to it.
 
-ghost use Rattle.std.specs.Prelude.{◌≡◌, ◌+◌, ◌<◌, ◌^◌, ◌≤◌, true, false, OnOk, OnErr, IfOk, IfErr};
+ghost use Rattle.std.specs.Prelude.{◌≡◌, ◌+◌, ◌<◌, ◌^◌, ◌≤◌, true, false, Ok, is_ok, MatchResult, OnOk, OnErr, IfOk, IfErr};
 ghost use Rattle.device.specs.Conditions.{disk_at};
 
 use crate::DeviceFault;
@@ -78,6 +78,7 @@ impl<R: Files + AllocGlobal + Clone + Drop> Disk<R> {
 
     /// What a call answers to whom the system answered this. After an error each later call stops.
     pub fn report<T>(&mut self, answer: io::Result<T>) -> Result<T, DeviceFault>
+        ensures answer { MatchResult result (λ value. answer ≡ Ok value) (λ _. is_ok answer ≡ false) }
         ensures ok { OnOk result (self.new ≡ self.old) }
         ensures path { self.new.path ≡ self.old.path }
         ensures broken { OnErr result (self.new.condition.is_broken ≡ true) }
@@ -174,16 +175,21 @@ impl<R: Files + AllocGlobal + Clone + Drop> Disk<R> {
 
     /// Makes a new file, to be written. If something stands under this name, it is removed: a link is never followed.
     pub fn new_file(&self, part: &str) -> io::Result<R::File> {
-        let path = self.at(part)?;
-        let mut options = OpenOptions::new();
-        options.write(true).create_new(true).mode(FILE_MODE);
-        match options.open(&self.rt, path.as_str()) {
+        match self.make_file(part) {
             Err(error) if error.kind() == ErrorKind::AlreadyExists => {
                 self.remove_if_there(part)?;
-                options.open(&self.rt, path.as_str())
+                self.make_file(part)
             }
             answer => answer,
         }
+    }
+
+    /// Makes a file, to be written. `AlreadyExists`: something stands under this name, a link among it.
+    pub fn make_file(&self, part: &str) -> io::Result<R::File> {
+        let path = self.at(part)?;
+        let mut options = OpenOptions::new();
+        options.append(true).create_new(true).mode(FILE_MODE);
+        options.open(&self.rt, path.as_str())
     }
 
     // Writes a new file and syncs its bytes.
@@ -200,33 +206,13 @@ impl<R: Files + AllocGlobal + Clone + Drop> Disk<R> {
         self.rename(other, part)
     }
 
-    /// Appends bytes to a file that no other program makes. If it makes the file, it syncs the bytes and the name. The file comes open:
-    /// what is written to it is appended, too.
-    pub fn append(&self, part: &str, bytes: &[u8]) -> io::Result<R::File> {
-        let path = self.at(part)?;
-        let mut options = OpenOptions::new();
-        options.append(true).create_new(true).mode(FILE_MODE);
-        match options.open(&self.rt, path.as_str()) {
-            Ok(mut made) => {
-                made.write_all(bytes)?;
-                OpenFile::sync_all(&made)?;
-                self.sync_names()?;
-                Ok(made)
-            }
-            Err(error) if error.kind() == ErrorKind::AlreadyExists => self.append_to(part, bytes),
-            Err(error) => Err(error),
-        }
-    }
-
-    /// Appends bytes to a file that is there.
-    fn append_to(&self, part: &str, bytes: &[u8]) -> io::Result<R::File> {
+    /// Opens a file that is there, and that no other program makes, to append to it. No link is followed.
+    pub fn open_own(&self, part: &str) -> io::Result<R::File> {
         self.own_size(part)?;
         let path = self.at(part)?;
         let mut options = OpenOptions::new();
         options.append(true);
-        let mut file = options.open(&self.rt, path.as_str())?;
-        file.write_all(bytes)?;
-        Ok(file)
+        options.open(&self.rt, path.as_str())
     }
 
     /// Gives a file another name. It is whole or not at all, and is not synced.

@@ -8,7 +8,11 @@
 
 pub mod condition;
 pub mod disk;
+pub mod file_call;
+pub mod file_laws;
+pub mod file_record;
 pub mod history;
+pub mod own_files;
 pub mod schedule;
 pub mod stop_count;
 pub mod trouble;

@@ -111,32 +111,32 @@ pub trait Folder {
     /// The bytes of a file, or none where it is missing.
     fn read(&mut self, file: Source<'_>) -> Result<Option<Vec<u8>>, DeviceFault>
         ensures counted { is_honest ≡ true → reads self.new ≡ reads self.old + 1 }
-        ensures call { Read is_honest (λ bytes s. text_of bytes ≡ bytes_of file.entry s) (seen self.old) (seen self.new) result };
+        ensures call { Read (is_honest ≡ true) (λ bytes s. text_of bytes ≡ bytes_of file.entry s) (seen self.old) (seen self.new) result };
 
     /// Writes a copy in `tmp`, over one that is there. A stopped one may leave any beginning of its bytes.
     fn write_tmp(&mut self, copy: CopyPieces<'_>) -> Result<(), DeviceFault>
-        ensures { Call is_honest (λ s s'. s' ≡ with_copy (text_left copy.entry) s) (Begins (text_left copy.entry)) (seen self.old)
+        ensures { Call (is_honest ≡ true) (λ s s'. s' ≡ with_copy (text_left copy.entry) s) (Begins (text_left copy.entry)) (seen self.old)
             (seen self.new) result };
 
     /// Gives a file another name, in `new` or `cur`. A file that has that name already goes.
     fn rename(&mut self, from: Origin<'_>, to: Location<'_>) -> Result<(), DeviceFault>
         ensures synced { is_honest ≡ true → OnOk result (is_synced self.new ≡ false) }
-        ensures call { Call is_honest (Renames from.entry to.entry) Nothing (seen self.old) (seen self.new) result };
+        ensures call { Call (is_honest ≡ true) (Renames from.entry to.entry) Nothing (seen self.old) (seen self.new) result };
 
     /// Removes a file. One that is not there is none that was removed, so the call stops.
     fn remove(&mut self, file: Location<'_>) -> Result<(), DeviceFault>
         ensures synced { is_honest ≡ true → OnOk result (is_synced self.new ≡ false) }
-        ensures call { Call is_honest (Removes file.entry) Nothing (seen self.old) (seen self.new) result };
+        ensures call { Call (is_honest ≡ true) (Removes file.entry) Nothing (seen self.old) (seen self.new) result };
 
     /// Replaces the meta file's text by this one.
     fn replace_meta(&mut self, text: &[u8]) -> Result<(), DeviceFault>
         ensures synced { is_honest ≡ true → OnOk result (is_synced self.new ≡ false) }
-        ensures call { Call is_honest (λ s s'. s' ≡ with_meta text.now s) Nothing (seen self.old) (seen self.new) result };
+        ensures call { Call (is_honest ≡ true) (λ s s'. s' ≡ with_meta text.now s) Nothing (seen self.old) (seen self.new) result };
 
     /// Makes what was renamed, removed and replaced so far outlive a loss of power.
     fn sync(&mut self) -> Result<(), DeviceFault>
         ensures synced { OnOk result (is_synced self.new ≡ true) }
-        ensures call { Rest is_honest (seen self.old) (seen self.new) result };
+        ensures call { Rest (is_honest ≡ true) (seen self.old) (seen self.new) result };
 
     /// Opens the folder again, so that calls are answered again.
     fn reopen(&mut self)

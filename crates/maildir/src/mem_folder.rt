@@ -169,7 +169,7 @@ impl MemFolder {
 
     // The names of its files, or none where the three folders are not there.
     pub(crate) fn read_names(&mut self) -> Result<Option<Vec<FileName>>, DeviceFault>
-        ensures { Read true (λ names. Lists (listed names)) (seen_of self.old) (seen_of self.new) result }
+        ensures { Read (true ≡ true) (λ names. Lists (listed names)) (seen_of self.old) (seen_of self.new) result }
     {
         if self.stopping.begin(FolderCall::Names)?.is_some() {
             return Err(self.stopping.stop());

@@ -29,7 +29,7 @@ use Rattle.outside.proofs.GoingOn.{files_stay}
 use Rattle.run_pair.specs.PartCalls.{LeavesSome, Part, PartChanges}
 use Rattle.run_pair.specs.Stops.{Standing, StopsSo}
 use Rattle.run_pair.specs.declared.book_part.BookPart.{BookPart}
-use Rattle.run_pair.specs.BookParts.{files_of, kept_of, standing_of}
+use Rattle.run_pair.specs.BookParts.{files_of, honest_in, kept_of, standing_of}
 use Rattle.run_pair.specs.Kept.{Kept, AreCommitted, AreGivenUp, FromLog, IsBook, IsHeld, IsRead, LeavesUnread, OfKept, ReadsFiles, TakesCommit, TakesGivingUp, TakesLog, TakesPlan, journal_of, state_of, turned}
 use Rattle.run_pair.specs.declared.pair.Pair.{Pair}
 use Rattle.run_pair.specs.Pairs.{Failed, device_of, far_answered, near_answered, opened_of}
@@ -171,14 +171,15 @@ module _ {F N S : Type 0} {fars : mailbox.Ghosts F} {nears : mailbox.Ghosts N} {
   pub book_ends : (does part : Pending → Effect Files) (may_report : OutsideFault → Type 0) (near : N) (book : BookPart S shelves) (c' : Counts) (answer result : Result (Unit {0}) OutsideFault)
       → LeadsOn does (kept_of p.book) × LeadsOn part (kept_of p.book) → p.tally.is_broken ≡ false → result ≡ answer → c' ≡ ended no_copies answer p.tally → IfErr answer may_report
       → (nears.honest near → box.Arrives side.Near nears.ours nears.alone (nears.seen p.near).stored (nears.seen near).stored)
-      → (nears.honest near → PartChanges (shelves.is_honest ≡ true) (λ (x : Unit {0}). OfKept does (kept_of p.book)) (OfKept part (kept_of p.book)) (files_of p.book) (files_of book) answer)
-      → BookEnds (fars.honest p.far × nears.honest near × (shelves.is_honest ≡ true)) (Arrives (both fars.ours nears.ours) (fars.alone && nears.alone)) may_report
+      → (nears.honest near → PartChanges (honest_in book) (λ (x : Unit {0}). OfKept does (kept_of p.book)) (OfKept part (kept_of p.book)) (files_of p.book) (files_of book) answer)
+      → (honest_in book → honest_in p.book)
+      → BookEnds (fars.honest p.far × nears.honest near × honest_in book) (Arrives (both fars.ours nears.ours) (fars.alone && nears.alone)) may_report
       (there.OfBook does (opened_of p)) (there.OfBook part (opened_of p)) (device_of p) (device_with (fars.seen p.far).stored (nears.seen near).stored (files_of book) c'.named) p.tally c' result
-  book_ends does part may_report near book c' answer result leads whole same now may before changes = record {
+  book_ends does part may_report near book c' answer result leads whole same now may before changes was = record {
     call = tallied honest others (λ _. 0) may_report (λ _. there.OfBook does (opened_of p)) (LeavesBy {T = Unit {0}} (λ _. there.OfBook does (opened_of p)) (there.OfBook part (opened_of p))) d (device_with (fars.seen p.far).stored (nears.seen near).stored (files_of book)) p.tally c' answer result same now
-        (files_call honest (shelves.is_honest ≡ true) others may_report (OfKept does k) (OfKept part k) (there.OfBook does (opened_of p)) (there.OfBook part (opened_of p)) with_files (files_of p.book) (files_of book)
+        (files_call honest (honest_in book) others may_report (OfKept does k) (OfKept part k) (there.OfBook does (opened_of p)) (there.OfBook part (opened_of p)) with_files (files_of p.book) (files_of book)
         (of_book f n l k does _ _ _ _ p.tally.named) (of_book f n l k part _ _ _ _ p.tally.named) sparing d p.tally answer
-        (λ h. goes_by does part (shelves.is_honest ≡ true) (files_of p.book) (files_of book) k (is_at p.book (p.book_whole whole) h.2) leads.0 leads.1 answer h.2 (changes h.1)) (λ h. h.2) (λ h. arrives h.1) whole may (λ h. changes h.1));
+        (λ h. goes_by does part (honest_in book) (files_of p.book) (files_of book) k (is_at p.book (p.book_whole whole) (was h.2)) leads.0 leads.1 answer h.2 (changes h.1)) (λ h. h.2) (λ h. arrives h.1) whole may (λ h. changes h.1));
     tallied = tally (ended no_copies) answer result p.tally c' whole same now;
   }
     where
@@ -198,7 +199,7 @@ module _ {F N S : Type 0} {fars : mailbox.Ghosts F} {nears : mailbox.Ghosts N} {
       d = device_of p
 
       honest : Type 0
-      honest = fars.honest p.far × nears.honest near × (shelves.is_honest ≡ true)
+      honest = fars.honest p.far × nears.honest near × honest_in book
 
       others : Effect Device
       others = Arrives (both fars.ours nears.ours) (fars.alone && nears.alone)
@@ -227,15 +228,15 @@ module _ {F N S : Type 0} {fars : mailbox.Ghosts F} {nears : mailbox.Ghosts N} {
   -- the shelf is read
   pub open_ends : (book : BookPart S shelves) (c' : Counts) (answer result : Result (Unit {0}) OutsideFault)
       → p.tally.is_broken ≡ false → result ≡ answer → c' ≡ ended no_copies answer p.tally → IfErr answer FromShelf
-      → Part (shelves.is_honest ≡ true) (λ (x : Unit {0}). ReadsFiles (kept_of book)) LeavesUnread (files_of p.book) (files_of book) answer
-      → Call (fars.honest p.far × nears.honest p.near × (shelves.is_honest ≡ true)) (Arrives (both fars.ours nears.ours) (fars.alone && nears.alone)) (λ (x : Unit {0}). 0) FromShelf
+      → Part (honest_in book) (λ (x : Unit {0}). ReadsFiles (kept_of book)) LeavesUnread (files_of p.book) (files_of book) answer
+      → Call (fars.honest p.far × nears.honest p.near × honest_in book) (Arrives (both fars.ours nears.ours) (fars.alone && nears.alone)) (λ (x : Unit {0}). 0) FromShelf
       (λ (x : Unit {0}). there.ReadsBook (opened_with (far_answered p) (near_answered p) p.listed.devices (kept_of book))) there.LeavesUnread
       (seen_with (device_of p) p.tally) (seen_with (device_with (fars.seen p.far).stored (nears.seen p.near).stored (files_of book) c'.named) c') result
   open_ends book c' answer result whole same now may reads =
       tallied honest others (λ _. 0) FromShelf does there.LeavesUnread (device_of p) (device_with (fars.seen p.far).stored (nears.seen p.near).stored (files_of book)) p.tally c' answer result same now (by_answer answer may reads)
     where
       honest : Type 0
-      honest = fars.honest p.far × nears.honest p.near × (shelves.is_honest ≡ true)
+      honest = fars.honest p.far × nears.honest p.near × honest_in book
 
       others : Effect Device
       others = Arrives (both fars.ours nears.ours) (fars.alone && nears.alone)
@@ -253,7 +254,7 @@ module _ {F N S : Type 0} {fars : mailbox.Ghosts F} {nears : mailbox.Ghosts N} {
         leaves = λ e d d' r. nothing_named d d' r.0;
       }
 
-      by_answer : (a : Result (Unit {0}) OutsideFault) → IfErr a FromShelf → Part (shelves.is_honest ≡ true) (λ (x : Unit {0}). ReadsFiles (kept_of book)) LeavesUnread (files_of p.book) (files_of book) a
+      by_answer : (a : Result (Unit {0}) OutsideFault) → IfErr a FromShelf → Part (honest_in book) (λ (x : Unit {0}). ReadsFiles (kept_of book)) LeavesUnread (files_of p.book) (files_of book) a
           → Call honest others (λ _. 0) FromShelf does there.LeavesUnread (seen_with (device_of p) p.tally) (seen_with (with_files (files_of book)) (ended (λ _. 0) a p.tally)) a
       by_answer (Ok x) h r =
           done_call honest others (λ _. 0) FromShelf does there.LeavesUnread (device_of p) (with_files (files_of book)) p.tally whole sparing (λ y. files_stay (files_of p.book) (files_of book) (r y.2).0) x

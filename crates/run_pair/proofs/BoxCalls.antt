@@ -268,7 +268,7 @@ module _ {F N S : Type 0} {fars : mailbox.Ghosts F} {nears : mailbox.Ghosts N} {
   pub far_ends : (move : Move Far (device_of p) T) (far : F) (c' : Counts) (answer : Result T BoxFault) (result : Result T OutsideFault)
       → p.tally.is_broken ≡ false → result ≡ reported_by Far answer → c' ≡ move.ends (reported_by Far answer) p.tally
       → calls.Call (fars.honest far) (fars.ended p.far far) (box.Arrives Far fars.ours fars.alone) move.because move.does move.part (fars.seen p.far) (fars.seen far) answer
-      → Ends Far (device_of p) (put Far (fars.seen far).stored (with_named c'.named (device_of p))) move (fars.seen far).stored (fars.honest far × nears.honest p.near × (shelves.is_honest ≡ true)) (fars.honest far)
+      → Ends Far (device_of p) (put Far (fars.seen far).stored (with_named c'.named (device_of p))) move (fars.seen far).stored (fars.honest far × nears.honest p.near × shelves.honest p.book.book.shelf) (fars.honest far)
       (Failed p (HasCause (fars.ended p.far far) (fars.seen p.far) (fars.seen far))) (Arrives (both fars.ours nears.ours) (fars.alone && nears.alone)) p.tally c' result
   far_ends move far c' answer result whole same now h =
       ends Far (device_of p) move _ (fars.honest far) (fars.ended p.far far) _ fars.ours (both fars.ours nears.ours) fars.alone (fars.alone && nears.alone) (fars.seen p.far) (fars.seen far)
@@ -278,7 +278,7 @@ module _ {F N S : Type 0} {fars : mailbox.Ghosts F} {nears : mailbox.Ghosts N} {
   pub near_ends : (move : Move Near (device_of p) T) (near : N) (c' : Counts) (answer : Result T BoxFault) (result : Result T OutsideFault)
       → p.tally.is_broken ≡ false → result ≡ reported_by Near answer → c' ≡ move.ends (reported_by Near answer) p.tally
       → calls.Call (nears.honest near) (nears.ended p.near near) (box.Arrives Near nears.ours nears.alone) move.because move.does move.part (nears.seen p.near) (nears.seen near) answer
-      → Ends Near (device_of p) (put Near (nears.seen near).stored (with_named c'.named (device_of p))) move (nears.seen near).stored (fars.honest p.far × nears.honest near × (shelves.is_honest ≡ true)) (nears.honest near)
+      → Ends Near (device_of p) (put Near (nears.seen near).stored (with_named c'.named (device_of p))) move (nears.seen near).stored (fars.honest p.far × nears.honest near × shelves.honest p.book.book.shelf) (nears.honest near)
       (Failed p (HasCause (nears.ended p.near near) (nears.seen p.near) (nears.seen near))) (Arrives (both fars.ours nears.ours) (fars.alone && nears.alone)) p.tally c' result
   near_ends move near c' answer result whole same now h =
       ends Near (device_of p) move _ (nears.honest near) (nears.ended p.near near) _ nears.ours (both fars.ours nears.ours) nears.alone (fars.alone && nears.alone) (nears.seen p.near) (nears.seen near)

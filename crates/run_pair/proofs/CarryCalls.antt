@@ -101,7 +101,7 @@ module _ (direction : Direction) (uid flags : ℕ) (mark : List ℕ) (honest : T
 module _ {F N S : Type 0} {fars : mailbox.Ghosts F} {nears : mailbox.Ghosts N} {shelves : shelf.Ghosts S} (p : Pair F N S fars nears shelves) (uid flags : ℕ) (mark : List ℕ)
     (far : F) (near : N) (c' : Counts) (answer result : Result Carried OutsideFault) (whole : p.tally.is_broken ≡ false) (same : result ≡ answer) (now : c' ≡ ended copies_made answer p.tally) where
   abbrev honest : Type 0
-  honest = fars.honest far × nears.honest near × (shelves.is_honest ≡ true)
+  honest = fars.honest far × nears.honest near × shelves.honest p.book.book.shelf
 
   abbrev others : Effect Device
   others = Arrives (both fars.ours nears.ours) (fars.alone && nears.alone)

@@ -126,7 +126,7 @@ is_at_if true is_ready is_broken s p files held fits ready = (held ready, fits)
 is_at_if false is_ready is_broken s p files held fits ready = tt
 
 -- the book of a part that has not failed
-pub is_at : {S : Type 0} {shelves : shelf.Ghosts S} (b : BookPart S shelves) → (standing_of b).is_ready ≡ true → shelves.is_honest ≡ true → IsAt (kept_of b) (files_of b)
+pub is_at : {S : Type 0} {shelves : shelf.Ghosts S} (b : BookPart S shelves) → (standing_of b).is_ready ≡ true → shelves.honest b.book.shelf → IsAt (kept_of b) (files_of b)
 is_at b ready honest = is_at_if b.is_open b.book.is_ready _ b.book.state b.book.pending (files_of b) (λ is. b.book.holds is honest) b.book.fits ready
 
 -- ---- which calls lead on

@@ -5,6 +5,7 @@ pub mod Noting
 pub mod GoingOn
 pub mod Ending
 pub mod BoxCalls
+pub mod BookPartLemmas
 pub mod BookCalls
 pub mod Carrying
 pub mod CarryCalls

@@ -25,6 +25,10 @@ module _ {S : Type 0} {shelves : shelf.Ghosts S} where
   abbrev pub seen_of : BookPart S shelves → Seen Files
   seen_of part = shelves.seen part.book.shelf
 
+  -- its shelf has given back what was written so far
+  abbrev pub honest_in : BookPart S shelves → Type 0
+  honest_in part = shelves.honest part.book.shelf
+
   -- the files of its shelf
   abbrev pub files_of : BookPart S shelves → Files
   files_of part = (seen_of part).stored

@@ -19,7 +19,7 @@ use Rattle.outside.specs.BookCalls.{OfBook}
 use Rattle.outside.specs.Calls.{Call, Changes, Opens, Reads, Seen, Writes}
 use Rattle.outside.specs.Devices.{Device}
 use Rattle.outside.specs.Opened.{Opened}
-use Rattle.run_pair.specs.BookParts.{files_of, kept_of, standing_of}
+use Rattle.run_pair.specs.BookParts.{files_of, honest_in, kept_of, standing_of}
 use Rattle.run_pair.specs.declared.pair.Pair.{Pair}
 use Rattle.run_pair.specs.Faults.{IsReported}
 use Rattle.run_pair.specs.Parts.{answered, both, device_with, opened_with}
@@ -28,7 +28,7 @@ use Rattle.run_pair.specs.Tallies.{seen_with}
 module _ {F N S : Type 0} {fars : mailbox.Ghosts F} {nears : mailbox.Ghosts N} {shelves : shelf.Ghosts S} where
   -- both mailboxes and the shelf have behaved as specified so far
   abbrev pub honest_of : Pair F N S fars nears shelves → Type 0
-  honest_of p = fars.honest p.far × nears.honest p.near × (shelves.is_honest ≡ true)
+  honest_of p = fars.honest p.far × nears.honest p.near × honest_in p.book
 
   -- the same mailboxes and the same book, and as many calls counted
   pub record HasParts (old new : Pair F N S fars nears shelves) : Type 0 where

@@ -33,7 +33,7 @@ impl<S: Shelf + Drop> BookPart<S> {
     ghost use Rattle.run_pair.specs.PartCalls.{Part, PartChanges};
     ghost use Rattle.run_pair.specs.Kept.{AreCommitted, AreGivenUp, FromLog, IsBook, IsHeld, IsRead, LeavesUnread, OfKept, ReadsFiles, TakesCommit, TakesGivingUp, TakesLog, TakesPlan, journal_of, state_of, turned};
     ghost use Rattle.run_pair.specs.Stops.{standing_at};
-    ghost use Rattle.run_pair.specs.BookParts.{Stops, files_of, kept_of, seen_of, standing_of};
+    ghost use Rattle.run_pair.specs.BookParts.{Stops, files_of, honest_in, kept_of, seen_of, standing_of};
 
     /// The part over this shelf. No book is open.
     pub fn new(alloc: Global, shelf: S) -> Self
@@ -49,17 +49,19 @@ impl<S: Shelf + Drop> BookPart<S> {
 
     /// Gives the shelf back, without taking memory.
     pub fn into_shelf(self) -> S
-        ensures { S.seen result ≡ seen_of self }
+        ensures seen { S.seen result ≡ seen_of self }
+        ensures was_honest { S.honest result → honest_in self }
     {
         self.book.into_shelf()
     }
 
     /// Reads the shelf. `BadState` and `BadJournal`: its files hold no book, and this is the first line that shows it.
     pub fn open(&mut self) -> Result<(), OutsideFault>
+        ensures was_honest { honest_in self.new → honest_in self.old }
         ensures book { OnOk result (IsBook (kept_of self.new)) }
         ensures reported { IfErr result FromShelf }
         ensures stops { Stops self.old self.new result }
-        ensures part { Part (S.is_honest ≡ true) (λ _. ReadsFiles (kept_of self.new)) LeavesUnread (files_of self.old) (files_of self.new) result }
+        ensures part { Part (honest_in self.new) (λ _. ReadsFiles (kept_of self.new)) LeavesUnread (files_of self.old) (files_of self.new) result }
     {
         self.is_open = false;
         reported_by(self.book.enter())?;
@@ -87,10 +89,11 @@ impl<S: Shelf + Drop> BookPart<S> {
     /// Removes the journal, if there is one.
     pub fn discard(&mut self) -> Result<(), OutsideFault>
         requires read { IsRead (kept_of self.old) }
+        ensures was_honest { honest_in self.new → honest_in self.old }
         ensures kept { OnOk result (kept_of self.new ≡ turned (λ _. Missing) (kept_of self.old)) }
         ensures reported { IfErr result FromBook }
         ensures stops { Stops self.old self.new result }
-        ensures part { PartChanges (S.is_honest ≡ true) (λ _. OfKept (λ p. Turns p Missing) (kept_of self.old))
+        ensures part { PartChanges (honest_in self.new) (λ _. OfKept (λ p. Turns p Missing) (kept_of self.old))
             (OfKept (λ p. TurnsHalf p Missing) (kept_of self.old)) (files_of self.old) (files_of self.new) result }
     {
         reported_by(self.book.discard())
@@ -99,10 +102,11 @@ impl<S: Shelf + Drop> BookPart<S> {
     /// Takes a torn last line off the journal, if there is one.
     pub fn mend(&mut self) -> Result<(), OutsideFault>
         requires read { IsRead (kept_of self.old) }
+        ensures was_honest { honest_in self.new → honest_in self.old }
         ensures kept { OnOk result (kept_of self.new ≡ turned mended (kept_of self.old)) }
         ensures reported { IfErr result FromBook }
         ensures stops { Stops self.old self.new result }
-        ensures part { PartChanges (S.is_honest ≡ true) (λ _. OfKept (λ p. Turns p (mended p)) (kept_of self.old))
+        ensures part { PartChanges (honest_in self.new) (λ _. OfKept (λ p. Turns p (mended p)) (kept_of self.old))
             (OfKept (λ p. TurnsHalf p p) (kept_of self.old)) (files_of self.old) (files_of self.new) result }
     {
         reported_by(self.book.mend())
@@ -111,10 +115,11 @@ impl<S: Shelf + Drop> BookPart<S> {
     /// Writes the whole plan of the next run, of which no step is logged.
     pub fn begin(&mut self, plan: Plan) -> Result<(), OutsideFault>
         requires takes { TakesPlan (kept_of self.old) plan }
+        ensures was_honest { honest_in self.new → honest_in self.old }
         ensures kept { OnOk result (kept_of self.new ≡ turned (λ _. begun plan) (kept_of self.old)) }
         ensures reported { IfErr result FromBook }
         ensures stops { Stops self.old self.new result }
-        ensures part { PartChanges (S.is_honest ≡ true) (λ _. OfKept (λ _. Turns Missing (begun plan)) (kept_of self.old))
+        ensures part { PartChanges (honest_in self.new) (λ _. OfKept (λ _. Turns Missing (begun plan)) (kept_of self.old))
             (OfKept (λ _. TurnsHalf Missing Useless) (kept_of self.old)) (files_of self.old) (files_of self.new) result }
     {
         reported_by(self.book.begin(plan))
@@ -125,10 +130,11 @@ impl<S: Shelf + Drop> BookPart<S> {
     /// `BadState(0)`: that UID is taken.
     pub fn done(&mut self, step: usize, copy: Option<Uid>) -> Result<(), OutsideFault>
         requires takes { TakesLog (kept_of self.old) step (as_done copy) }
+        ensures was_honest { honest_in self.new → honest_in self.old }
         ensures kept { OnOk result (kept_of self.new ≡ turned (λ p. logged_more p (as_done copy)) (kept_of self.old)) }
         ensures reported { IfErr result (FromLog (kept_of self.old) (as_done copy)) }
         ensures stops { Stops self.old self.new result }
-        ensures part { PartChanges (S.is_honest ≡ true) (λ _. OfKept (λ p. Turns p (logged_more p (as_done copy))) (kept_of self.old))
+        ensures part { PartChanges (honest_in self.new) (λ _. OfKept (λ p. Turns p (logged_more p (as_done copy))) (kept_of self.old))
             (OfKept (λ p. TurnsHalf p (torn p)) (kept_of self.old)) (files_of self.old) (files_of self.new) result }
     {
         reported_by(self.book.done(step, copy))
@@ -137,10 +143,11 @@ impl<S: Shelf + Drop> BookPart<S> {
     /// Logs the step of this number, counted from 1, as void.
     pub fn void(&mut self, step: usize) -> Result<(), OutsideFault>
         requires takes { TakesLog (kept_of self.old) step Void }
+        ensures was_honest { honest_in self.new → honest_in self.old }
         ensures kept { OnOk result (kept_of self.new ≡ turned (λ p. logged_more p Void) (kept_of self.old)) }
         ensures reported { IfErr result FromBook }
         ensures stops { Stops self.old self.new result }
-        ensures part { PartChanges (S.is_honest ≡ true) (λ _. OfKept (λ p. Turns p (logged_more p Void)) (kept_of self.old))
+        ensures part { PartChanges (honest_in self.new) (λ _. OfKept (λ p. Turns p (logged_more p Void)) (kept_of self.old))
             (OfKept (λ p. TurnsHalf p (torn p)) (kept_of self.old)) (files_of self.old) (files_of self.new) result }
     {
         reported_by(self.book.void(step))
@@ -149,11 +156,12 @@ impl<S: Shelf + Drop> BookPart<S> {
     /// Puts the state that the finished plan makes in place of the old one, and then removes the journal.
     pub fn commit(&mut self) -> Result<(), OutsideFault>
         requires takes { TakesCommit (kept_of self.old) }
+        ensures was_honest { honest_in self.new → honest_in self.old }
         ensures kept { OnOk result (AreCommitted (kept_of self.old) (kept_of self.new)) }
-        ensures held { OnOk result (S.is_honest ≡ true → IsHeld (kept_of self.new) (files_of self.new)) }
+        ensures held { OnOk result (honest_in self.new → IsHeld (kept_of self.new) (files_of self.new)) }
         ensures reported { IfErr result FromBook }
         ensures stops { Stops self.old self.new result }
-        ensures part { PartChanges (S.is_honest ≡ true) (λ _. OfKept CommitsTo (kept_of self.old)) (OfKept CommitsHalf (kept_of self.old))
+        ensures part { PartChanges (honest_in self.new) (λ _. OfKept CommitsTo (kept_of self.old)) (OfKept CommitsHalf (kept_of self.old))
             (files_of self.old) (files_of self.new) result }
     {
         reported_by(self.book.commit())
@@ -163,11 +171,12 @@ impl<S: Shelf + Drop> BookPart<S> {
     pub fn give_up(&mut self, lost: &LostSides) -> Result<(), OutsideFault>
         requires takes { TakesGivingUp (kept_of self.old) }
         requires rising { AreRising lost.now }
+        ensures was_honest { honest_in self.new → honest_in self.old }
         ensures kept { OnOk result (AreGivenUp lost.now (kept_of self.old) (kept_of self.new)) }
-        ensures held { OnOk result (S.is_honest ≡ true → IsHeld (kept_of self.new) (files_of self.new)) }
+        ensures held { OnOk result (honest_in self.new → IsHeld (kept_of self.new) (files_of self.new)) }
         ensures reported { IfErr result FromBook }
         ensures stops { Stops self.old self.new result }
-        ensures part { PartChanges (S.is_honest ≡ true) (λ _. OfKept (GivesUpTo lost.now) (kept_of self.old)) (OfKept (GivesUpHalf lost.now) (kept_of self.old))
+        ensures part { PartChanges (honest_in self.new) (λ _. OfKept (GivesUpTo lost.now) (kept_of self.old)) (OfKept (GivesUpHalf lost.now) (kept_of self.old))
             (files_of self.old) (files_of self.new) result }
     {
         reported_by(self.book.give_up(lost))
@@ -175,6 +184,7 @@ impl<S: Shelf + Drop> BookPart<S> {
 
     /// Closes the book, if one is open, and opens the shelf again.
     pub fn reopen(&mut self)
+        ensures was_honest { honest_in self.new → honest_in self.old }
         ensures seen { seen_of self.new ≡ record (seen_of self.old) { is_broken = false } }
         ensures standing { standing_of self.new ≡ record (standing_of self.old) { is_ready = true } }
         ensures kept { kept_of self.new ≡ None }

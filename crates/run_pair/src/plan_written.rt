@@ -9,7 +9,7 @@ ghost use Rattle.outside.specs.BoxArrivals.{Arrives};
 ghost use Rattle.outside.specs.MailboxCalls.{HasCause};
 ghost use Rattle.outside.specs.Calls.{FromBook};
 ghost use Rattle.run_pair.specs.PartCalls.{PartChanges};
-ghost use Rattle.run_pair.specs.BookParts.{files_of, kept_of, standing_of};
+ghost use Rattle.run_pair.specs.BookParts.{files_of, honest_in, kept_of, standing_of};
 ghost use Rattle.run_pair.specs.Kept.{OfKept, TakesPlan, turned};
 
 use crate::book_part::BookPart;
@@ -31,6 +31,7 @@ pub(crate) fn begin_synced<N: Mailbox, S: Shelf + Drop>(
     requires ready { (standing_of book.old).is_ready ≡ true }
     requires takes { TakesPlan (kept_of book.old) plan }
     ensures was_honest { N.honest near.new → N.honest near.old }
+    ensures book_was_honest { honest_in book.new → honest_in book.old }
     ensures keywords { N.keywords near.new ≡ N.keywords near.old }
     ensures open { N.is_open near.new ≡ N.is_open near.old }
     ensures synced { N.is_open near.old ≡ true → (book.new ≡ book.old) ⊎ (N.is_synced near.new ≡ true) }
@@ -41,7 +42,7 @@ pub(crate) fn begin_synced<N: Mailbox, S: Shelf + Drop>(
     ensures arrives { N.honest near.new → Arrives sides.Near N.ours N.alone (N.seen near.old).stored (N.seen near.new).stored }
     ensures cause { IsErrOf result OutsideFault.Stopped → HasCause (N.ended near.old near.new) (N.seen near.old) (N.seen near.new)
         ⊎ ((standing_of book.old).stops < (standing_of book.new).stops) }
-    ensures part { N.honest near.new → PartChanges (S.is_honest ≡ true) (λ _. OfKept (λ _. Turns Missing (begun plan)) (kept_of book.old))
+    ensures part { N.honest near.new → PartChanges (honest_in book.new) (λ _. OfKept (λ _. Turns Missing (begun plan)) (kept_of book.old))
         (OfKept (λ _. TurnsHalf Missing Useless) (kept_of book.old)) (files_of book.old) (files_of book.new) result }
 {
     match near.sync() {

@@ -25,10 +25,10 @@ returns-in_err-append-clause-leaves g c = λ honest.
     let old = (g.S.Shelf.seen book.shelf).stored in
     let new = (g.S.Shelf.seen c.append.new.self).stored in
     let text = c.deref.ensures.value ∙ c.in_ok-text.ensures.spelled in
-    let held : Holds old book.state Missing = subst (λ (p : Pending). Holds old book.state p) c.requires.missing (book.holds ready honest) in
+    let held : Holds old book.state Missing = subst (λ (p : Pending). Holds old book.state p) c.requires.missing (book.holds ready (c.append.ensures.was_honest honest)) in
     rw (e.1) (turned_or_half old new book.state Missing (begun c.args.plan) Useless held
     (begun_or_not old new book.state c.args.plan c.deref.result.now
-    (c.in_err-append.ensures.left honest) c.requires.has_text c.requires.next c.requires.agrees text held))
+    (c.in_err-append.ensures.call.left honest) c.requires.has_text c.requires.next c.requires.agrees text held))
 
 pub invariant_of-self-2 : goal.invariant_of-self-2
 invariant_of-self-2 g c =
@@ -42,11 +42,11 @@ invariant_of-self-2 g c =
     ap (λ (l : List Logged). Planned (record { version = Two; journal = record { plan = plan; log = l }; is_torn = false })) (c.from_vec-log.ensures ∙ c.new.ensures.items) in
     record {
       sound = book.sound;
-      is_whole = λ _. c.in_ok-append.ensures.is_whole;
+      is_whole = λ _. c.in_ok-append.ensures.call.is_whole;
       holds = λ _ honest.
-          let held : Holds old book.state Missing = subst (λ (p : Pending). Holds old book.state p) c.requires.missing (book.holds ready honest) in
+          let held : Holds old book.state Missing = subst (λ (p : Pending). Holds old book.state p) c.requires.missing (book.holds ready (c.append.ensures.was_honest honest)) in
           subst (λ (p : Pending). Holds new book.state p) (sym now)
-          (journal_put _ old new book.state Missing (begun plan) (c.in_ok-append.ensures.effect honest)
+          (journal_put _ old new book.state Missing (begun plan) (c.in_ok-append.ensures.call.effect honest)
           (plan_after_nothing book.state old.journal plan c.deref.result.now c.requires.has_text c.requires.next c.requires.agrees text) held);
       knows = λ _ some.
           let some_as_read = subst (λ (s : List Step). list_any copies_one s ≡ true) (sym c.as_slice.ensures) some in
@@ -65,7 +65,7 @@ returns-clause-leaves g c = λ honest.
     let new = (g.S.Shelf.seen c.append.new.self).stored in
     let plan = c.args.plan in
     let text = c.deref.ensures.value ∙ c.in_ok-text.ensures.spelled in
-    let held : Holds old book.state Missing = subst (λ (p : Pending). Holds old book.state p) c.requires.missing (book.holds ready honest) in
+    let held : Holds old book.state Missing = subst (λ (p : Pending). Holds old book.state p) c.requires.missing (book.holds ready (c.append.ensures.was_honest honest)) in
     turned old new book.state Missing (begun plan) held
-    (journal_put _ old new book.state Missing (begun plan) (c.in_ok-append.ensures.effect honest)
+    (journal_put _ old new book.state Missing (begun plan) (c.in_ok-append.ensures.call.effect honest)
     (plan_after_nothing book.state old.journal plan c.deref.result.now c.requires.has_text c.requires.next c.requires.agrees text) held)

@@ -12,8 +12,8 @@ returns-in_err-remove-clause-leaves g c = λ honest.
     let ready : book.is_ready ≡ true = search rules in
     let old = (g.S.Shelf.seen book.shelf).stored in
     let new = (g.S.Shelf.seen c.remove.new.self).stored in
-    rw (e.1) (turned_or_half old new book.state book.pending Missing Missing (book.holds ready honest)
-    (journal_put_or_not None old new book.state book.pending Missing Missing (c.in_err-remove.ensures.left honest) (λ _. tt) (book.holds ready honest)))
+    rw (e.1) (turned_or_half old new book.state book.pending Missing Missing (book.holds ready (c.remove.ensures.was_honest honest))
+    (journal_put_or_not None old new book.state book.pending Missing Missing (c.in_err-remove.ensures.call.left honest) (λ _. tt) (book.holds ready (c.remove.ensures.was_honest honest))))
 
 pub invariant_of-self-2 : goal.invariant_of-self-2
 invariant_of-self-2 g c =
@@ -21,9 +21,9 @@ invariant_of-self-2 g c =
     let ready : book.is_ready ≡ true = search rules in
     record {
       sound = book.sound;
-      is_whole = λ _. c.in_ok-remove.ensures.is_whole;
+      is_whole = λ _. c.in_ok-remove.ensures.call.is_whole;
       holds = λ _ honest. journal_put None (g.S.Shelf.seen book.shelf).stored (g.S.Shelf.seen c.remove.new.self).stored book.state book.pending Missing
-          (c.in_ok-remove.ensures.effect honest) (λ _. tt) (book.holds ready honest);
+          (c.in_ok-remove.ensures.call.effect honest) (λ _. tt) (book.holds ready (c.remove.ensures.was_honest honest));
       fits = tt;
       knows = λ _. tt;
     }
@@ -34,5 +34,5 @@ returns-clause-leaves g c = λ honest.
     let ready : book.is_ready ≡ true = search rules in
     let old = (g.S.Shelf.seen book.shelf).stored in
     let new = (g.S.Shelf.seen c.remove.new.self).stored in
-    turned old new book.state book.pending Missing (book.holds ready honest)
-    (journal_put None old new book.state book.pending Missing (c.in_ok-remove.ensures.effect honest) (λ _. tt) (book.holds ready honest))
+    turned old new book.state book.pending Missing (book.holds ready (c.remove.ensures.was_honest honest))
+    (journal_put None old new book.state book.pending Missing (c.in_ok-remove.ensures.call.effect honest) (λ _. tt) (book.holds ready (c.remove.ensures.was_honest honest)))

@@ -16,9 +16,9 @@ returns-in_err-append-clause-leaves g c = λ honest.
     let ready : book.is_ready ≡ true = search rules in
     let old = (g.S.Shelf.seen book.shelf).stored in
     let new = (g.S.Shelf.seen c.append.new.self).stored in
-    rw (e.1) (turned_or_half old new book.state book.pending (logged_more book.pending c.args.logged) (torn book.pending) (book.holds ready honest)
+    rw (e.1) (turned_or_half old new book.state book.pending (logged_more book.pending c.args.logged) (torn book.pending) (book.holds ready (c.append.ensures.was_honest honest))
     (logged_or_not old new book.state book.pending c.args.step c.args.logged c.deref.result.now
-    (c.in_err-append.ensures.left honest) c.requires.next (c.requires.free ready) c.ranges.step.fits (c.deref.ensures.value ∙ c.in_ok-line.ensures) (book.holds ready honest)))
+    (c.in_err-append.ensures.call.left honest) c.requires.next (c.requires.free ready) c.ranges.step.fits (c.deref.ensures.value ∙ c.in_ok-line.ensures) (book.holds ready (c.append.ensures.was_honest honest))))
 
 pub returns-in_err-add_next-clause-leaves : goal.returns-in_err-add_next-clause-leaves
 returns-in_err-add_next-clause-leaves g c = λ honest.
@@ -27,10 +27,10 @@ returns-in_err-add_next-clause-leaves g c = λ honest.
     let ready : book.is_ready ≡ true = search rules in
     let old = (g.S.Shelf.seen book.shelf).stored in
     let new = (g.S.Shelf.seen c.append.new.self).stored in
-    rw (e.1) (inl (turned old new book.state book.pending (logged_more book.pending c.args.logged) (book.holds ready honest)
-    (journal_put _ old new book.state book.pending (logged_more book.pending c.args.logged) (c.in_ok-append.ensures.effect honest)
+    rw (e.1) (inl (turned old new book.state book.pending (logged_more book.pending c.args.logged) (book.holds ready (c.append.ensures.was_honest honest))
+    (journal_put _ old new book.state book.pending (logged_more book.pending c.args.logged) (c.in_ok-append.ensures.call.effect honest)
     (more_after book.state old.journal book.pending c.args.step c.args.logged c.deref.result.now c.requires.next (c.requires.free ready) c.ranges.step.fits (c.deref.ensures.value ∙ c.in_ok-line.ensures))
-    (book.holds ready honest))))
+    (book.holds ready (c.append.ensures.was_honest honest)))))
 
 pub returns-in_err-log_pending-clause-leaves : goal.returns-in_err-log_pending-clause-leaves
 returns-in_err-log_pending-clause-leaves g c = λ honest.
@@ -39,10 +39,10 @@ returns-in_err-log_pending-clause-leaves g c = λ honest.
     let ready : book.is_ready ≡ true = search rules in
     let old = (g.S.Shelf.seen book.shelf).stored in
     let new = (g.S.Shelf.seen c.append.new.self).stored in
-    rw (e.1) (inl (turned old new book.state book.pending (logged_more book.pending c.args.logged) (book.holds ready honest)
-    (journal_put _ old new book.state book.pending (logged_more book.pending c.args.logged) (c.in_ok-append.ensures.effect honest)
+    rw (e.1) (inl (turned old new book.state book.pending (logged_more book.pending c.args.logged) (book.holds ready (c.append.ensures.was_honest honest))
+    (journal_put _ old new book.state book.pending (logged_more book.pending c.args.logged) (c.in_ok-append.ensures.call.effect honest)
     (more_after book.state old.journal book.pending c.args.step c.args.logged c.deref.result.now c.requires.next (c.requires.free ready) c.ranges.step.fits (c.deref.ensures.value ∙ c.in_ok-line.ensures))
-    (book.holds ready honest))))
+    (book.holds ready (c.append.ensures.was_honest honest)))))
 
 pub invariant_of-self-2 : goal.invariant_of-self-2
 invariant_of-self-2 g c =
@@ -52,11 +52,11 @@ invariant_of-self-2 g c =
     let new = (g.S.Shelf.seen c.append.new.self).stored in
     record {
       sound = book.sound;
-      is_whole = λ _. c.in_ok-append.ensures.is_whole;
+      is_whole = λ _. c.in_ok-append.ensures.call.is_whole;
       holds = λ _ honest. subst (λ (p : Pending). Holds new book.state p) (sym c.in_ok-log_pending.ensures.ok)
-          (journal_put _ old new book.state book.pending (logged_more book.pending c.args.logged) (c.in_ok-append.ensures.effect honest)
+          (journal_put _ old new book.state book.pending (logged_more book.pending c.args.logged) (c.in_ok-append.ensures.call.effect honest)
           (more_after book.state old.journal book.pending c.args.step c.args.logged c.deref.result.now c.requires.next (c.requires.free ready) c.ranges.step.fits (c.deref.ensures.value ∙ c.in_ok-line.ensures))
-          (book.holds ready honest));
+          (book.holds ready (c.append.ensures.was_honest honest)));
       knows = λ _. subst (λ (p : Pending). Knows book.state.entries p c.add_next.new.self) (sym c.in_ok-log_pending.ensures.ok) (c.in_ok-add_next.ensures book.state.entries (book.knows ready));
       fits = subst (λ (p : Pending). Fits book.state p) (sym c.in_ok-log_pending.ensures.ok)
           (more_fits book.state book.pending c.args.step c.args.logged c.requires.next (c.requires.free ready) book.fits);
@@ -68,7 +68,7 @@ returns-clause-leaves g c = λ honest.
     let ready : book.is_ready ≡ true = search rules in
     let old = (g.S.Shelf.seen book.shelf).stored in
     let new = (g.S.Shelf.seen c.append.new.self).stored in
-    turned old new book.state book.pending (logged_more book.pending c.args.logged) (book.holds ready honest)
-    (journal_put _ old new book.state book.pending (logged_more book.pending c.args.logged) (c.in_ok-append.ensures.effect honest)
+    turned old new book.state book.pending (logged_more book.pending c.args.logged) (book.holds ready (c.append.ensures.was_honest honest))
+    (journal_put _ old new book.state book.pending (logged_more book.pending c.args.logged) (c.in_ok-append.ensures.call.effect honest)
     (more_after book.state old.journal book.pending c.args.step c.args.logged c.deref.result.now c.requires.next (c.requires.free ready) c.ranges.step.fits (c.deref.ensures.value ∙ c.in_ok-line.ensures))
-    (book.holds ready honest))
+    (book.holds ready (c.append.ensures.was_honest honest)))

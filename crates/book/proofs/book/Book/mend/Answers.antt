@@ -24,11 +24,11 @@ returns-in_err-replace-clause-leaves g c = λ honest.
     let old = (g.S.Shelf.seen book.shelf).stored in
     let new = (g.S.Shelf.seen c.replace.new.self).stored in
     let text = c.deref.ensures.value ∙ c.in_ok-text.ensures.spelled in
-    rw (e.1) (turned_or_half old new book.state book.pending (mended book.pending) book.pending (book.holds ready honest)
+    rw (e.1) (turned_or_half old new book.state book.pending (mended book.pending) book.pending (book.holds ready (c.replace.ensures.was_honest honest))
     (journal_put_or_not (Some c.deref.result.now) old new book.state book.pending (mended book.pending) book.pending
-    (c.in_err-replace.ensures.left honest)
+    (c.in_err-replace.ensures.call.left honest)
     (pending_mended book.state old.journal book.pending c.in-Planned.written c.deref.result.now c.in-Planned.is text)
-    (book.holds ready honest)))
+    (book.holds ready (c.replace.ensures.was_honest honest))))
 
 pub invariant_of-self-2 : goal.invariant_of-self-2
 invariant_of-self-2 g c =
@@ -38,12 +38,12 @@ invariant_of-self-2 g c =
     let new = (g.S.Shelf.seen c.replace.new.self).stored in
     record {
       sound = book.sound;
-      is_whole = λ _. c.in_ok-replace.ensures.is_whole;
+      is_whole = λ _. c.in_ok-replace.ensures.call.is_whole;
       holds = λ _ honest. subst (λ (q : Pending). Holds new book.state q) (sym c.mend_pending.ensures)
           (journal_put (Some c.deref.result.now) (g.S.Shelf.seen book.shelf).stored new book.state book.pending (mended book.pending)
-          (c.in_ok-replace.ensures.effect honest)
+          (c.in_ok-replace.ensures.call.effect honest)
           (pending_mended book.state (g.S.Shelf.seen book.shelf).stored.journal book.pending c.in-Planned.written c.deref.result.now c.in-Planned.is text)
-          (book.holds ready honest));
+          (book.holds ready (c.replace.ensures.was_honest honest)));
       knows = λ _. subst (λ (q : Pending). Knows book.state.entries q book.taken) (sym c.mend_pending.ensures) (mended_known book.state.entries book.pending book.taken (book.knows ready));
       fits = subst (λ (q : Pending). Fits book.state q) (sym c.mend_pending.ensures) (mended_fits book.state book.pending book.fits);
     }
@@ -55,6 +55,6 @@ returns-clause-leaves g c = λ honest.
     let old = (g.S.Shelf.seen book.shelf).stored in
     let new = (g.S.Shelf.seen c.replace.new.self).stored in
     let text = c.deref.ensures.value ∙ c.in_ok-text.ensures.spelled in
-    turned old new book.state book.pending (mended book.pending) (book.holds ready honest)
-    (journal_put (Some c.deref.result.now) old new book.state book.pending (mended book.pending) (c.in_ok-replace.ensures.effect honest)
-    (pending_mended book.state old.journal book.pending c.in-Planned.written c.deref.result.now c.in-Planned.is text) (book.holds ready honest))
+    turned old new book.state book.pending (mended book.pending) (book.holds ready (c.replace.ensures.was_honest honest))
+    (journal_put (Some c.deref.result.now) old new book.state book.pending (mended book.pending) (c.in_ok-replace.ensures.call.effect honest)
+    (pending_mended book.state old.journal book.pending c.in-Planned.written c.deref.result.now c.in-Planned.is text) (book.holds ready (c.replace.ensures.was_honest honest)))

@@ -23,9 +23,9 @@ returns g c =
     let b = c.discard-answer in
     let e = c.end in
     let whole = sym c.is_broken.ensures ∙ c.if-is_broken.false in
-    let ends = books.book_ends p (λ p. Turns p Missing) (λ p. TurnsHalf p Missing) FromBook p.near b.new.self e.new.self b.result e.result (discards (far_answered p) (near_answered p) p.listed.devices (kept_of p.book) c.requires.takes) whole e.ensures.same e.ensures.now b.ensures.reported (books.near_stays p) (λ _. b.ensures.part) in
+    let ends = books.book_ends p (λ p. Turns p Missing) (λ p. TurnsHalf p Missing) FromBook p.near b.new.self e.new.self b.result e.result (discards (far_answered p) (near_answered p) p.listed.devices (kept_of p.book) c.requires.takes) whole e.ensures.same e.ensures.now b.ensures.reported (books.near_stays p) (λ _. b.ensures.part) b.ensures.was_honest in
     record {
-      was_honest = λ h. h;
+      was_honest = λ h. (h.0, h.1, b.ensures.was_honest h.2);
       keywords = refl;
       opened = on_ok _ _ b.result e.result e.ensures.same (books.is_turned (far_answered p) (near_answered p) p.listed.devices (λ _. Missing) (kept_of p.book) (kept_of b.new.self)) b.ensures.kept;
       call = ends.call;

@@ -24,9 +24,9 @@ returns g c =
     let b = c.give_up_synced-answer in
     let e = c.end in
     let whole = sym c.is_broken.ensures ∙ c.if-is_broken.false in
-    let ends = books.book_ends p (GivesUpTo c.args.lost.now) (GivesUpHalf c.args.lost.now) FromBook b.new.near b.new.book e.new.self b.result e.result (gives_up c.args.lost.now (kept_of p.book)) whole e.ensures.same e.ensures.now b.ensures.reported b.ensures.arrives b.ensures.part in
+    let ends = books.book_ends p (GivesUpTo c.args.lost.now) (GivesUpHalf c.args.lost.now) FromBook b.new.near b.new.book e.new.self b.result e.result (gives_up c.args.lost.now (kept_of p.book)) whole e.ensures.same e.ensures.now b.ensures.reported b.ensures.arrives b.ensures.part b.ensures.book_was_honest in
     record {
-      was_honest = λ h. (h.0, b.ensures.was_honest h.1, h.2);
+      was_honest = λ h. (h.0, b.ensures.was_honest h.1, b.ensures.book_was_honest h.2);
       keywords = refl;
       opened = on_ok _ _ b.result e.result e.ensures.same (λ h. rw b.ensures.open (books.are_given_up c.args.lost.now (far_answered p) (near_answered p) p.listed.devices (kept_of p.book) (kept_of b.new.book) h)) b.ensures.kept;
       call = ends.call;

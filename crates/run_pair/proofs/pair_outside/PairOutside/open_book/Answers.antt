@@ -16,7 +16,7 @@ returns g c =
     let e = c.end in
     let whole = sym c.is_broken.ensures ∙ c.if-is_broken.false in
     record {
-      was_honest = λ h. h;
+      was_honest = λ h. (h.0, h.1, b.ensures.was_honest h.2);
       keywords = refl;
       book = on_ok _ _ b.result e.result e.ensures.same (books.is_book (far_answered p) (near_answered p) p.listed.devices (kept_of b.new.self)) b.ensures.book;
       call = books.open_ends p b.new.self e.new.self b.result e.result whole e.ensures.same e.ensures.now b.ensures.reported b.ensures.part;

@@ -1,0 +1,14 @@
+use Rattle.std.proofs.Common.{◌≡◌, ap, sym}
+use Rattle.book.specs.DiskShelves.{file_name, seen_on_disk}
+use Rattle.book.proofs.DiskShelfLemmas.{Reported, append_called}
+use Rattle.book.proofs.disk_shelf.DiskShelfShelf.append.Goals as goal
+
+pub returns-clause-call : goal.returns-clause-call
+returns-clause-call g c =
+    let of = c.report-answer.ensures in
+    let did = c.append-answer.ensures in
+    let reported : Reported c.append-answer.result c.report-answer.result c.append-answer.new.self c.report-answer.new.self =
+    record { answer_is = of.answer; ok = of.ok; calls = of.calls; broken = of.broken; counted = of.counted; no_less = of.no_less } in
+    rw (c.note.ensures, ← c.self.view_is)
+    (append_called c.args.file c.name_of.result.now c.args.bytes.now c.self.inside.disk c.append-answer.new.self c.report-answer.new.self
+    c.append-answer.result c.report-answer.result c.name_of.ensures c.in_ok-check.ensures.whole did.touches did.ok did.err reported)

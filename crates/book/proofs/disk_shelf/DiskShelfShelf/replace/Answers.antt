@@ -1,0 +1,14 @@
+use Rattle.std.proofs.Common.{◌≡◌, ap, sym}
+use Rattle.book.specs.DiskShelves.{file_name, seen_on_disk}
+use Rattle.book.proofs.DiskShelfLemmas.{Reported, replace_called}
+use Rattle.book.proofs.disk_shelf.DiskShelfShelf.replace.Goals as goal
+
+pub returns-clause-call : goal.returns-clause-call
+returns-clause-call g c =
+    let of = c.report-answer.ensures in
+    let did = c.replace-answer.ensures in
+    let reported : Reported c.replace-answer.result c.report-answer.result c.replace-answer.new.self c.report-answer.new.self =
+    record { answer_is = of.answer; ok = of.ok; calls = of.calls; broken = of.broken; counted = of.counted; no_less = of.no_less } in
+    rw (c.note.ensures, ← c.self.view_is)
+    (replace_called c.args.file c.name_of.result.now c.args.bytes.now c.self.inside.disk c.replace-answer.new.self c.report-answer.new.self
+    c.replace-answer.result c.report-answer.result c.name_of.ensures c.in_ok-check.ensures.whole did.touches did.ok did.err reported)
