@@ -1,3 +1,4 @@
+mod Walks
 pub mod TagLemmas
 pub mod Visited
 pub mod Plain
@@ -30,3 +31,4 @@ pub mod Removing
 pub mod Naming
 pub mod LoggingOut
 pub mod Transcribed
+pub mod Recorded

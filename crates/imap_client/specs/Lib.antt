@@ -20,6 +20,8 @@ pub use Rattle.imap_answers.specs.Given
 pub use Rattle.imap_answers.specs.MailboxNames
 pub mod Leaving
 pub mod Nowhere
+pub mod LineEvents
+pub mod LineRecords
 pub mod Laws
 pub mod Calls
 pub mod Transcripts

@@ -8,6 +8,7 @@ mod call;
 pub mod far_box;
 pub mod laws;
 mod leaving;
+pub mod line_record;
 mod listing;
 mod login;
 mod mailboxes;

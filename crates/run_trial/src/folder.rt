@@ -58,7 +58,8 @@ fn put_messages(
     messages: Vec<Message>,
     keywords: &Keywords,
 ) -> Result<(), AllocError>
-    ensures { OnOk result (seen_of folder.new ≡ record (seen_of folder.old) { stored = fold (put_message keywords.now) (stored_in folder.old) messages.items }) }
+    ensures { OnOk result (seen_of folder.new
+        ≡ record (seen_of folder.old) { stored = fold (put_message keywords.now) (stored_in folder.old) messages.items }) }
 {
     for message in messages {
         let name = message_name(alloc, &message, keywords)?;

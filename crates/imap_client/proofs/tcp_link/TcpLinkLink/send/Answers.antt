@@ -1,0 +1,14 @@
+use Rattle.imap_client.proofs.Recorded.{sends_err, sends_ok, sends_was}
+use Rattle.imap_client.proofs.tcp_link.TcpLinkLink.send.Goals as goal
+
+pub returns-clause-was_honest : goal.returns-clause-was_honest
+returns-clause-was_honest g c =
+    sends_was c.args.bytes.now c.args.self.now.calls c.hand-answer.new.self.calls c.end_message.new.self.calls c.hand-answer.result c.end_message.result c.hand-answer.ensures.ok c.hand-answer.ensures.err c.end_message.ensures.sent c.end_message.ensures.unsent
+
+pub returns-clause-ok : goal.returns-clause-ok
+returns-clause-ok g c =
+    sends_ok c.args.bytes.now c.args.self.now.calls c.hand-answer.new.self.calls c.end_message.new.self.calls c.hand-answer.result c.end_message.result c.hand-answer.ensures.ok c.end_message.ensures.sent
+
+pub returns-clause-err : goal.returns-clause-err
+returns-clause-err g c =
+    sends_err c.args.bytes.now c.args.self.now.calls c.hand-answer.new.self.calls c.end_message.new.self.calls c.hand-answer.result c.end_message.result c.hand-answer.ensures.err c.end_message.ensures.unsent
