@@ -1,6 +1,6 @@
 //! The near files that wait for a UID, as a world has them.
 
-ghost use Rattle.std.specs.Prelude.{◌≡◌, false, true, IfOk, OnOk};
+ghost use Rattle.std.specs.Prelude.{◌≡◌, false, IfOk, OnOk};
 ghost use Rattle.mailcore.specs.Content.{fit};
 ghost use Rattle.mail_sides.specs.NearSides.{seen_of};
 
@@ -23,7 +23,8 @@ impl WorldReader<'_> {
         self,
         near: &mut NearSide<F>,
     ) -> Result<Vec<WaitingFile>, UnreadWorld>
-        ensures keeps { F.is_honest ≡ true → (seen_of near.new).stored ≡ (seen_of near.old).stored }
+        ensures was_honest { F.honest near.new.near.folder → F.honest near.old.near.folder }
+        ensures keeps { F.honest near.new.near.folder → (seen_of near.new).stored ≡ (seen_of near.old).stored }
     {
         let mut files = Vec::new(self.alloc);
         for place in 0..near.waiting_count() {

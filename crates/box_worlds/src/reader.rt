@@ -57,7 +57,7 @@ impl WorldReader<'_> {
         book: &mut Book<S>,
     ) -> Result<String, UnreadWorld>
         ensures far { M.alone ≡ true → M.honest far.new → (M.seen far.new).stored ≡ (M.seen far.old).stored }
-        ensures near { F.visitors.alone ≡ true → F.is_honest ≡ true → (seen_of near.new).stored ≡ (seen_of near.old).stored }
+        ensures near { F.visitors.alone ≡ true → F.honest near.new.near.folder → (seen_of near.new).stored ≡ (seen_of near.old).stored }
         ensures files { S.honest book.new.shelf → (S.seen book.new.shelf).stored ≡ (S.seen book.old.shelf).stored }
     {
         open_planless(book)?;
@@ -79,7 +79,7 @@ impl WorldReader<'_> {
         near: &mut NearSide<F>,
         book: &mut Book<S>,
     ) -> Result<String, UnreadWorld>
-        ensures near { F.visitors.alone ≡ true → F.is_honest ≡ true → (seen_of near.new).stored ≡ (seen_of near.old).stored }
+        ensures near { F.visitors.alone ≡ true → F.honest near.new.near.folder → (seen_of near.new).stored ≡ (seen_of near.old).stored }
         ensures files { S.honest book.new.shelf → (S.seen book.new.shelf).stored ≡ (S.seen book.old.shelf).stored }
     {
         open_planless(book)?;

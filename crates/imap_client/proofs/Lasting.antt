@@ -73,7 +73,7 @@ module _ (Q : Server → Type 0) where
       appends_so true name flags message h = appends_at_so (mailbox_at name s.mailboxes) name flags message h
       appends_so false name flags message g = subst Q (sym g.1) lasts.same
 
-      step_so : (r : Request) → is_logout r ≡ false → StepOf s tag r said new → Q new
+      pub step_so : (r : Request) → is_logout r ≡ false → StepOf s tag r said new → Q new
       step_so requests.Capability stays g = subst Q (sym g.1) lasts.same
       step_so requests.Noop stays g = subst Q (sym g.1) lasts.same
       step_so requests.Logout stays g = cc

@@ -11,6 +11,7 @@ pub mod Exchanging
 pub mod Asking
 pub mod Lasting
 pub mod Mapped
+pub mod Keeping
 pub mod Answered
 pub mod Changed
 pub mod OpeningNumbers

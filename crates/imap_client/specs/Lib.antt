@@ -1,5 +1,6 @@
 pub mod Tags
 pub mod Stillness
+pub mod Standing
 pub use Rattle.imap_answers.specs.Spoken
 pub mod Requests
 pub mod Exchanged

@@ -121,6 +121,13 @@ impl<L: Link> Session<L> {
         self.is_ready
     }
 
+    /// The link below.
+    pub fn link(&self) -> &L
+        ensures { result.now ≡ self.now.wire.link }
+    {
+        &self.wire.link
+    }
+
     /// Gives the link back, without taking memory.
     pub fn into_link(self) -> L
         ensures { result ≡ self.wire.link }

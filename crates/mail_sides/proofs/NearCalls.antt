@@ -48,7 +48,7 @@ as_it_was false a b h = absurd h
 
 -- a call that does nothing
 pub nothing_done : {F : Type 0} {folders : folder.Ghosts F} (s : NearSide F folders) → (seen_of s).is_broken ≡ false
-    → Went (folders.is_honest ≡ true) (Follows (Arrives side.Near folders.visitors.ours folders.visitors.alone) (λ b b'. b' ≡ b)) (seen_of s) (seen_of s)
+    → Went (folders.honest s.near.folder) (Follows (Arrives side.Near folders.visitors.ours folders.visitors.alone) (λ b b'. b' ≡ b)) (seen_of s) (seen_of s)
 nothing_done {F} {folders} s whole = record { was_whole = whole; is_whole = whole; stops = refl; effect = λ h. unvisited folders.visitors (λ b b'. b' ≡ b) refl }
 
 -- what a call does by its answer, and what it leaves by its fault
@@ -59,7 +59,7 @@ Left because does part (Err e) = LeavesBy does part because (reported e)
 -- the mailbox before a call of its box, and the box after it
 module _ {F : Type 0} {folders : folder.Ghosts F} (s : NearSide F folders) (new : NearBox F folders) (is_open : s.is_open ≡ true) (whole : (seen_of s).is_broken ≡ false) where
   abbrev honest : Type 0
-  honest = folders.is_honest ≡ true
+  honest = folders.honest new.folder
 
   abbrev others : Effect Mailbox
   others = Arrives side.Near folders.visitors.ours folders.visitors.alone
@@ -225,7 +225,7 @@ module _ {F : Type 0} {folders : folder.Ghosts F} (s : NearSide F folders) (new 
   has_no_room count h =
       subst (λ (f : ℕ). IsFull (count (near_of f s.near.keywords (stored_in s.near))) (near_of f s.near.keywords (stored_in s.near))) (sym s.same_fresh) h
 
-  pub has_no_uid : honest → IsFull 1 (seen_of s).stored → n.store.next + 1 ≡ 2 ^ 32
+  pub has_no_uid : folders.honest s.near.folder → IsFull 1 (seen_of s).stored → n.store.next + 1 ≡ 2 ^ 32
   has_no_uid h is_full =
       let mailbox : IsMailbox s.near.fresh (stored_in s.near) = surveyed_mailbox s.near.survey s.near.fresh s.near.keywords (stored_in s.near) (s.near.surveys ready h) in
       let range : IsInRange n.store = near_in_range s.near.fresh s.near.keywords (stored_in s.near) s.near.has_fresh.0 s.near.has_fresh.1 mailbox in

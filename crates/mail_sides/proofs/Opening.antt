@@ -38,9 +38,9 @@ stopped_now : (old new : FolderSeen Stored) → old.is_broken ≡ false → (old
 stopped_now old new whole (inl broken) = absurd (cc)
 stopped_now old new whole (inr rose) = rose
 
-module _ {F : Type 0} {folders : folder.Ghosts F} (s : NearSide F folders) (new : NearBox F folders) (whole : (seen_of s).is_broken ≡ false) (missed : new.missed ≡ s.near.missed) (same_map : new.keywords ≡ s.near.keywords) (adds : folders.is_honest ≡ true → Adds folders.visitors (stored_in s.near) (stored_in new)) where
+module _ {F : Type 0} {folders : folder.Ghosts F} (s : NearSide F folders) (new : NearBox F folders) (whole : (seen_of s).is_broken ≡ false) (missed : new.missed ≡ s.near.missed) (same_map : new.keywords ≡ s.near.keywords) (adds : folders.honest new.folder → Adds folders.visitors (stored_in s.near) (stored_in new)) where
   abbrev honest : Type 0
-  honest = folders.is_honest ≡ true
+  honest = folders.honest new.folder
 
   abbrev now : Bool → Seen
   now is_open = seen_at is_open (non_zero_u32_get s.fresh) new.keywords new

@@ -72,8 +72,8 @@ all_stay uid n unmarked =
     (All-weaker (λ m. m.uid ≡ uid → has m.flags DELETED ≡ false) (λ m. not (m.uid == uid && has m.flags DELETED) ≡ true) (stays_test uid) n.store.messages unmarked)))
 
 -- nothing is called then, and the mailbox is as the removal leaves it
-pub removes_none : {F : Type 0} {folders : folder.Ghosts F} (s : NearSide F folders) (uid : ℕ) → (seen_of s).is_broken ≡ false → (folders.is_honest ≡ true → IsMarkedAs uid false (seen_of s).stored)
-    → Went (folders.is_honest ≡ true) (Follows (Arrives side.Near folders.visitors.ours folders.visitors.alone) (λ b b'. b' ≡ on_store (removed uid) b)) (seen_of s) (seen_of s)
+pub removes_none : {F : Type 0} {folders : folder.Ghosts F} (s : NearSide F folders) (uid : ℕ) → (seen_of s).is_broken ≡ false → (folders.honest s.near.folder → IsMarkedAs uid false (seen_of s).stored)
+    → Went (folders.honest s.near.folder) (Follows (Arrives side.Near folders.visitors.ours folders.visitors.alone) (λ b b'. b' ≡ on_store (removed uid) b)) (seen_of s) (seen_of s)
 removes_none {F} {folders} s uid whole unmarked = record {
   was_whole = whole;
   is_whole = whole;

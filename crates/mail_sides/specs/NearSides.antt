@@ -50,7 +50,7 @@ module _ {F : Type 0} {folders : folder.Ghosts F} where
   abbrev pub Calls : {T : Type 0} → (because : BoxFault → Mailbox → Type 0) → (does : T → Effect Mailbox) → (part : Effect Mailbox)
       → (old new : NearSide F folders) → Result T BoxFault → Type 0
   Calls because does part old new result =
-      Call (folders.is_honest ≡ true) ⊥ (Arrives side.Near folders.visitors.ours folders.visitors.alone) because does part (seen_of old) (seen_of new) result
+      Call (folders.honest new.near.folder) ⊥ (Arrives side.Near folders.visitors.ours folders.visitors.alone) because does part (seen_of old) (seen_of new) result
 
   -- all files that waited have their UIDs, or some of them, or there is no room for all that wait
   abbrev pub CallsAdmit : (old new : NearSide F folders) → Result (Unit {0}) BoxFault → Type 0

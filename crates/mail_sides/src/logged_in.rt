@@ -82,6 +82,13 @@ impl<L: Link + Drop> LoggedIn<L> {
         self.session.is_ready()
     }
 
+    /// The link below.
+    pub fn link(&self) -> &L
+        ensures { result.now ≡ self.now.session.wire.link }
+    {
+        self.session.link()
+    }
+
     /// The session below.
     pub fn into_session(self) -> Session<L>
         ensures { result ≡ self.session }

@@ -55,7 +55,7 @@ impl<F: Folder> NearSide<F> {
 
     /// How many files wait for a UID, where the mailbox is open.
     pub fn waiting_count(&self) -> usize
-        ensures { F.is_honest ≡ true → self.now.is_open ≡ true → (seen_of self.now).is_broken ≡ false
+        ensures { F.honest self.now.near.folder → self.now.is_open ≡ true → (seen_of self.now).is_broken ≡ false
             → result ≡ length (seen_of self.now).stored.waiting }
     {
         self.near.waiting_count()
@@ -64,9 +64,10 @@ impl<F: Folder> NearSide<F> {
     /// Reads the file that waits at this place, counted from 0 in the order in which `admit` gives UIDs: its bytes, which `waiting_body`
     /// then lends, and its flags. None: no file waits there. It stays waiting.
     pub fn read_waiting(&mut self, place: usize) -> Result<Option<Flags>, BoxFault>
-        ensures file { F.is_honest ≡ true → IfOk result (λ flags. slice_get (seen_of self.old).stored.waiting place
+        ensures was_honest { F.honest self.new.near.folder → F.honest self.old.near.folder }
+        ensures file { F.honest self.new.near.folder → IfOk result (λ flags. slice_get (seen_of self.old).stored.waiting place
             ≡ option_map (waiting_with self.new.near.body.items) flags) }
-        ensures keeps { F.is_honest ≡ true → (seen_of self.new).stored ≡ (seen_of self.old).stored }
+        ensures keeps { F.honest self.new.near.folder → (seen_of self.new).stored ≡ (seen_of self.old).stored }
         ensures open { self.new.is_open ≡ self.old.is_open }
         ensures whole { OnOk result ((seen_of self.new).is_broken ≡ false) }
     {
@@ -105,7 +106,7 @@ impl<F: Folder + Drop> Mailbox for NearSide<F> {
 
     ghost side = { Near };
 
-    ghost honest = { λ _. F.is_honest ≡ true };
+    ghost honest = { λ side. F.honest side.near.folder };
 
     ghost ours = { F.visitors.ours };
 
@@ -127,9 +128,10 @@ impl<F: Folder + Drop> Mailbox for NearSide<F> {
 
     fn open(&mut self) -> Result<u32, BoxFault>
         requires whole { (seen_of self.old).is_broken ≡ false }
+        ensures was_honest { F.honest self.new.near.folder → F.honest self.old.near.folder }
         ensures keywords { self.new.near.keywords ≡ self.old.near.keywords }
         ensures open { OnOk result (self.new.is_open ≡ true) }
-        ensures mailbox { F.is_honest ≡ true → OnOk result (IsMailbox (non_zero_u32_get self.old.fresh) (stored_in self.new.near)) }
+        ensures mailbox { F.honest self.new.near.folder → OnOk result (IsMailbox (non_zero_u32_get self.old.fresh) (stored_in self.new.near)) }
         ensures call { Calls (λ fault _. Unfit self.old fault) (Answers ReportsValidity) Nothing self.old self.new result }
     {
         self.is_open = false;
@@ -145,11 +147,12 @@ impl<F: Folder + Drop> Mailbox for NearSide<F> {
     fn list(&mut self, spared: &Spared) -> Result<Listing, BoxFault>
         requires whole { (seen_of self.old).is_broken ≡ false }
         requires open { self.old.is_open ≡ true }
+        ensures was_honest { F.honest self.new.near.folder → F.honest self.old.near.folder }
         ensures keywords { self.new.near.keywords ≡ self.old.near.keywords }
         ensures open { self.new.is_open ≡ true }
         ensures numbers { IfOk result HasNumbers }
-        ensures within { F.is_honest ≡ true → IfOk result (ListsWithin self.old.near.keywords) }
-        ensures asked { F.is_honest ≡ true → OnOk result (F.reads self.new.near.folder
+        ensures within { F.honest self.new.near.folder → IfOk result (ListsWithin self.old.near.keywords) }
+        ensures asked { F.honest self.new.near.folder → OnOk result (F.reads self.new.near.folder
             ≡ F.reads self.old.near.folder + length (asked (spares spared.now) (seen_of self.old).stored.store.messages)) }
         ensures call { Calls Never (Answers (Lists Near F.visitors.alone 0 (spares spared.now))) Nothing self.old self.new result }
     {
@@ -172,9 +175,10 @@ impl<F: Folder + Drop> Mailbox for NearSide<F> {
         requires whole { (seen_of self.old).is_broken ≡ false }
         requires open { self.old.is_open ≡ true }
         requires copy { IsCopyText Near (text_left copy) }
+        ensures was_honest { F.honest self.new.near.folder → F.honest self.old.near.folder }
         ensures keywords { self.new.near.keywords ≡ self.old.near.keywords }
         ensures open { self.new.is_open ≡ true }
-        ensures full { F.is_honest ≡ true → IsFull 1 (seen_of self.old).stored → IsErrOf result (BoxFault.Own NEAR_UIDS_EXHAUSTED) }
+        ensures full { F.honest self.new.near.folder → IsFull 1 (seen_of self.old).stored → IsErrOf result (BoxFault.Own NEAR_UIDS_EXHAUSTED) }
         ensures call { Calls (NoRoom Near (λ _. 1)) (Appends Near (text_left copy.entry) (kept self.old.near.keywords flags)) SetsAside self.old self.new result }
     {
         match self.near.append_copy(copy, flags) {
@@ -202,9 +206,10 @@ impl<F: Folder + Drop> Mailbox for NearSide<F> {
     fn admit(&mut self) -> Result<(), BoxFault>
         requires whole { (seen_of self.old).is_broken ≡ false }
         requires open { self.old.is_open ≡ true }
+        ensures was_honest { F.honest self.new.near.folder → F.honest self.old.near.folder }
         ensures keywords { self.new.near.keywords ≡ self.old.near.keywords }
         ensures open { self.new.is_open ≡ true }
-        ensures full { F.is_honest ≡ true → (let b = (seen_of self.old).stored in IsFull (length b.waiting) b)
+        ensures full { F.honest self.new.near.folder → (let b = (seen_of self.old).stored in IsFull (length b.waiting) b)
             → IsErrOf result (BoxFault.Own NEAR_UIDS_EXHAUSTED) }
         ensures call { CallsAdmit self.old self.new result }
     {
@@ -213,6 +218,7 @@ impl<F: Folder + Drop> Mailbox for NearSide<F> {
 
     fn sync(&mut self) -> Result<(), BoxFault>
         requires whole { (seen_of self.old).is_broken ≡ false }
+        ensures was_honest { F.honest self.new.near.folder → F.honest self.old.near.folder }
         ensures keywords { self.new.near.keywords ≡ self.old.near.keywords }
         ensures open { self.new.is_open ≡ self.old.is_open }
         ensures synced { OnOk result (self.old.is_open ≡ true → F.is_synced self.new.near.folder ≡ true) }

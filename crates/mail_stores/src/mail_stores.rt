@@ -41,18 +41,23 @@ use std::rt::{Clock, Files};
 ///
 /// One mailbox at a time is open: a store that is listed and a mailbox that is made or lent close the one before. One session at a time
 /// stands: it goes from the list of a store to its mailboxes, from one to the next, and on to the next list of the same store. It is ended
-/// where another store is asked, and at the end. A session that has failed is opened anew by what is asked next.
+/// where another store is asked, or a mailbox by another map of keywords than that by which its server is seen, and at the end. A session
+/// that has failed is opened anew by what is asked next.
 #[derive(Drop)]
-pub struct MailStores<R: Net + Files<File = File> + AllocGlobal + Clone + Drop, P>
-where
-    RealLink<R, P>: Link,
-{
+pub struct MailStores<
+    R: Net + Files<File = File> + AllocGlobal + Clone + Drop,
+    P,
+    L: Link = RealLink<R, P>,
+> {
     pub(crate) reach: Reach<R, P>,
     progress: P,
     /// The store whose server was asked last.
     asked: Option<Asked>,
     pub(crate) notices: Notices,
-    sessions: Sessions<RealLink<R, P>>,
+    sessions: Sessions<L>,
+    /// The map of keywords of the mailbox that was open last. By it the server is seen of a session that is opened to list mailboxes or to
+    /// make one: the next mailbox most likely has the same.
+    seen_by: Keywords,
     /// What is known of the mailbox that was open last.
     pub(crate) last: LastBox,
 }
@@ -77,6 +82,7 @@ impl<
             asked: None,
             notices: Notices::new(alloc),
             sessions: Sessions::new(),
+            seen_by: Keywords::new(alloc),
             last: LastBox::none(alloc),
         }
     }
@@ -99,7 +105,7 @@ impl<
     fn session_at(&mut self, store: &ImapStore) -> Result<LoggedIn<RealLink<R, P>>, AskFault> {
         match self.sessions.take_at(store.name.as_str()) {
             Some(session) => Ok(session),
-            None => self.reach.log_in(store),
+            None => self.reach.log_in(store, &self.seen_by),
         }
     }
 
@@ -215,8 +221,8 @@ impl<
         }
     }
 
-    /// The far side of a mailbox, by this map of keywords: over the session that stands, if one does, or else over a link that is not
-    /// connected yet.
+    /// The far side of a mailbox, by this map of keywords: over the session that stands, if one does whose server is seen by it, or else over
+    /// a link that is not connected yet.
     pub(crate) fn far_side(
         &mut self,
         place: ChannelBox<'_>,
@@ -228,10 +234,13 @@ impl<
         let store = place.of.far_store;
         let account = self.reach.account(place)?;
         let keywords = keywords.try_clone(alloc)?;
-        match self.sessions.take_at(store.name.as_str()) {
+        self.seen_by = keywords.try_clone(alloc)?;
+        match self.sessions.take_by(store.name.as_str(), &keywords) {
             Some(session) => Ok(FarSide::over(account, session, keywords)),
             None => {
-                let link = self.reach.link(store)?;
+                // what a server said to the end of its session is no answer of this one
+                self.reach.notes.renew();
+                let link = self.reach.link(store, &keywords)?;
                 Ok(FarSide::new(alloc, account, link, keywords))
             }
         }

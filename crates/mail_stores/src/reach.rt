@@ -1,5 +1,7 @@
 //! How the mailboxes of a configuration are reached: servers over TCP, and folders of a disk.
 
+ghost use Rattle.std.specs.Prelude.{◌≡◌, IfOk};
+
 use crate::account::account_of;
 use crate::guarded_work::GuardedSides;
 use crate::notes::ServerNotes;
@@ -13,6 +15,7 @@ use device::DeviceFault;
 use guarded::near_look::NearLook;
 use mail_sides::account::Account;
 use mail_sides::logged_in::LoggedIn;
+use mailcore::keywords::Keywords;
 use maildir::disk_folder::DiskFolder;
 use near_places::boxes::{NearBoxes, near_boxes, near_folder};
 use near_places::home::Home;
@@ -71,9 +74,13 @@ impl<R: Net + Files<File = File> + Clock + AllocGlobal + Clone + Drop, W: Waits 
     R,
     W,
 > {
-    /// A new session at the server of a store.
-    pub(crate) fn log_in(&self, store: &ImapStore) -> Result<LoggedIn<RealLink<R, W>>, AskFault> {
-        log_in(&self.rt, store, &self.notes, self.waits)
+    /// A new session at the server of a store, which is seen by this map of keywords.
+    pub(crate) fn log_in(
+        &self,
+        store: &ImapStore,
+        keywords: &Keywords,
+    ) -> Result<LoggedIn<RealLink<R, W>>, AskFault> {
+        log_in(&self.rt, store, &self.notes, self.waits, keywords)
     }
 
     /// The mailboxes in the folders of a store.
@@ -129,9 +136,15 @@ impl<R: Net + Files<File = File> + Clock + AllocGlobal + Clone + Drop, W: Waits 
         )
     }
 
-    /// A link to the server of a store, which is not connected yet.
-    pub(crate) fn link(&self, store: &ImapStore) -> Result<RealLink<R, W>, AllocError> {
-        link_to(&self.rt, store, &self.notes, self.waits)
+    /// A link to the server of a store, which is seen by this map of keywords. It is not connected yet.
+    pub(crate) fn link(
+        &self,
+        store: &ImapStore,
+        keywords: &Keywords,
+    ) -> Result<RealLink<R, W>, AllocError>
+        ensures { IfOk result (λ link. link.keywords ≡ keywords.now) }
+    {
+        link_to(&self.rt, store, &self.notes, self.waits, keywords)
     }
 
     /// Who logs in for the far side of a mailbox.

@@ -1,6 +1,6 @@
 //! The server of an IMAP store: how it is reached, and who logs in.
 
-ghost use Rattle.std.specs.Prelude.{◌↔◌, IsTrue};
+ghost use Rattle.std.specs.Prelude.{◌≡◌, ◌↔◌, IfOk, IsTrue};
 ghost use Rattle.imap_client.specs.Requests.{IsWord};
 
 use crate::noted_link::NotedLink;
@@ -11,6 +11,7 @@ use imap_client::tcp_link::TcpLink;
 use imap_link::fault::FarFault;
 use link_face::face_link::FaceLink;
 use mail_sides::logged_in::LoggedIn;
+use mailcore::keywords::Keywords;
 use std::alloc::{AllocError, Global};
 use std::net::Net;
 use wire_strings::line_text::all_text;
@@ -30,21 +31,25 @@ pub(crate) enum AskFault {
 }
 
 /// A link to a server over TCP, from which a client hears only replies that it reads. How a connection came to its end is noted, and what
-/// mbsync waits for is shown before it waits.
+/// mbsync waits for is shown before it waits. Its server is seen by one map of keywords.
 pub(crate) type RealLink<R, W> = NotedLink<FaceLink<TcpLink<R>>, W>;
 
-/// A link to the server of a store, which is not connected yet.
+/// A link to the server of a store, which is seen by this map of keywords. It is not connected yet.
 pub(crate) fn link_to<R: Net + AllocGlobal + Clone + Drop, W: Waits + Copy>(
     rt: &R,
     store: &ImapStore,
     notes: &ServerNotes,
     waits: W,
-) -> Result<RealLink<R, W>, AllocError> {
+    keywords: &Keywords,
+) -> Result<RealLink<R, W>, AllocError>
+    ensures { IfOk result (λ link. link.keywords ≡ keywords.now) }
+{
     let alloc = rt.alloc();
     let address = address_of(alloc, store)?;
     let (words, end) = (notes.words.clone()?, notes.end.clone()?);
     let link = TcpLink::noting(rt.clone()?, address.as_str(), notes.unreached.clone()?)?;
-    Ok(NotedLink::new(FaceLink::new(alloc, link, words), end, waits))
+    let link = FaceLink::new(alloc, link, words);
+    Ok(NotedLink::new(link, end, waits, keywords.try_clone(alloc)?))
 }
 
 /// The address of a store's server: its host and its port. An IPv6 address stands in brackets.
@@ -57,18 +62,19 @@ fn address_of(alloc: Global, store: &ImapStore) -> Result<String, AllocError> {
     }
 }
 
-/// A session with the server of a store, whose user has logged in.
+/// A session with the server of a store, which is seen by this map of keywords. Its user has logged in.
 pub(crate) fn log_in<R: Net + AllocGlobal + Clone + Drop, W: Waits + Copy>(
     rt: &R,
     store: &ImapStore,
     notes: &ServerNotes,
     waits: W,
+    keywords: &Keywords,
 ) -> Result<LoggedIn<RealLink<R, W>>, AskFault> {
     let (user, password) = (store.user.as_bytes(), store.pass.as_bytes());
     if !is_word(user) || !is_word(password) {
         return Err(AskFault::Unsendable);
     }
-    let Ok(link) = link_to(rt, store, notes, waits) else {
+    let Ok(link) = link_to(rt, store, notes, waits, keywords) else {
         return Err(AskFault::Far(FarFault::NoMemory));
     };
     match LoggedIn::open(rt.alloc(), link, user, password) {

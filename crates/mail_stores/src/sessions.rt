@@ -1,10 +1,14 @@
 //! The session that stands at a server between the mailboxes of its store.
 
+ghost use Rattle.std.specs.Prelude.{◌≡◌, IfSome};
 ghost use Rattle.imap_client.specs.Requests.{IsWord};
 
+use crate::noted_link::NotedLink;
+use crate::waits::Waits;
 use imap_link::fault::FarFault;
 use imap_link::link::Link;
 use mail_sides::logged_in::LoggedIn;
+use mailcore::keywords::Keywords;
 use mailcore::mailbox_name::MailboxName;
 use std::alloc::Global;
 
@@ -35,7 +39,8 @@ impl<L: Link + Drop> Sessions<L> {
             .is_some_and(|stands| stands.store.as_str() == store)
     }
 
-    /// Takes out the session at the server of this store. One at another is ended.
+    /// Takes out the session at the server of this store, by whichever map of keywords that is seen: to list mailboxes and to make them. One
+    /// at another is ended.
     pub(crate) fn take_at(&mut self, store: &str) -> Option<LoggedIn<L>> {
         let stands = self.standing.take()?;
         if stands.store.as_str() == store {
@@ -89,6 +94,25 @@ impl<L: Link + Drop> Sessions<L> {
     pub(crate) fn end(&mut self) {
         if let Some(stands) = self.standing.take() {
             log_out(stands.session);
+        }
+    }
+}
+
+impl<L: Link + Drop, W: Waits + Drop> Sessions<NotedLink<L, W>> {
+    /// Takes out the session at the server of this store, if the server is seen by this map of keywords. Any other is ended.
+    pub(crate) fn take_by(
+        &mut self,
+        store: &str,
+        keywords: &Keywords,
+    ) -> Option<LoggedIn<NotedLink<L, W>>>
+        ensures { IfSome result (λ s. s.session.wire.link.keywords ≡ keywords.now) }
+    {
+        let session = self.take_at(store)?;
+        if session.link().keywords().is_same(keywords) {
+            Some(session)
+        } else {
+            log_out(session);
+            None
         }
     }
 }

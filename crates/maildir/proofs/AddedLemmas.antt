@@ -12,7 +12,7 @@ use Rattle.maildir.specs.VisitedFolders.{AddsAlone}
 use Rattle.maildir.proofs.GainLemmas.{adds_more, adds_none}
 
 -- a reading before which nobody has added files
-pub read_anew : {T : Type 0} (v : Visitors) (states : T → Stored → Type 0) (old new : Seen Stored) (result : Result T DeviceFault) → Read (true ≡ true) states old new result → ReadAnew true v states old new result
+pub read_anew : {T : Type 0} (v : Visitors) (states : T → Stored → Type 0) (old new : Seen Stored) (result : Result T DeviceFault) → Read (Unit {0}) states old new result → ReadAnew (Unit {0}) v states old new result
 read_anew v states old new (Ok answer) went = record {
   was_whole = went.was_whole;
   is_whole = went.is_whole;
@@ -43,7 +43,7 @@ alone_more v s m n g h = (
 )
 
 -- a reading of a whole folder before which others have added files
-pub read_after : {T : Type 0} (v : Visitors) (states : T → Stored → Type 0) (old mid new : Seen Stored) (result : Result T DeviceFault) → old.is_broken ≡ false → AddsAlone v old mid → Read (true ≡ true) states mid new result → ReadAnew true v states old new result
+pub read_after : {T : Type 0} (v : Visitors) (states : T → Stored → Type 0) (old mid new : Seen Stored) (result : Result T DeviceFault) → old.is_broken ≡ false → AddsAlone v old mid → Read (Unit {0}) states mid new result → ReadAnew (Unit {0}) v states old new result
 read_after v states old mid new (Ok answer) whole adds went = record {
   was_whole = whole;
   is_whole = went.is_whole;
@@ -60,7 +60,7 @@ read_after v states old mid new (Err fault) whole adds halted = record {
 
 -- memory ran out before the names were read
 pub lacks_after : {T : Type 0} (v : Visitors) (states : T → Stored → Type 0) (old mid new : Seen Stored) → old.is_broken ≡ false → AddsAlone v old mid → new ≡ record mid { is_broken = true }
-    → ReadAnew {T = T} true v states old new (Err NoMemory)
+    → ReadAnew {T = T} (Unit {0}) v states old new (Err NoMemory)
 lacks_after v states old mid new whole adds is = record {
   is_broken = ap (λ (x : Seen Stored). x.is_broken) is;
   counted = λ is_stop. absurd (cc);

@@ -1,4 +1,7 @@
 pub mod AddedLemmas
+pub mod DiskCalls
+pub mod DiskCopying
+pub mod DiskListing
 pub mod FileLemmas
 pub mod GainLemmas
 pub mod IndexLemmas
@@ -9,4 +12,5 @@ pub mod PermutedLemmas
 pub mod PlaceLemmas
 pub mod SearchedLemmas
 pub mod SlotLemmas
+pub mod Walks
 pub mod ReportedLemmas

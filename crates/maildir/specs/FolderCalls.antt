@@ -1,5 +1,5 @@
 -- What a call on a folder does before which others may have added files.
-use Rattle.std.specs.Prelude.{◌≡◌, Bool, true, Result}
+use Rattle.std.specs.Prelude.{Result}
 use Rattle.device.specs.Calls.{Acts, Answers, Between, IsStop, Seen, Stays}
 use Rattle.device.specs.declared.DeviceFault.{DeviceFault}
 use Rattle.mailcore.specs.Visitors.{Visitors}
@@ -7,5 +7,5 @@ use Rattle.maildir.specs.Folders.{Stored}
 use Rattle.maildir.specs.Gains.{Adds}
 
 -- others add files, and then the call changes nothing and answers what is so
-abbrev pub ReadAnew : {T : Type 0} → Bool → Visitors → (states : T → Stored → Type 0) → Seen Stored → Seen Stored → Result T DeviceFault → Type 0
-ReadAnew is_honest visitors states = Acts (is_honest ≡ true) IsStop (Between (Adds visitors)) (Answers states) (λ fault. Stays)
+abbrev pub ReadAnew : {T : Type 0} → (honest : Type 0) → Visitors → (states : T → Stored → Type 0) → Seen Stored → Seen Stored → Result T DeviceFault → Type 0
+ReadAnew honest visitors states = Acts honest IsStop (Between (Adds visitors)) (Answers states) (λ fault. Stays)

@@ -1,3 +1,5 @@
+pub mod DiskEvents
+pub mod DiskExamples
 pub mod DiskFolders
 pub mod FlaggedNames
 pub mod FolderCalls

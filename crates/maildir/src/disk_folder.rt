@@ -1,40 +1,29 @@
 //! A Maildir folder on a disk.
 
-ghost use Rattle.std.specs.Prelude.{◌≡◌, ◌<◌, ◌^◌, ◌∷◌, [], IfOk};
+ghost use Rattle.std.specs.Prelude.{◌≡◌, ◌<◌, ◌^◌, ◌⊎◌, [], true, false, None, IfOk, OnOk, OnErr};
 ghost use Rattle.device.specs.Conditions.{disk_at};
+ghost use Rattle.mailcore.specs.CopyPieces.{text_left};
+ghost use Rattle.maildir.specs.DiskEvents.{Standing, with_copied};
+ghost use Rattle.maildir.specs.DiskFolders.{CopyBegins, Gained, KeptWord, asked_on_disk, is_synced_on_disk, standing};
+ghost use Rattle.maildir.specs.Folders.{Lists, Renames, bytes_of, listed, text_of, with_meta};
 
+use crate::disk_call::NameSync;
 use crate::disk_stop::{DiskStop, Part};
 use crate::folder::{FileName, Folder, Location, Origin, Place, Source};
 use crate::found_names::FoundNames;
-use crate::kinds::{file_size, is_something};
+use crate::recorded_disk::{COPY, META, NEXT_META, RecordedDisk};
 use crate::sure_names::sure_names;
 use device::DeviceFault;
-use device::disk::Disk;
 use device::trouble::Trouble;
 use mailcore::copy_pieces::CopyPieces;
-use std::alloc::{AllocError, Global};
-use std::cell::Cell;
-use std::fs::OpenFile;
+use std::alloc::AllocError;
 use std::io;
 use std::io::{BufWriter, ErrorKind, Write};
 use std::marker::Model;
-use std::path::Path;
 use std::rt::{Clock, Files};
-
-/// The file in the folder that keeps the mailbox's validity and next UID.
-pub const META: &str = ".uidvalidity";
-
-/// What the next meta file is written as, before it takes the old one's place.
-pub const NEXT_META: &str = ".uidvalidity.new";
-
-/// The copy that is being written.
-pub const COPY: &str = "tmp/mbsync.copy";
 
 /// How many bytes of a copy are gathered before they are written.
 const COPY_BUFFER: usize = 65_536;
-
-/// The most bytes that a message may have whose file is read: 64 MiB. A longer one is not fit to be copied, whatever it says.
-const READ_MAX: u64 = 67_108_864;
 
 /// A Maildir folder on a disk. A call stops where the system fails, and at a message whose name is no UTF-8.
 ///
@@ -43,13 +32,13 @@ const READ_MAX: u64 = 67_108_864;
 /// to files. A call that finds something else under such a name stops; where it was to be read, it is left alone from then on. Names
 /// are listed so that other programs that rename files do not shorten the list. A file of more than 64 MiB is never read: it stands as a
 /// single NUL, so it is not fit to be copied, bears no mark, and no part of it is copied. A copy and a meta file are written anew and
-/// synced before they get their names; the names themselves are synced by `sync` alone. Whether a disk gives back what was
-/// written no proof can say: so no contract promises what a real folder stores.
+/// synced before they get their names; the names themselves are synced by `sync` alone.
+///
+/// Each call of the system is noted with its answer, and what the folder stores is read off this record. Whether the answers are
+/// those of a folder to which others only add files no proof can say: that is a premise (`honest`) of what is proved.
 #[derive(Drop)]
 pub struct DiskFolder<R: Files + AllocGlobal + Clone + Drop> {
-    disk: Disk<R>,
-    /// Whether something that is no file was to be read under the name of a message.
-    has_odd: Cell<bool>,
+    disk: RecordedDisk<R>,
     /// The files that were left out when the names were listed last, since they cannot get a UID.
     left_out: Vec<FileName>,
     /// The files whose names were no Maildir names when the names were listed last.
@@ -59,9 +48,9 @@ pub struct DiskFolder<R: Files + AllocGlobal + Clone + Drop> {
 }
 
 impl<R: Files + AllocGlobal + Clone + Drop> Model for DiskFolder<R> {
-    ghost use Rattle.device.specs.Conditions.{DiskParts};
+    ghost use Rattle.maildir.specs.DiskFolders.{FolderParts};
 
-    ghost Value = { DiskParts };
+    ghost Value = { FolderParts };
 
     ghost view = { λ folder. folder.disk };
 }
@@ -69,13 +58,13 @@ impl<R: Files + AllocGlobal + Clone + Drop> Model for DiskFolder<R> {
 impl<R: Files + AllocGlobal + Clone + Drop> DiskFolder<R> {
     /// The folder at this path, which is looked at by the first call.
     pub fn new(rt: R, path: &str) -> Result<Self, AllocError>
-        ensures { IfOk result (λ folder. folder ≡ disk_at path.now) }
+        ensures disk { IfOk result (λ folder. folder.disk ≡ disk_at path.now) }
+        ensures honest { IfOk result (λ folder. KeptWord folder) }
     {
         let left_out = Vec::new(rt.alloc());
         let unspelled = Vec::new(rt.alloc());
         Ok(DiskFolder {
-            disk: Disk::new(rt, path)?,
-            has_odd: Cell::new(false),
+            disk: RecordedDisk::new(rt, path)?,
             left_out,
             unspelled,
             stop: None,
@@ -86,17 +75,18 @@ impl<R: Files + AllocGlobal + Clone + Drop> DiskFolder<R> {
     ///
     /// `Stopped`: the system fails.
     pub fn create(rt: R, path: &str) -> Result<Self, DeviceFault>
-        ensures { IfOk result (λ folder. folder ≡ disk_at path.now) }
+        ensures disk { IfOk result (λ folder. folder.disk ≡ disk_at path.now) }
+        ensures honest { IfOk result (λ folder. KeptWord folder) }
     {
         let mut folder = DiskFolder::new(rt, path)?;
-        let answer = folder.make();
+        let answer = folder.disk.make();
         folder.disk.report(answer)?;
         Ok(folder)
     }
 
     /// How many calls have stopped, up to the top of its type.
     pub fn stops(&self) -> usize
-        ensures { self.now.condition.stops < 2 ^ 64 → result ≡ self.now.condition.stops }
+        ensures { self.now.disk.condition.stops < 2 ^ 64 → result ≡ self.now.disk.condition.stops }
     {
         self.disk.stops()
     }
@@ -119,14 +109,31 @@ impl<R: Files + AllocGlobal + Clone + Drop> DiskFolder<R> {
     }
 
     // Writes a copy through one buffer, and syncs its bytes.
-    fn write_copy(&self, copy: CopyPieces<'_>) -> io::Result<()> {
-        let file = self.disk.new_file(COPY)?;
-        let mut writer = BufWriter::with_capacity(self.disk.rt().alloc(), COPY_BUFFER, file)?;
-        for piece in copy {
-            writer.write_all(piece)?;
-        }
-        writer.flush()?;
-        OpenFile::sync_all(writer.get_ref())
+    fn write_copy(&mut self, copy: CopyPieces<'_>) -> io::Result<()>
+        ensures disk { self.new.disk ≡ self.old.disk }
+        ensures was_honest { KeptWord self.new → KeptWord self.old }
+        ensures ok { OnOk result (standing self.new ≡ with_copied (text_left copy.entry) (standing self.old)) }
+        ensures err { OnErr result ((standing self.new ≡ standing self.old) ⊎ CopyBegins (text_left copy.entry) (standing self.old) (standing self.new)) }
+    {
+        let file = self.disk.make_copy()?;
+        let mut writer = BufWriter::with_capacity(self.disk.alloc(), COPY_BUFFER, file)?;
+        write_pieces(&mut self.disk, &mut writer, copy)?;
+        self.disk.sync_copy(&mut writer)
+    }
+
+    // Writes a new meta file, syncs it, and puts it in the place of the old one.
+    fn write_meta(&mut self, text: &[u8]) -> io::Result<()>
+        ensures disk { self.new.disk ≡ self.old.disk }
+        ensures was_honest { KeptWord self.new → KeptWord self.old }
+        ensures ok { OnOk result ((standing self.new).stored ≡ with_meta text.now (standing self.old).stored) }
+        ensures err { OnErr result (((standing self.new).stored ≡ (standing self.old).stored)
+            ⊎ ((standing self.new).stored ≡ with_meta text.now (standing self.old).stored)) }
+        ensures synced { OnOk result (is_synced_on_disk self.new ≡ false) }
+    {
+        let mut file = self.disk.make_next()?;
+        self.disk.grow_next(&mut file, text)?;
+        self.disk.sync_next(&file)?;
+        self.disk.replace_meta()
     }
 
     // Notes that a call stopped there, if one did.
@@ -143,7 +150,7 @@ impl<R: Files + AllocGlobal + Clone + Drop> DiskFolder<R> {
         ensures { self.new ≡ self.old }
     {
         if let Some(trouble) = self.disk.trouble() {
-            let part = Part::of_mail(self.disk.rt().alloc(), file);
+            let part = Part::of_mail(self.disk.alloc(), file);
             self.note_stop(part, trouble);
         }
     }
@@ -152,7 +159,7 @@ impl<R: Files + AllocGlobal + Clone + Drop> DiskFolder<R> {
     fn note_gone(&mut self, file: Location<'_>)
         ensures { self.new ≡ self.old }
     {
-        let part = Part::of_mail(self.disk.rt().alloc(), file);
+        let part = Part::of_mail(self.disk.alloc(), file);
         self.note_stop(part, Trouble::Missing);
     }
 
@@ -165,34 +172,10 @@ impl<R: Files + AllocGlobal + Clone + Drop> DiskFolder<R> {
         }
     }
 
-    fn make(&self) -> io::Result<()> {
-        for part in ["cur", "new", "tmp"] {
-            self.disk.make_folder(part)?;
-        }
-        Ok(())
-    }
-
-    fn is_there(&self) -> io::Result<bool> {
-        for part in ["cur", "new", "tmp"] {
-            if !self.disk.has_folder(part)? {
-                return Ok(false);
-            }
-        }
-        Ok(true)
-    }
-
-    // The part of the folder that a file of `new` or `cur` is.
-    fn part_of(&self, file: Location<'_>) -> io::Result<String> {
-        let folder = file.place.folder();
-        match str::from_utf8(file.name) {
-            Ok(name) => Ok(format!(in self.disk.rt().alloc(); "{folder}/{name}")?),
-            Err(_) => Err(io::Error::from(ErrorKind::InvalidFilename)),
-        }
-    }
-
     // Keeps what was found beside the names, and gives these.
     fn keep(&mut self, found: FoundNames) -> io::Result<Vec<FileName>>
-        ensures { self.new ≡ self.old }
+        ensures same { self.new ≡ self.old }
+        ensures all { IfOk result (λ names. (found.unreached ≡ None) × (names.items ≡ found.names.items)) }
     {
         let FoundNames {
             names,
@@ -211,116 +194,87 @@ impl<R: Files + AllocGlobal + Clone + Drop> DiskFolder<R> {
         }
     }
 
-    fn bytes_of(&self, file: Source<'_>) -> io::Result<Option<Vec<u8>>> {
+    // The bytes of a file, or none where it is missing.
+    fn bytes_of(&mut self, file: Source<'_>) -> io::Result<Option<Vec<u8>>>
+        ensures disk { self.new.disk ≡ self.old.disk }
+        ensures was_honest { KeptWord self.new → KeptWord self.old }
+        ensures same { standing self.new ≡ standing self.old }
+        ensures gives { IfOk result (λ bytes. KeptWord self.new → text_of bytes ≡ bytes_of file.entry (standing self.old).stored) }
+        ensures asked { asked_on_disk self.new ≡ asked_on_disk self.old }
+    {
         match file {
-            Source::Meta => self.disk.read_own(META),
-            Source::Mail(file) => self.mail_bytes(self.part_of(file)?.as_str()),
+            Source::Meta => self.disk.read_meta(),
+            Source::Mail(file) => self.disk.read_mail(file),
         }
     }
 
-    // The bytes of a message, or none where nothing stands. It is asked before it is opened, since a fifo would not answer, and one that
-    // is too long is not read. Where something else stands there, names are asked from then on.
-    fn mail_bytes(&self, part: &str) -> io::Result<Option<Vec<u8>>> {
-        match self.size(part) {
-            Ok(Some(size)) if size > READ_MAX => Ok(Some(unread(self.disk.rt().alloc())?)),
-            Ok(Some(size)) => self.disk.read(part, size),
-            Ok(None) => Ok(None),
-            Err(error) => {
-                self.has_odd.set(true);
-                Err(error)
-            }
-        }
-    }
-
-    // How many bytes the file or the symlink to a file has that stands in this part of the folder, or none where nothing stands.
-    // `InvalidInput`: something else does.
-    fn size(&self, part: &str) -> io::Result<Option<u64>> {
-        let path = self.disk.at(part)?;
-        let path = Path::new(path.as_str());
-        if let Some(size) = file_size(self.disk.rt(), path)? {
-            return Ok(Some(size));
-        }
-        if is_something(self.disk.rt(), path)? {
-            return Err(io::Error::from(ErrorKind::InvalidInput));
-        }
-        Ok(None)
-    }
-
-    // Looks whether a message stands there. `NotFound`: nothing does. `InvalidInput`: something else does.
-    fn check_file(&self, part: &str) -> io::Result<()> {
-        match self.size(part)? {
-            Some(_) => Ok(()),
-            None => Err(io::Error::from(ErrorKind::NotFound)),
-        }
-    }
-
-    fn give_name(&self, from: Origin<'_>, to: Location<'_>) -> io::Result<()> {
-        let to = self.part_of(to)?;
+    // Gives the copy or a message its name.
+    fn give_name(&mut self, from: Origin<'_>, to: Location<'_>) -> io::Result<()>
+        ensures disk { self.new.disk ≡ self.old.disk }
+        ensures was_honest { KeptWord self.new → KeptWord self.old }
+        ensures ok { OnOk result (KeptWord self.new → Renames from.entry to.entry (standing self.old).stored (standing self.new).stored) }
+        ensures err { OnErr result (((standing self.new).stored ≡ (standing self.old).stored)
+            ⊎ Renames from.entry to.entry (standing self.old).stored (standing self.new).stored) }
+        ensures synced { OnOk result (is_synced_on_disk self.new ≡ false) }
+    {
         match from {
-            Origin::Tmp => self.disk.rename(COPY, to.as_str()),
-            Origin::Delivered(file) => {
-                let from = self.part_of(file)?;
-                self.check_file(from.as_str())?;
-                self.disk.rename(from.as_str(), to.as_str())
-            }
+            Origin::Tmp => self.disk.place(to),
+            Origin::Delivered(file) => self.disk.rename(file, to),
         }
-    }
-
-    fn take_out(&self, file: Location<'_>) -> io::Result<()> {
-        let part = self.part_of(file)?;
-        self.check_file(part.as_str())?;
-        self.disk.remove(part.as_str())
     }
 
     // Syncs the names of messages and of the meta file.
-    fn sync_names(&self) -> io::Result<()> {
-        self.disk.sync_names_in(Place::Cur.folder())?;
-        self.disk.sync_names_in(Place::New.folder())?;
-        self.disk.sync_names()
+    fn sync_names(&mut self) -> io::Result<()>
+        ensures disk { self.new.disk ≡ self.old.disk }
+        ensures was_honest { KeptWord self.new → KeptWord self.old }
+        ensures same { standing self.new ≡ standing self.old }
+        ensures synced { OnOk result (is_synced_on_disk self.new ≡ true) }
+    {
+        self.disk.sync_names(NameSync::In(Place::Cur))?;
+        self.disk.sync_names(NameSync::In(Place::New))?;
+        self.disk.sync_names(NameSync::Whole)
     }
 }
 
 impl<R: Files + Clock + AllocGlobal + Clone + Drop> DiskFolder<R> {
-    // What stands in both folders, or none where a folder is missing.
-    fn listed(&self) -> io::Result<Option<FoundNames>> {
-        if self.is_there()? {
-            Ok(Some(sure_names(&self.disk, self.has_odd.get())?))
-        } else {
-            Ok(None)
+    // The names in both folders, or none where a folder is missing.
+    #[tactic(auto, using(crate::proofs::DiskListing::gained_none))]
+    fn listed(&mut self) -> io::Result<Option<Vec<FileName>>>
+        ensures gained { Gained self.old self.new }
+        ensures lists { IfOk result (λ names. KeptWord self.new → Lists (listed names) (standing self.new).stored) }
+    {
+        if !self.disk.is_there()? {
+            return Ok(None);
         }
+        let found = sure_names(&mut self.disk)?;
+        Ok(Some(self.keep(found)?))
     }
 }
 
 impl<R: Files + Clock + AllocGlobal + Clone + Drop> Folder for DiskFolder<R> {
-    ghost use Rattle.std.specs.Prelude.{false, true};
-    ghost use Rattle.maildir.specs.DiskFolders.{seen_on_disk};
+    ghost use Rattle.maildir.specs.DiskFolders.{KeptWord, asked_on_disk, is_synced_on_disk, seen_on_disk};
     ghost use Rattle.maildir.specs.Gains.{others};
 
-    ghost is_honest = { false };
+    ghost honest = { KeptWord };
 
     ghost visitors = { others };
 
     ghost seen = { seen_on_disk };
 
-    // No contract can say what a disk outlives.
-    ghost is_synced = { λ _. true };
+    ghost is_synced = { is_synced_on_disk };
 
-    // Nor is it honest, so nothing is counted.
-    ghost reads = { λ _. 0 };
+    ghost reads = { asked_on_disk };
 
     fn names(&mut self) -> Result<Option<Vec<FileName>>, DeviceFault> {
         self.disk.check()?;
-        let answer = match self.listed() {
-            Ok(Some(found)) => self.keep(found).map(Some),
-            Ok(None) => Ok(None),
-            Err(error) => Err(error),
-        };
+        let answer = self.listed();
         let answer = self.disk.report(answer);
         self.note(Part::Whole);
         answer
     }
 
     fn read(&mut self, file: Source<'_>) -> Result<Option<Vec<u8>>, DeviceFault> {
+        self.disk.ask();
         self.disk.check()?;
         let answer = self.bytes_of(file);
         let answer = self.disk.report(answer);
@@ -353,7 +307,7 @@ impl<R: Files + Clock + AllocGlobal + Clone + Drop> Folder for DiskFolder<R> {
 
     fn remove(&mut self, file: Location<'_>) -> Result<(), DeviceFault> {
         self.disk.check()?;
-        let answer = self.take_out(file);
+        let answer = self.disk.remove(file);
         let answer = self.disk.report(answer);
         self.note_mail(file);
         answer
@@ -361,7 +315,7 @@ impl<R: Files + Clock + AllocGlobal + Clone + Drop> Folder for DiskFolder<R> {
 
     fn replace_meta(&mut self, text: &[u8]) -> Result<(), DeviceFault> {
         self.disk.check()?;
-        let answer = self.disk.replace(META, NEXT_META, text);
+        let answer = self.write_meta(text);
         let answer = self.disk.report(answer);
         self.note(Part::Own(NEXT_META));
         answer
@@ -381,9 +335,19 @@ impl<R: Files + Clock + AllocGlobal + Clone + Drop> Folder for DiskFolder<R> {
     }
 }
 
-/// What stands for the bytes of a message that is too long to be read: no message with a NUL is fit to be copied.
-fn unread(alloc: Global) -> Result<Vec<u8>, AllocError>
-    ensures { IfOk result (λ bytes. bytes.items ≡ 0 ∷ []) }
+/// Hands the text of a copy on.
+fn write_pieces<R: Files + AllocGlobal + Clone + Drop, W: Write>(
+    disk: &mut RecordedDisk<R>,
+    writer: &mut W,
+    copy: CopyPieces<'_>,
+) -> io::Result<()>
+    ensures disk { disk.new.disk ≡ disk.old.disk }
+    ensures was_honest { KeptWord disk.new → KeptWord disk.old }
+    ensures ok { OnOk result ((s : Standing) → standing disk.old ≡ with_copied [] s → standing disk.new ≡ with_copied (text_left copy.entry) s) }
+    ensures err { OnErr result ((s : Standing) → standing disk.old ≡ with_copied [] s → CopyBegins (text_left copy.entry) s (standing disk.new)) }
 {
-    vec![in alloc; 0; 1]
+    for piece in copy {
+        disk.grow_copy(writer, piece)?;
+    }
+    Ok(())
 }

@@ -87,8 +87,8 @@ pub trait Folder {
     ghost use Rattle.maildir.specs.FolderCalls.{ReadAnew};
     ghost use Rattle.maildir.specs.Folders.{Stored, Lists, Begins, Removes, Renames, bytes_of, with_copy, with_meta, listed, text_of};
 
-    /// Whether the folder gives back what was written, and others do no more than to add files.
-    ghost is_honest: { Bool };
+    /// The folder has given back what was written so far, and others did no more than to add files.
+    ghost honest: { Self → Type 0 };
 
     /// The marks that others do not write, and whether nobody else adds files.
     ghost visitors: { Visitors };
@@ -106,39 +106,47 @@ pub trait Folder {
     /// The names of files in `new` and `cur`, in any order, or none where `new`, `cur` or `tmp` is missing. What others have added since
     /// the names were read last is among them.
     fn names(&mut self) -> Result<Option<Vec<FileName>>, DeviceFault>
-        ensures { ReadAnew is_honest visitors (λ names. Lists (listed names)) (seen self.old) (seen self.new) result };
+        ensures was_honest { honest self.new → honest self.old }
+        ensures call { ReadAnew (honest self.new) visitors (λ names. Lists (listed names)) (seen self.old) (seen self.new) result };
 
     /// The bytes of a file, or none where it is missing.
     fn read(&mut self, file: Source<'_>) -> Result<Option<Vec<u8>>, DeviceFault>
-        ensures counted { is_honest ≡ true → reads self.new ≡ reads self.old + 1 }
-        ensures call { Read (is_honest ≡ true) (λ bytes s. text_of bytes ≡ bytes_of file.entry s) (seen self.old) (seen self.new) result };
+        ensures was_honest { honest self.new → honest self.old }
+        ensures counted { honest self.new → reads self.new ≡ reads self.old + 1 }
+        ensures call { Read (honest self.new) (λ bytes s. text_of bytes ≡ bytes_of file.entry s) (seen self.old) (seen self.new) result };
 
     /// Writes a copy in `tmp`, over one that is there. A stopped one may leave any beginning of its bytes.
     fn write_tmp(&mut self, copy: CopyPieces<'_>) -> Result<(), DeviceFault>
-        ensures { Call (is_honest ≡ true) (λ s s'. s' ≡ with_copy (text_left copy.entry) s) (Begins (text_left copy.entry)) (seen self.old)
+        ensures was_honest { honest self.new → honest self.old }
+        ensures call { Call (honest self.new) (λ s s'. s' ≡ with_copy (text_left copy.entry) s) (Begins (text_left copy.entry)) (seen self.old)
             (seen self.new) result };
 
     /// Gives a file another name, in `new` or `cur`. A file that has that name already goes.
     fn rename(&mut self, from: Origin<'_>, to: Location<'_>) -> Result<(), DeviceFault>
-        ensures synced { is_honest ≡ true → OnOk result (is_synced self.new ≡ false) }
-        ensures call { Call (is_honest ≡ true) (Renames from.entry to.entry) Nothing (seen self.old) (seen self.new) result };
+        ensures was_honest { honest self.new → honest self.old }
+        ensures synced { honest self.new → OnOk result (is_synced self.new ≡ false) }
+        ensures call { Call (honest self.new) (Renames from.entry to.entry) Nothing (seen self.old) (seen self.new) result };
 
     /// Removes a file. One that is not there is none that was removed, so the call stops.
     fn remove(&mut self, file: Location<'_>) -> Result<(), DeviceFault>
-        ensures synced { is_honest ≡ true → OnOk result (is_synced self.new ≡ false) }
-        ensures call { Call (is_honest ≡ true) (Removes file.entry) Nothing (seen self.old) (seen self.new) result };
+        ensures was_honest { honest self.new → honest self.old }
+        ensures synced { honest self.new → OnOk result (is_synced self.new ≡ false) }
+        ensures call { Call (honest self.new) (Removes file.entry) Nothing (seen self.old) (seen self.new) result };
 
     /// Replaces the meta file's text by this one.
     fn replace_meta(&mut self, text: &[u8]) -> Result<(), DeviceFault>
-        ensures synced { is_honest ≡ true → OnOk result (is_synced self.new ≡ false) }
-        ensures call { Call (is_honest ≡ true) (λ s s'. s' ≡ with_meta text.now s) Nothing (seen self.old) (seen self.new) result };
+        ensures was_honest { honest self.new → honest self.old }
+        ensures synced { honest self.new → OnOk result (is_synced self.new ≡ false) }
+        ensures call { Call (honest self.new) (λ s s'. s' ≡ with_meta text.now s) Nothing (seen self.old) (seen self.new) result };
 
     /// Makes what was renamed, removed and replaced so far outlive a loss of power.
     fn sync(&mut self) -> Result<(), DeviceFault>
+        ensures was_honest { honest self.new → honest self.old }
         ensures synced { OnOk result (is_synced self.new ≡ true) }
-        ensures call { Rest (is_honest ≡ true) (seen self.old) (seen self.new) result };
+        ensures call { Rest (honest self.new) (seen self.old) (seen self.new) result };
 
     /// Opens the folder again, so that calls are answered again.
     fn reopen(&mut self)
-        ensures { Reopens (seen self.old) (seen self.new) };
+        ensures was_honest { honest self.new → honest self.old }
+        ensures call { Reopens (seen self.old) (seen self.new) };
 }

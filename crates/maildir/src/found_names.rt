@@ -1,6 +1,6 @@
 //! What one reading of the names in `new` and `cur` found: messages, files that wait for a UID, and files that can get none.
 
-ghost use Rattle.std.specs.Prelude.{◌≡◌, ℕ, List, is_some};
+ghost use Rattle.std.specs.Prelude.{◌≡◌, ◌++◌, ℕ, List, None, is_some, IfOk};
 ghost use Rattle.std.specs.Option.{option_map};
 ghost use Rattle.maildir.specs.Names.{is_waiting, name_of, parts_of, uid_in};
 
@@ -46,22 +46,40 @@ enum TakenName {
 }
 
 impl FoundNames {
-    /// What stands in both folders. Where `asks_all` is false, what has the name of a message is taken to be one: to ask would be a call
-    /// of the system for each message.
+    /// What stands in one of the folders. Where `asks_all` is false, what has the name of a message is taken to be one: to ask would be a
+    /// call of the system for each message.
     pub(crate) fn read<R: Files + AllocGlobal + Clone + Drop>(
         disk: &Disk<R>,
         asks_all: bool,
+        place: Place,
     ) -> io::Result<Self> {
         let mut found = FoundNames::new(disk.rt().alloc());
-        for place in [Place::New, Place::Cur] {
-            let mut path = disk.at(place.folder())?;
-            path.push('/')?;
-            for name in entries_in(disk.rt(), path.as_str())? {
-                let taken = how_taken(disk, asks_all, path.as_str(), name.as_slice())?;
-                found.add(taken, FileName { place, name })?;
-            }
+        let mut path = disk.at(place.folder())?;
+        path.push('/')?;
+        for name in entries_in(disk.rt(), path.as_str())? {
+            let taken = how_taken(disk, asks_all, path.as_str(), name.as_slice())?;
+            found.add(taken, FileName { place, name })?;
         }
         Ok(found)
+    }
+
+    /// What was found in this folder and in the other one.
+    pub(crate) fn and(self, other: FoundNames) -> io::Result<Self>
+        ensures names { IfOk result (λ both. both.names.items ≡ self.names.items ++ other.names.items) }
+        ensures reached { IfOk result (λ both. both.unreached ≡ None → (self.unreached ≡ None) × (other.unreached ≡ None)) }
+    {
+        let mut both = self;
+        let FoundNames {
+            mut names,
+            mut left_out,
+            mut unspelled,
+            unreached,
+        } = other;
+        both.names.append(&mut names)?;
+        both.left_out.append(&mut left_out)?;
+        both.unspelled.append(&mut unspelled)?;
+        both.unreached = both.unreached.or(unreached);
+        Ok(both)
     }
 
     fn new(alloc: Global) -> Self {

@@ -2,7 +2,10 @@
 #![tactic(auto)]
 
 mod changes;
+pub mod disk_call;
 pub mod disk_folder;
+pub mod disk_laws;
+pub mod disk_record;
 pub mod disk_stop;
 mod entries;
 pub mod file_list;
@@ -16,6 +19,7 @@ pub mod mem_folder;
 pub mod meta;
 pub mod name;
 mod name_index;
+mod recorded_disk;
 pub mod standing;
 mod sure_names;
 pub mod visited_folder;

@@ -169,7 +169,7 @@ impl MemFolder {
 
     // The names of its files, or none where the three folders are not there.
     pub(crate) fn read_names(&mut self) -> Result<Option<Vec<FileName>>, DeviceFault>
-        ensures { Read (true ≡ true) (λ names. Lists (listed names)) (seen_of self.old) (seen_of self.new) result }
+        ensures { Read (Unit {0}) (λ names. Lists (listed names)) (seen_of self.old) (seen_of self.new) result }
     {
         if self.stopping.begin(FolderCall::Names)?.is_some() {
             return Err(self.stopping.stop());
@@ -256,7 +256,7 @@ impl Folder for MemFolder {
     ghost use Rattle.maildir.specs.Gains.{nobody};
     ghost use Rattle.maildir.specs.MemFolders.{seen_of};
 
-    ghost is_honest = { true };
+    ghost honest = { λ _. Unit {0} };
 
     ghost visitors = { nobody };
 

@@ -5,10 +5,13 @@
 //! same, and older than the disk's notion of time is fine, nothing was renamed meanwhile. A disk whose times are whole seconds costs one
 //! reading more, a second later.
 
-use crate::changes::{Changes, now};
-use crate::folder::FileName;
+ghost use Rattle.std.specs.Prelude.{◌≡◌, None, IfOk};
+ghost use Rattle.maildir.specs.DiskFolders.{Gained, KeptWord, ListsAll};
+
+use crate::changes::now;
+use crate::folder::{FileName, Place};
 use crate::found_names::FoundNames;
-use device::disk::Disk;
+use crate::recorded_disk::RecordedDisk;
 use std::alloc::Global;
 use std::io::ErrorKind;
 use std::rt::{Clock, Files};
@@ -23,18 +26,21 @@ const READINGS: u32 = 10;
 /// is sure after one more such reading.
 ///
 /// `ResourceBusy`: names changed in each of ten readings.
+#[tactic(auto, using(crate::proofs::DiskListing::gained_none))]
 pub(crate) fn sure_names<R: Files + Clock + AllocGlobal + Clone + Drop>(
-    disk: &Disk<R>,
-    asks_all: bool,
-) -> io::Result<FoundNames> {
-    let alloc = disk.rt().alloc();
+    disk: &mut RecordedDisk<R>,
+) -> io::Result<FoundNames>
+    ensures gained { Gained disk.old disk.new }
+    ensures lists { IfOk result (λ found. found.unreached ≡ None → KeptWord disk.new → ListsAll found.names.items disk.new) }
+{
+    let alloc = disk.alloc();
     let mut shown = Vec::new(alloc);
     for _ in 0..READINGS {
         let NameReading {
             found,
             is_sure,
             grain,
-        } = NameReading::make(disk, asks_all)?;
+        } = NameReading::make(disk)?;
         if is_sure {
             if are_all_among(alloc, &shown, &found.names)? {
                 return Ok(found);
@@ -60,20 +66,35 @@ struct NameReading {
 }
 
 impl NameReading {
+    #[tactic(auto, using(crate::proofs::DiskListing::gained_none))]
     fn make<R: Files + Clock + AllocGlobal + Clone + Drop>(
-        disk: &Disk<R>,
-        asks_all: bool,
-    ) -> io::Result<Self> {
+        disk: &mut RecordedDisk<R>,
+    ) -> io::Result<Self>
+        ensures gained { Gained disk.old disk.new }
+        ensures lists { IfOk result (λ reading. reading.found.unreached ≡ None → KeptWord disk.new → ListsAll reading.found.names.items disk.new) }
+    {
         let begun = now(disk.rt())?;
-        let before = Changes::of(disk)?;
-        let found = FoundNames::read(disk, asks_all)?;
-        let after = Changes::of(disk)?;
+        let before = disk.changes()?;
+        let found = read_both(disk)?;
+        let after = disk.changes()?;
         Ok(NameReading {
             found,
             is_sure: before.would_show_another(begun) && before == after,
             grain: after.grain(),
         })
     }
+}
+
+/// What stands in both folders, read once.
+fn read_both<R: Files + AllocGlobal + Clone + Drop>(
+    disk: &mut RecordedDisk<R>,
+) -> io::Result<FoundNames>
+    ensures gained { Gained disk.old disk.new }
+    ensures lists { IfOk result (λ found. found.unreached ≡ None → KeptWord disk.new → ListsAll found.names.items disk.new) }
+{
+    let new = disk.list(Place::New)?;
+    let cur = disk.list(Place::Cur)?;
+    new.and(cur)
 }
 
 /// Whether each of these messages stands among others, in whatever folder and under whatever flags.

@@ -131,7 +131,7 @@ impl<O: Others> VisitedFolder<O> {
     // The names, with what has come.
     fn names_anew(&mut self) -> Result<Option<Vec<FileName>>, DeviceFault>
         requires whole { self.old.is_broken ≡ false }
-        ensures { ReadAnew true (others_but O.ours) (λ names. Lists (listed names)) (seen_of self.old.folder) (seen_of self.new.folder) result }
+        ensures { ReadAnew (Unit {0}) (others_but O.ours) (λ names. Lists (listed names)) (seen_of self.old.folder) (seen_of self.new.folder) result }
     {
         if self.take_in().is_err() {
             self.is_broken = true;
@@ -148,7 +148,7 @@ impl<O: Others> Folder for VisitedFolder<O> {
     ghost use Rattle.mailcore.specs.Visitors.{others_but};
     ghost use Rattle.maildir.specs.MemFolders.{seen_of};
 
-    ghost is_honest = { true };
+    ghost honest = { λ _. Unit {0} };
 
     ghost visitors = { others_but O.ours };
 

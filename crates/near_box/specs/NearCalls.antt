@@ -3,9 +3,7 @@ use Rattle.std.specs.Prelude.{◌≡◌, ℕ, ◌+◌, ◌<◌, ◌≤◌, ◌�
 use Rattle.device.specs.Calls.{Seen}
 use Rattle.device.specs.declared.DeviceFault.TheVariants.{Stopped as DeviceStopped, NoMemory as DeviceNoMemory}
 use Rattle.mailcore.specs.declared.keywords.Keyword.{Keyword}
-use Rattle.mailcore.specs.Visitors.{Visitors}
 use Rattle.maildir.specs.Folders.{Stored}
-use Rattle.maildir.specs.Gains.{Adds}
 use Rattle.near_box.specs.declared.near_fault.NearFault.{NearFault}
 use Rattle.near_box.specs.declared.near_fault.NearFault.TheVariants.{Stopped, Absent, TwoWithOneUid, BadMeta, UidsExhausted, NoMemory}
 use Rattle.near_box.specs.declared.read_fault.ReadFault.{ReadFault}
@@ -114,8 +112,3 @@ Looks old new (Err UidsExhausted) = ⊥
 abbrev pub Opens : {B F : Type 0} → (B → Seen Stored) → (F → Seen Stored) → Seen Stored → Result B (NearFault × F) → Type 0
 Opens of_box of_folder old (Ok box) = Looks {T = Unit {0}} old (of_box box) (Ok tt)
 Opens of_box of_folder old (Err fault) = Looks {T = Unit {0}} old (of_folder fault.1) (Err fault.0)
-
--- others may have added files
-abbrev pub Gathers : {B F : Type 0} → Visitors → (B → Seen Stored) → (F → Seen Stored) → Seen Stored → Result B (NearFault × F) → Type 0
-Gathers visitors of_box of_folder old (Ok box) = Adds visitors old.stored (of_box box).stored
-Gathers visitors of_box of_folder old (Err fault) = Adds visitors old.stored (of_folder fault.1).stored

@@ -1,7 +1,7 @@
 -- What the calls of the near mailbox answer, and what they do to the mailbox that stands in its folder.
 use Rattle.std.specs.Prelude.{◌≡◌, ◌⊎◌, ℕ, true, false, Result, Ok, Err}
 use Rattle.mailcore.specs.Mailboxes.{Mailbox}
-use Rattle.device.specs.Calls.{Effect, Seen}
+use Rattle.device.specs.Calls.{Effect}
 use Rattle.near_box.specs.declared.near_fault.NearFault.{NearFault}
 use Rattle.near_box.specs.declared.near_fault.NearFault.TheVariants.{Stopped, Absent, TwoWithOneUid, BadMeta, UidsExhausted, NoMemory}
 use Rattle.maildir.specs.Folders.{Stored}
@@ -18,12 +18,7 @@ ReportsWhy fresh s BadMeta = (s.is_there ≡ true) × AreDistinct (uids_in s.fil
 ReportsWhy fresh s UidsExhausted = ⊥
 ReportsWhy fresh s NoMemory = Unit {0}
 
--- what opening a box says of the folder, which comes back beside a fault
-abbrev pub Reports : {B F : Type 0} → (fresh : ℕ) → (B → Seen Stored) → (F → Seen Stored) → Result B (NearFault × F) → Type 0
-Reports fresh of_box of_folder (Ok box) = IsMailbox fresh (of_box box).stored
-Reports fresh of_box of_folder (Err fault) = ReportsWhy fresh (of_folder fault.1).stored fault.0
-
--- the same of a box that has its folder already
+-- what opening a box says of its folder
 abbrev pub ReportsOf : {T : Type 0} → (fresh : ℕ) → Stored → Result T NearFault → Type 0
 ReportsOf fresh s (Ok answer) = IsMailbox fresh s
 ReportsOf fresh s (Err fault) = ReportsWhy fresh s fault

@@ -14,13 +14,14 @@ impl<F: Folder> NearBox<F> {
 
     /// A call begins: the box counts as failed until it has ended well.
     pub(crate) fn begin(&mut self) -> Result<(), NearFault>
+        ensures was_honest { F.honest self.new.folder → F.honest self.old.folder }
         ensures folder { self.new.folder ≡ self.old.folder }
         ensures ready { OnOk result (self.old.is_ready ≡ true) }
         ensures failed { IfErr result (λ fault. (fault ≡ NearFault.Stopped) × (self.old.is_ready ≡ false)) }
         ensures begun { self.new.is_ready ≡ false }
         ensures same { (self.new.survey ≡ self.old.survey) × (self.new.fresh ≡ self.old.fresh) × (self.new.missed ≡ self.old.missed) }
         ensures keywords { self.new.keywords ≡ self.old.keywords }
-        ensures surveys { F.is_honest ≡ true → OnOk result (Surveys self.new.survey self.new.fresh self.new.keywords (stored_in self.new)) }
+        ensures surveys { F.honest self.new.folder → OnOk result (Surveys self.new.survey self.new.fresh self.new.keywords (stored_in self.new)) }
     {
         if !self.is_ready {
             return Err(NearFault::Stopped);
@@ -31,6 +32,7 @@ impl<F: Folder> NearBox<F> {
 
     /// What a fault in reading is to the caller: a file that is gone is a stop, which the box counts.
     pub(crate) fn failed(&mut self, fault: ReadFault) -> NearFault
+        ensures was_honest { F.honest self.new.folder → F.honest self.old.folder }
         ensures folder { self.new.folder ≡ self.old.folder }
         ensures same { (self.new.is_ready ≡ self.old.is_ready) × (self.new.fresh ≡ self.old.fresh) }
         ensures keywords { self.new.keywords ≡ self.old.keywords }

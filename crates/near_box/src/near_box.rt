@@ -64,7 +64,7 @@ pub struct NearBox<F: Folder> {
     pub ghost is_whole: { is_ready ≡ true → (F.seen folder).is_broken ≡ false },
     pub ghost has_numbers: { (0 < survey.meta.validity) × (0 < survey.meta.next) },
     pub ghost has_fresh: { (0 < fresh) × (fresh < 2 ^ 32) },
-    pub ghost surveys: { is_ready ≡ true → F.is_honest ≡ true → Surveys survey fresh keywords (F.seen folder).stored } by { Prim.hlevel props },
+    pub ghost surveys: { is_ready ≡ true → F.honest folder → Surveys survey fresh keywords (F.seen folder).stored } by { Prim.hlevel props },
 }
 
 impl<F: Folder> NearBox<F> {
@@ -76,7 +76,7 @@ impl<F: Folder> NearBox<F> {
 
     /// The validity of the mailbox and its next UID.
     pub fn meta(&self) -> Meta
-        ensures mailbox { F.is_honest ≡ true → self.now.is_ready ≡ true → IsMetaOf (mailbox_of self.now).store result }
+        ensures mailbox { F.honest self.now.folder → self.now.is_ready ≡ true → IsMetaOf (mailbox_of self.now).store result }
         ensures positive { (0 < result.validity) × (0 < result.next) }
     {
         self.survey.meta
@@ -86,9 +86,11 @@ impl<F: Folder> NearBox<F> {
     ///
     /// `Stopped`: the file of a message is gone, too.
     pub fn list(&mut self) -> Result<Listing, NearFault>
-        ensures shows { F.is_honest ≡ true → IfOk result (λ listing. Shows Side.Near (mailbox_of self.old).store listing) }
+        ensures was_honest { F.honest self.new.folder → F.honest self.old.folder }
+        ensures shows { F.honest self.new.folder → IfOk result (λ listing. Shows Side.Near (mailbox_of self.old).store listing) }
         ensures numbers { IfOk result (λ listing. (0 < listing.validity) × (0 < listing.next)) }
-        ensures keeps { F.is_honest ≡ true → (stored_in self.new ≡ stored_in self.old) × (length self.new.missed.items ≡ length self.old.missed.items) }
+        ensures keeps { F.honest self.new.folder
+            → (stored_in self.new ≡ stored_in self.old) × (length self.new.missed.items ≡ length self.old.missed.items) }
         ensures ends { Ends false (box_of self.old) (box_of self.new) result }
     {
         self.list_sparing(&Spared::none(self.alloc))
@@ -96,14 +98,17 @@ impl<F: Folder> NearBox<F> {
 
     /// The same, where those that are spared are said to be fit and are not read: where there are no others, the folder is not called.
     pub fn list_sparing(&mut self, spared: &Spared) -> Result<Listing, NearFault>
-        ensures shows { F.is_honest ≡ true
+        ensures was_honest { F.honest self.new.folder → F.honest self.old.folder }
+        ensures shows { F.honest self.new.folder
             → IfOk result (λ listing. ShowsSparing Side.Near (spares spared.now) (mailbox_of self.old).store listing) }
         ensures numbers { IfOk result (λ listing. (0 < listing.validity) × (0 < listing.next)) }
-        ensures keeps { F.is_honest ≡ true → (stored_in self.new ≡ stored_in self.old) × (length self.new.missed.items ≡ length self.old.missed.items) }
-        ensures asked { F.is_honest ≡ true → OnOk result (F.reads self.new.folder
+        ensures keeps { F.honest self.new.folder
+            → (stored_in self.new ≡ stored_in self.old) × (length self.new.missed.items ≡ length self.old.missed.items) }
+        ensures asked { F.honest self.new.folder → OnOk result (F.reads self.new.folder
             ≡ F.reads self.old.folder + length (asked (spares spared.now) (mailbox_of self.old).store.messages)) }
         ensures untouched { AreSpared (spares spared.now) self.old.survey.entries.items → self.new.folder ≡ self.old.folder }
-        ensures known { F.is_honest ≡ true → asked (spares spared.now) (mailbox_of self.old).store.messages ≡ [] → self.new.folder ≡ self.old.folder }
+        ensures known { F.honest self.new.folder
+            → asked (spares spared.now) (mailbox_of self.old).store.messages ≡ [] → self.new.folder ≡ self.old.folder }
         ensures ends { Ends false (box_of self.old) (box_of self.new) result }
     {
         self.begin()?;
@@ -127,9 +132,10 @@ impl<F: Folder> NearBox<F> {
 
     /// The bytes of a message, or none where it is not there. They are lent until the next call.
     pub fn fetch(&mut self, uid: Uid) -> Result<Option<&[u8]>, NearFault>
-        ensures bytes { F.is_honest ≡ true → IfOk result (λ found. option_map (λ b. b.now) found ≡ bytes_of uid (mailbox_of self.old).store) }
         ensures* following { sem 𝓛 (follows_so (the_row F.row F.Folder) (the_row F.row F.Folder) self.entry.ghost_name none (λ _ _. ⊤)
-            (λ after. (F.is_honest ≡ true → (stored_in after ≡ stored_in self.old) × (length after.missed.items ≡ length self.old.missed.items))
+            (λ after. (F.honest after.folder → F.honest self.old.folder)
+            × (F.honest after.folder → IfOk result (λ found. option_map (λ b. b.now) found ≡ bytes_of uid (mailbox_of self.old).store))
+            × (F.honest after.folder → (stored_in after ≡ stored_in self.old) × (length after.missed.items ≡ length self.old.missed.items))
             × Ends false (box_of self.old) (box_of after) result)) }
     {
         if self.load(uid)? {
@@ -141,9 +147,11 @@ impl<F: Folder> NearBox<F> {
 
     /// Reads the bytes of a message, which `body` then lends, and says whether it is there.
     pub fn load(&mut self, uid: Uid) -> Result<bool, NearFault>
-        ensures bytes { F.is_honest ≡ true
+        ensures was_honest { F.honest self.new.folder → F.honest self.old.folder }
+        ensures bytes { F.honest self.new.folder
             → IfOk result (λ is_there. bytes_of uid (mailbox_of self.old).store ≡ (if is_there then Some self.new.body.items else None)) }
-        ensures keeps { F.is_honest ≡ true → (stored_in self.new ≡ stored_in self.old) × (length self.new.missed.items ≡ length self.old.missed.items) }
+        ensures keeps { F.honest self.new.folder
+            → (stored_in self.new ≡ stored_in self.old) × (length self.new.missed.items ≡ length self.old.missed.items) }
         ensures ends { Ends false (box_of self.old) (box_of self.new) result }
     {
         self.begin()?;
@@ -170,8 +178,10 @@ impl<F: Folder> NearBox<F> {
 
     /// The least UID of at least `from` whose message has the mark: one `read` for each message from there on whose mark is not known.
     pub fn find_mark(&mut self, mark: Tuid, from: u32) -> Result<Option<Uid>, NearFault>
-        ensures found { F.is_honest ≡ true → IfOk result (λ found. found ≡ marked_from mark from (mailbox_of self.old).store) }
-        ensures keeps { F.is_honest ≡ true → (stored_in self.new ≡ stored_in self.old) × (length self.new.missed.items ≡ length self.old.missed.items) }
+        ensures was_honest { F.honest self.new.folder → F.honest self.old.folder }
+        ensures found { F.honest self.new.folder → IfOk result (λ found. found ≡ marked_from mark from (mailbox_of self.old).store) }
+        ensures keeps { F.honest self.new.folder
+            → (stored_in self.new ≡ stored_in self.old) × (length self.new.missed.items ≡ length self.old.missed.items) }
         ensures ends { Ends false (box_of self.old) (box_of self.new) result }
     {
         self.begin()?;
@@ -193,10 +203,14 @@ impl<F: Folder> NearBox<F> {
     /// Sets these flags of a message, those of them that have a name by the map: one `rename`, or none where the name stays or the message
     /// is not there. Letters that stand for no such flag stay in the name of its file.
     pub fn add_flags(&mut self, uid: Uid, flags: Flags) -> Result<(), NearFault>
-        ensures files { F.is_honest ≡ true → TurnsFiles (flagged_files self.old.keywords (λ f. union f flags) uid) Nothing self.old self.new result }
-        ensures effect { F.is_honest ≡ true → TurnsMailbox (on_store (flags_added uid (kept self.old.keywords flags))) Nothing self.old self.new result }
-        ensures mailbox { F.is_honest ≡ true → IsMailbox self.old.fresh (stored_in self.old) → IsMailbox self.old.fresh (stored_in self.new) }
-        ensures untouched { F.is_honest ≡ true → flagged_files self.old.keywords (λ f. union f flags) uid (stored_in self.old) ≡ stored_in self.old
+        ensures was_honest { F.honest self.new.folder → F.honest self.old.folder }
+        ensures files { F.honest self.new.folder
+            → TurnsFiles (flagged_files self.old.keywords (λ f. union f flags) uid) Nothing self.old self.new result }
+        ensures effect { F.honest self.new.folder
+            → TurnsMailbox (on_store (flags_added uid (kept self.old.keywords flags))) Nothing self.old self.new result }
+        ensures mailbox { F.honest self.new.folder → IsMailbox self.old.fresh (stored_in self.old) → IsMailbox self.old.fresh (stored_in self.new) }
+        ensures untouched { F.honest self.new.folder
+            → flagged_files self.old.keywords (λ f. union f flags) uid (stored_in self.old) ≡ stored_in self.old
             → seen_in self.new ≡ seen_in self.old }
         ensures ends { Ends false (box_of self.old) (box_of self.new) result }
     {
@@ -205,10 +219,14 @@ impl<F: Folder> NearBox<F> {
 
     /// Clears these flags of a message, as `add_flags` sets them.
     pub fn remove_flags(&mut self, uid: Uid, flags: Flags) -> Result<(), NearFault>
-        ensures files { F.is_honest ≡ true → TurnsFiles (flagged_files self.old.keywords (λ f. minus f flags) uid) Nothing self.old self.new result }
-        ensures effect { F.is_honest ≡ true → TurnsMailbox (on_store (flags_removed uid (kept self.old.keywords flags))) Nothing self.old self.new result }
-        ensures mailbox { F.is_honest ≡ true → IsMailbox self.old.fresh (stored_in self.old) → IsMailbox self.old.fresh (stored_in self.new) }
-        ensures untouched { F.is_honest ≡ true → flagged_files self.old.keywords (λ f. minus f flags) uid (stored_in self.old) ≡ stored_in self.old
+        ensures was_honest { F.honest self.new.folder → F.honest self.old.folder }
+        ensures files { F.honest self.new.folder
+            → TurnsFiles (flagged_files self.old.keywords (λ f. minus f flags) uid) Nothing self.old self.new result }
+        ensures effect { F.honest self.new.folder
+            → TurnsMailbox (on_store (flags_removed uid (kept self.old.keywords flags))) Nothing self.old self.new result }
+        ensures mailbox { F.honest self.new.folder → IsMailbox self.old.fresh (stored_in self.old) → IsMailbox self.old.fresh (stored_in self.new) }
+        ensures untouched { F.honest self.new.folder
+            → flagged_files self.old.keywords (λ f. minus f flags) uid (stored_in self.old) ≡ stored_in self.old
             → seen_in self.new ≡ seen_in self.old }
         ensures ends { Ends false (box_of self.old) (box_of self.new) result }
     {
@@ -217,11 +235,15 @@ impl<F: Folder> NearBox<F> {
 
     // Changes the flags of a message.
     fn change_flags(&mut self, uid: Uid, change: FlagChange) -> Result<(), NearFault>
-        ensures files { F.is_honest ≡ true → TurnsFiles (flagged_files self.old.keywords (changed_flags change) uid) Nothing self.old self.new result }
-        ensures effect { F.is_honest ≡ true → TurnsMailbox (on_store (flagged (changed_flags (kept_change self.old.keywords change)) uid)) Nothing
+        ensures was_honest { F.honest self.new.folder → F.honest self.old.folder }
+        ensures files { F.honest self.new.folder
+            → TurnsFiles (flagged_files self.old.keywords (changed_flags change) uid) Nothing self.old self.new result }
+        ensures effect { F.honest self.new.folder
+            → TurnsMailbox (on_store (flagged (changed_flags (kept_change self.old.keywords change)) uid)) Nothing
             self.old self.new result }
-        ensures mailbox { F.is_honest ≡ true → IsMailbox self.old.fresh (stored_in self.old) → IsMailbox self.old.fresh (stored_in self.new) }
-        ensures untouched { F.is_honest ≡ true → flagged_files self.old.keywords (changed_flags change) uid (stored_in self.old) ≡ stored_in self.old
+        ensures mailbox { F.honest self.new.folder → IsMailbox self.old.fresh (stored_in self.old) → IsMailbox self.old.fresh (stored_in self.new) }
+        ensures untouched { F.honest self.new.folder
+            → flagged_files self.old.keywords (changed_flags change) uid (stored_in self.old) ≡ stored_in self.old
             → seen_in self.new ≡ seen_in self.old }
         ensures ends { Ends false (box_of self.old) (box_of self.new) result }
     {
@@ -239,9 +261,9 @@ impl<F: Folder> NearBox<F> {
     /// Whether a message is there and marked as deleted, by the name of its file as it was surveyed, or as the box has renamed it since. The
     /// folder is not called.
     pub fn is_deleted(&self, uid: Uid) -> bool
-        ensures marked { F.is_honest ≡ true → self.now.is_ready ≡ true
+        ensures marked { F.honest self.now.folder → self.now.is_ready ≡ true
             → All (λ m. m.uid ≡ uid → has m.flags DELETED ≡ result) (mailbox_of self.now).store.messages }
-        ensures missing { F.is_honest ≡ true → self.now.is_ready ≡ true → All (λ m. m.uid ≢ uid) (mailbox_of self.now).store.messages
+        ensures missing { F.honest self.now.folder → self.now.is_ready ≡ true → All (λ m. m.uid ≢ uid) (mailbox_of self.now).store.messages
             → result ≡ false }
     {
         is_deleted(&self.survey.entries, uid, &self.keywords)
@@ -249,10 +271,11 @@ impl<F: Folder> NearBox<F> {
 
     /// Removes messages: one `remove` for each that is there.
     pub fn expunge(&mut self, uids: &[Uid]) -> Result<(), NearFault>
-        ensures files { F.is_honest ≡ true → TurnsFiles (without_uids uids.now) (RemovesSome uids.now) self.old self.new result }
-        ensures effect { F.is_honest ≡ true → TurnsMailbox (on_store (expunged uids.now)) (ExpungesSome uids.now) self.old self.new result }
-        ensures mailbox { F.is_honest ≡ true → IsMailbox self.old.fresh (stored_in self.old) → IsMailbox self.old.fresh (stored_in self.new) }
-        ensures untouched { F.is_honest ≡ true → without_uids uids.now (stored_in self.old) ≡ stored_in self.old
+        ensures was_honest { F.honest self.new.folder → F.honest self.old.folder }
+        ensures files { F.honest self.new.folder → TurnsFiles (without_uids uids.now) (RemovesSome uids.now) self.old self.new result }
+        ensures effect { F.honest self.new.folder → TurnsMailbox (on_store (expunged uids.now)) (ExpungesSome uids.now) self.old self.new result }
+        ensures mailbox { F.honest self.new.folder → IsMailbox self.old.fresh (stored_in self.old) → IsMailbox self.old.fresh (stored_in self.new) }
+        ensures untouched { F.honest self.new.folder → without_uids uids.now (stored_in self.old) ≡ stored_in self.old
             → seen_in self.new ≡ seen_in self.old }
         ensures ends { Ends false (box_of self.old) (box_of self.new) result }
     {
@@ -269,14 +292,15 @@ impl<F: Folder> NearBox<F> {
     ///
     /// `UidsExhausted`: there is no UID left.
     pub fn append_copy(&mut self, copy: CopyPieces<'_>, flags: Flags) -> Result<Uid, NearFault>
-        ensures uid { F.is_honest ≡ true → IfOk result (λ uid. uid ≡ (mailbox_of self.old).store.next) }
-        ensures exhausted { F.is_honest ≡ true
+        ensures was_honest { F.honest self.new.folder → F.honest self.old.folder }
+        ensures uid { F.honest self.new.folder → IfOk result (λ uid. uid ≡ (mailbox_of self.old).store.next) }
+        ensures exhausted { F.honest self.new.folder
             → IsErrOf result NearFault.UidsExhausted ↔ ((self.old.is_ready ≡ true) × ((mailbox_of self.old).store.next + 1 ≡ 2 ^ 32)) }
-        ensures effect { F.is_honest ≡ true
+        ensures effect { F.honest self.new.folder
             → TurnsMailbox (delivered (text_left copy.entry) (kept self.old.keywords flags)) SetsAside self.old self.new result }
-        ensures files { F.is_honest ≡ true → (let meta = meta_at self.old.fresh (stored_in self.old) in
+        ensures files { F.honest self.new.folder → (let meta = meta_at self.old.fresh (stored_in self.old) in
             TurnsFiles (appended self.old.keywords meta (text_left copy.entry) flags) (AppendsPart meta (text_left copy.entry)) self.old self.new result) }
-        ensures mailbox { F.is_honest ≡ true → IsMailbox self.old.fresh (stored_in self.old) → IsMailbox self.old.fresh (stored_in self.new) }
+        ensures mailbox { F.honest self.new.folder → IsMailbox self.old.fresh (stored_in self.old) → IsMailbox self.old.fresh (stored_in self.new) }
         ensures ends { Ends true (box_of self.old) (box_of self.new) result }
     {
         self.begin()?;
@@ -295,13 +319,14 @@ impl<F: Folder> NearBox<F> {
     ///
     /// `UidsExhausted`: there are fewer UIDs left than files wait.
     pub fn admit(&mut self) -> Result<(), NearFault>
-        ensures exhausted { F.is_honest ≡ true → IsErrOf result NearFault.UidsExhausted
+        ensures was_honest { F.honest self.new.folder → F.honest self.old.folder }
+        ensures exhausted { F.honest self.new.folder → IsErrOf result NearFault.UidsExhausted
             ↔ ((self.old.is_ready ≡ true) × (let n = mailbox_of self.old in 2 ^ 32 ≤ n.store.next + length n.waiting)) }
-        ensures effect { F.is_honest ≡ true → TurnsMailbox all_admitted AdmitsSome self.old self.new result }
-        ensures files { F.is_honest ≡ true → (let s = stored_in self.old in
+        ensures effect { F.honest self.new.folder → TurnsMailbox all_admitted AdmitsSome self.old self.new result }
+        ensures files { F.honest self.new.folder → (let s = stored_in self.old in
             AdmitsIf (is_some s.meta) (waiting_names s) (meta_at self.old.fresh s) s (stored_in self.new) result) }
-        ensures mailbox { F.is_honest ≡ true → IsMailbox self.old.fresh (stored_in self.old) → IsMailbox self.old.fresh (stored_in self.new) }
-        ensures untouched { F.is_honest ≡ true → (mailbox_of self.old).waiting ≡ [] → IsTrue (is_some (stored_in self.old).meta)
+        ensures mailbox { F.honest self.new.folder → IsMailbox self.old.fresh (stored_in self.old) → IsMailbox self.old.fresh (stored_in self.new) }
+        ensures untouched { F.honest self.new.folder → (mailbox_of self.old).waiting ≡ [] → IsTrue (is_some (stored_in self.old).meta)
             → seen_in self.new ≡ seen_in self.old }
         ensures ends { Ends true (box_of self.old) (box_of self.new) result }
     {
@@ -319,8 +344,10 @@ impl<F: Folder> NearBox<F> {
 
     /// Makes what was renamed, removed and replaced so far outlive a loss of power: one `sync` of the folder.
     pub fn sync(&mut self) -> Result<(), NearFault>
+        ensures was_honest { F.honest self.new.folder → F.honest self.old.folder }
         ensures synced { OnOk result (F.is_synced self.new.folder ≡ true) }
-        ensures keeps { F.is_honest ≡ true → (stored_in self.new ≡ stored_in self.old) × (length self.new.missed.items ≡ length self.old.missed.items) }
+        ensures keeps { F.honest self.new.folder
+            → (stored_in self.new ≡ stored_in self.old) × (length self.new.missed.items ≡ length self.old.missed.items) }
         ensures ends { Ends false (box_of self.old) (box_of self.new) result }
     {
         self.begin()?;
@@ -333,12 +360,13 @@ impl<F: Folder> NearBox<F> {
     fn set_flags(&mut self, i: usize, flags: Flags) -> Result<(), NearFault>
         requires within { i < vec_len self.old.survey.entries }
         requires begun { self.old.is_ready ≡ false }
-        requires surveyed { F.is_honest ≡ true → Surveys self.old.survey self.old.fresh self.old.keywords (stored_in self.old) }
-        ensures effect { F.is_honest ≡ true → (entry : SurveyEntry) → slice_get self.old.survey.entries.items i ≡ Some entry
+        requires surveyed { F.honest self.old.folder → Surveys self.old.survey self.old.fresh self.old.keywords (stored_in self.old) }
+        ensures was_honest { F.honest self.new.folder → F.honest self.old.folder }
+        ensures effect { F.honest self.new.folder → (entry : SurveyEntry) → slice_get self.old.survey.entries.items i ≡ Some entry
             → TurnsFiles (set_name (file_of entry) (name_flagged self.old.keywords entry.name flags)) Nothing self.old self.new result }
         ensures untouched { (entry : SurveyEntry) → slice_get self.old.survey.entries.items i ≡ Some entry → name_flagged self.old.keywords entry.name flags ≡ None
             → seen_in self.new ≡ seen_in self.old }
-        ensures surveys { F.is_honest ≡ true → OnOk result (Surveys self.new.survey self.new.fresh self.new.keywords (stored_in self.new)) }
+        ensures surveys { F.honest self.new.folder → OnOk result (Surveys self.new.survey self.new.fresh self.new.keywords (stored_in self.new)) }
         ensures part { Part (seen_in self.old) (seen_in self.new) result }
         ensures failed { (self.new.is_ready ≡ self.old.is_ready) × (self.new.fresh ≡ self.old.fresh) × (self.new.missed ≡ self.old.missed) }
         ensures keywords { self.new.keywords ≡ self.old.keywords }
@@ -362,10 +390,11 @@ impl<F: Folder> NearBox<F> {
     // Removes the message with this UID, if it is there.
     fn expunge_one(&mut self, uid: Uid) -> Result<(), NearFault>
         requires begun { self.old.is_ready ≡ false }
-        requires surveyed { F.is_honest ≡ true → Surveys self.old.survey self.old.fresh self.old.keywords (stored_in self.old) }
+        requires surveyed { F.honest self.old.folder → Surveys self.old.survey self.old.fresh self.old.keywords (stored_in self.old) }
+        ensures was_honest { F.honest self.new.folder → F.honest self.old.folder }
         ensures untouched { All (λ entry. entry.uid ≢ uid) self.old.survey.entries.items → seen_in self.new ≡ seen_in self.old }
-        ensures effect { F.is_honest ≡ true → TurnsFiles (without_uids (uid ∷ [])) Nothing self.old self.new result }
-        ensures surveys { F.is_honest ≡ true → OnOk result (Surveys self.new.survey self.new.fresh self.new.keywords (stored_in self.new)) }
+        ensures effect { F.honest self.new.folder → TurnsFiles (without_uids (uid ∷ [])) Nothing self.old self.new result }
+        ensures surveys { F.honest self.new.folder → OnOk result (Surveys self.new.survey self.new.fresh self.new.keywords (stored_in self.new)) }
         ensures part { Part (seen_in self.old) (seen_in self.new) result }
         ensures failed { (self.new.is_ready ≡ self.old.is_ready) × (self.new.fresh ≡ self.old.fresh) × (self.new.missed ≡ self.old.missed) }
         ensures keywords { self.new.keywords ≡ self.old.keywords }
@@ -382,7 +411,8 @@ impl<F: Folder> NearBox<F> {
     fn deliver(&mut self, uid: Uid, copy: CopyPieces<'_>, flags: Flags) -> Result<(), NearFault>
         requires begun { self.old.is_ready ≡ false }
         requires next { uid ≡ self.old.survey.meta.next }
-        ensures effect { F.is_honest ≡ true → (let meta = self.old.survey.meta in
+        ensures was_honest { F.honest self.new.folder → F.honest self.old.folder }
+        ensures effect { F.honest self.new.folder → (let meta = self.old.survey.meta in
             TurnsFiles (appended self.old.keywords meta (text_left copy.entry) flags) (AppendsPart meta (text_left copy.entry)) self.old self.new result) }
         ensures survey { OnOk result (let old = self.old.survey in
             Extends (entry_at uid (record { place = Place.Cur; name = copy_name_of self.old.keywords old.meta.validity uid flags }) ∷ [])
@@ -413,7 +443,8 @@ impl<F: Folder> NearBox<F> {
     fn raise_next(&mut self, count: u32) -> Result<(), NearFault>
         requires begun { self.old.is_ready ≡ false }
         requires fits { self.old.survey.meta.next + count < 2 ^ 32 }
-        ensures effect { F.is_honest ≡ true → TurnsFiles (with_meta (meta_text (raised self.old.survey.meta count))) Nothing self.old
+        ensures was_honest { F.honest self.new.folder → F.honest self.old.folder }
+        ensures effect { F.honest self.new.folder → TurnsFiles (with_meta (meta_text (raised self.old.survey.meta count))) Nothing self.old
             self.new result }
         ensures meta { OnOk result ((self.new.survey.meta ≡ raised self.old.survey.meta count) × (self.new.survey.has_meta ≡ true)) }
         ensures waiting { self.new.survey.waiting ≡ self.old.survey.waiting }
@@ -440,12 +471,13 @@ impl<F: Folder> NearBox<F> {
         requires count { count ≡ vec_len self.old.survey.waiting }
         requires fits { self.old.survey.meta.next + count < 2 ^ 32 }
         requires positive { 0 < self.old.survey.meta.next }
+        ensures was_honest { F.honest self.new.folder → F.honest self.old.folder }
         ensures part { Part (seen_in self.old) (seen_in self.new) result }
         ensures failed { (self.new.is_ready ≡ self.old.is_ready) × (self.new.fresh ≡ self.old.fresh) × (self.new.missed ≡ self.old.missed) }
         ensures keywords { self.new.keywords ≡ self.old.keywords }
         ensures survey { OnOk result (let old = self.old.survey in
             Extends (entries_from old.meta.next old.waiting.items) [] (raised old.meta count) old self.new.survey) }
-        ensures effect { F.is_honest ≡ true → Admits self.old.survey.waiting.items self.old.survey.meta (stored_in self.old)
+        ensures effect { F.honest self.new.folder → Admits self.old.survey.waiting.items self.old.survey.meta (stored_in self.old)
             (stored_in self.new) result }
     {
         let mut number = self.survey.meta.next;
@@ -462,6 +494,7 @@ impl<F: Folder> NearBox<F> {
     fn give_uid(&mut self, number: u32, file: &FileName) -> Result<(), NearFault>
         requires begun { self.old.is_ready ≡ false }
         requires uid { (0 < number) × (number + 1 < 2 ^ 32) }
+        ensures was_honest { F.honest self.new.folder → F.honest self.old.folder }
         ensures part { Part (seen_in self.old) (seen_in self.new) result }
         ensures failed { (self.new.is_ready ≡ self.old.is_ready) × (self.new.fresh ≡ self.old.fresh) × (self.new.missed ≡ self.old.missed) }
         ensures keywords { self.new.keywords ≡ self.old.keywords }
@@ -470,7 +503,7 @@ impl<F: Folder> NearBox<F> {
         ensures marks { self.new.survey.marks ≡ self.old.survey.marks }
         ensures entries { OnOk result (self.new.survey.entries.items
             ≡ self.old.survey.entries.items ++ entry_at number (admitted file.now number) ∷ []) }
-        ensures effect { F.is_honest ≡ true → TurnsFiles (renamed_file file.now (admitted file.now number)) Nothing self.old self.new result }
+        ensures effect { F.honest self.new.folder → TurnsFiles (renamed_file file.now (admitted file.now number)) Nothing self.old self.new result }
     {
         // A UID, by what the caller owes.
         let uid = Uid::new(number).unwrap();

@@ -1,6 +1,6 @@
 //! What calls of the near mailbox do to its folder, name by name.
 
-ghost use Rattle.std.specs.Prelude.{◌≡◌, ◌≢◌, ◌<◌, ◌+◌, ◌^◌, true, false, None, All, length, IfSome, IfOk, SomeIff};
+ghost use Rattle.std.specs.Prelude.{◌≡◌, ◌≢◌, ◌<◌, ◌+◌, ◌^◌, false, None, All, length, IfSome, IfOk, SomeIff};
 ghost use Rattle.std.specs.List.{HoldsAt};
 ghost use Rattle.device.specs.Calls.{Nothing};
 ghost use Rattle.mailcore.specs.FlagSet.{DELETED, has};
@@ -96,10 +96,11 @@ pub fn set_name<F: Folder>(
     flags: Flags,
     keywords: &Keywords,
 ) -> Result<Option<Vec<u8>>, NearFault>
+    ensures was_honest { F.honest folder.new → F.honest folder.old }
     ensures part { Part (F.seen folder.old) (F.seen folder.new) result }
     ensures name { IfOk result (λ name. text_of name ≡ name_flagged keywords.now entry.now.name flags) }
     ensures untouched { name_flagged keywords.now entry.now.name flags ≡ None → F.seen folder.new ≡ F.seen folder.old }
-    ensures effect { F.is_honest ≡ true → Does (set_name (file_of entry.now) (name_flagged keywords.now entry.now.name flags))
+    ensures effect { F.honest folder.new → Does (set_name (file_of entry.now) (name_flagged keywords.now entry.now.name flags))
         Nothing (F.seen folder.old).stored (F.seen folder.new).stored result }
 {
     match renamed(alloc, entry, flags, keywords)? {
@@ -118,9 +119,10 @@ pub fn admit_file<F: Folder>(
     file: &FileName,
     uid: Uid,
 ) -> Result<Vec<u8>, NearFault>
+    ensures was_honest { F.honest folder.new → F.honest folder.old }
     ensures part { Part (F.seen folder.old) (F.seen folder.new) result }
     ensures name { IfOk result (λ name. name.items ≡ name_admitted file.now.name uid) }
-    ensures effect { F.is_honest ≡ true
+    ensures effect { F.honest folder.new
         → Does (renamed_file file.now (admitted file.now uid)) Nothing (F.seen folder.old).stored (F.seen folder.new).stored result }
 {
     let name = name_with_uid(alloc, file.name.as_slice(), uid)?;
@@ -135,8 +137,9 @@ pub fn rename_to<F: Folder>(
     place: Place,
     name: &[u8],
 ) -> Result<(), NearFault>
+    ensures was_honest { F.honest folder.new → F.honest folder.old }
     ensures part { Part (F.seen folder.old) (F.seen folder.new) result }
-    ensures effect { F.is_honest ≡ true → Does (renamed_file (name_at from.entry) (record { place = place; name = name.now }))
+    ensures effect { F.honest folder.new → Does (renamed_file (name_at from.entry) (record { place = place; name = name.now }))
         Nothing (F.seen folder.old).stored (F.seen folder.new).stored result }
 {
     folder.rename(Origin::Delivered(from), Location { place, name })?;

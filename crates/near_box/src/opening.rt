@@ -4,8 +4,9 @@ ghost use Rattle.std.specs.Prelude.{◌≡◌, true, false, length, IfErr, IfOk,
 ghost use Rattle.std.specs.Int.NonZero.{non_zero_u32_get};
 ghost use Rattle.device.specs.Calls.{Reopens};
 ghost use Rattle.maildir.specs.Gains.{Adds};
-ghost use Rattle.near_box.specs.NearCalls.{Gathers, Looks, Opens};
-ghost use Rattle.near_box.specs.NearContracts.{Reports, ReportsOf};
+ghost use Rattle.near_box.specs.Mailboxes.{IsMailbox};
+ghost use Rattle.near_box.specs.NearCalls.{Looks, Opens};
+ghost use Rattle.near_box.specs.NearContracts.{ReportsOf, ReportsWhy};
 
 use crate::near_box::NearBox;
 use crate::near_fault::NearFault;
@@ -30,10 +31,14 @@ impl<F: Folder> NearBox<F> {
         keywords: Keywords,
     ) -> Result<NearBox<F>, (NearFault, F)>
         ensures opens { Opens (λ near. F.seen near.folder) F.seen (F.seen folder) result }
-        ensures adds { F.is_honest ≡ true → Gathers F.visitors (λ near. F.seen near.folder) F.seen (F.seen folder) result }
+        ensures was_honest { IfOk result (λ near. F.honest near.folder → F.honest folder) }
+        ensures adds { IfOk result (λ near. F.honest near.folder → Adds F.visitors (F.seen folder).stored (F.seen near.folder).stored) }
         ensures ready { IfOk result (λ near. (near.is_ready ≡ true) × (near.fresh ≡ non_zero_u32_get fresh) × (length near.missed.items ≡ 0)) }
         ensures keywords { IfOk result (λ near. near.keywords ≡ keywords) }
-        ensures mailbox { F.is_honest ≡ true → Reports (non_zero_u32_get fresh) (λ near. F.seen near.folder) F.seen result }
+        ensures mailbox { IfOk result (λ near. F.honest near.folder → IsMailbox (non_zero_u32_get fresh) (F.seen near.folder).stored) }
+        ensures handed_honest { IfErr result (λ f. F.honest f.1 → F.honest folder) }
+        ensures handed_adds { IfErr result (λ f. F.honest f.1 → Adds F.visitors (F.seen folder).stored (F.seen f.1).stored) }
+        ensures refused { IfErr result (λ f. F.honest f.1 → ReportsWhy (non_zero_u32_get fresh) (F.seen f.1).stored f.0) }
     {
         let mut folder = folder;
         match survey_of(alloc, &mut folder, fresh) {
@@ -76,14 +81,15 @@ impl<F: Folder> NearBox<F> {
     ///
     /// Faults: `Stopped` and `NoMemory`, and the first that holds of `Absent`, `TwoWithOneUid` and `BadMeta`.
     pub fn enter(&mut self, fresh: NonZeroU32) -> Result<(), NearFault>
+        ensures was_honest { F.honest self.new.folder → F.honest self.old.folder }
         ensures looks { Looks (seen_in self.old) (seen_in self.new) result }
-        ensures adds { F.is_honest ≡ true → Adds F.visitors (stored_in self.old) (stored_in self.new) }
+        ensures adds { F.honest self.new.folder → Adds F.visitors (stored_in self.old) (stored_in self.new) }
         ensures ready { OnOk result (self.new.is_ready ≡ true) }
         ensures closed { IfErr result (λ _. self.new.is_ready ≡ false) }
         ensures fresh { self.new.fresh ≡ non_zero_u32_get fresh }
         ensures keywords { self.new.keywords ≡ self.old.keywords }
         ensures missed { self.new.missed ≡ self.old.missed }
-        ensures mailbox { F.is_honest ≡ true → ReportsOf (non_zero_u32_get fresh) (stored_in self.new) result }
+        ensures mailbox { F.honest self.new.folder → ReportsOf (non_zero_u32_get fresh) (stored_in self.new) result }
     {
         self.is_ready = false;
         self.fresh = fresh.get();
@@ -94,6 +100,7 @@ impl<F: Folder> NearBox<F> {
 
     /// Closes the mailbox, and opens its folder again: its calls are answered again.
     pub fn reopen(&mut self)
+        ensures was_honest { F.honest self.new.folder → F.honest self.old.folder }
         ensures folder { Reopens (seen_in self.old) (seen_in self.new) }
         ensures closed { self.new.is_ready ≡ false }
         ensures fresh { self.new.fresh ≡ self.old.fresh }

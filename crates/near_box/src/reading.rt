@@ -32,12 +32,13 @@ use std::alloc::Global;
 
 /// The bytes of a message.
 pub fn read_message<F: Folder>(folder: &mut F, entry: &SurveyEntry) -> Result<Vec<u8>, ReadFault>
+    ensures was_honest { F.honest folder.new → F.honest folder.old }
     ensures reads { Reads (F.seen folder.old) (F.seen folder.new) result }
-    ensures keeps { F.is_honest ≡ true → (F.seen folder.new).stored ≡ (F.seen folder.old).stored }
-    ensures counted { F.is_honest ≡ true → F.reads folder.new ≡ F.reads folder.old + 1 }
-    ensures bytes { F.is_honest ≡ true → IsThere (F.seen folder.old).stored entry.now
+    ensures keeps { F.honest folder.new → (F.seen folder.new).stored ≡ (F.seen folder.old).stored }
+    ensures counted { F.honest folder.new → F.reads folder.new ≡ F.reads folder.old + 1 }
+    ensures bytes { F.honest folder.new → IsThere (F.seen folder.old).stored entry.now
         → IfOk result (λ bytes. bytes.items ≡ bytes_in (F.seen folder.old).stored entry.now) }
-    ensures there { F.is_honest ≡ true → IsThere (F.seen folder.old).stored entry.now → result ≢ Err ReadFault.Gone }
+    ensures there { F.honest folder.new → IsThere (F.seen folder.old).stored entry.now → result ≢ Err ReadFault.Gone }
 {
     match folder.read(Source::Mail(location(entry)))? {
         Some(bytes) => Ok(bytes),
@@ -51,11 +52,12 @@ pub fn find_message<F: Folder>(
     entries: &[SurveyEntry],
     uid: Uid,
 ) -> Result<Option<Vec<u8>>, ReadFault>
+    ensures was_honest { F.honest folder.new → F.honest folder.old }
     ensures reads { Reads (F.seen folder.old) (F.seen folder.new) result }
-    ensures keeps { F.is_honest ≡ true → (F.seen folder.new).stored ≡ (F.seen folder.old).stored }
-    ensures bytes { F.is_honest ≡ true → (keywords : List Keyword) → AreRising entries.now → AreThere entries.now (F.seen folder.old).stored
+    ensures keeps { F.honest folder.new → (F.seen folder.new).stored ≡ (F.seen folder.old).stored }
+    ensures bytes { F.honest folder.new → (keywords : List Keyword) → AreRising entries.now → AreThere entries.now (F.seen folder.old).stored
         → IfOk result (λ bytes. text_of bytes ≡ bytes_among uid (map (message_at keywords (F.seen folder.old).stored) entries.now)) }
-    ensures there { F.is_honest ≡ true → AreThere entries.now (F.seen folder.old).stored → result ≢ Err ReadFault.Gone }
+    ensures there { F.honest folder.new → AreThere entries.now (F.seen folder.old).stored → result ≢ Err ReadFault.Gone }
 {
     match place_of(entries, uid) {
         Some(i) => Ok(Some(read_message(folder, &entries[i])?)),
@@ -72,13 +74,14 @@ pub fn listed<F: Folder>(
     spared: &Spared,
     keywords: &Keywords,
 ) -> Result<Items, ReadFault>
+    ensures was_honest { F.honest folder.new → F.honest folder.old }
     ensures reads { Reads (F.seen folder.old) (F.seen folder.new) result }
-    ensures keeps { F.is_honest ≡ true → (F.seen folder.new).stored ≡ (F.seen folder.old).stored }
-    ensures shows { F.is_honest ≡ true → AreRising entries.now → AreThereUnless (spares spared.now) entries.now (F.seen folder.old).stored
+    ensures keeps { F.honest folder.new → (F.seen folder.new).stored ≡ (F.seen folder.old).stored }
+    ensures shows { F.honest folder.new → AreRising entries.now → AreThereUnless (spares spared.now) entries.now (F.seen folder.old).stored
         → IfOk result (λ items. items ≡ map (item_at keywords.now (spares spared.now) (F.seen folder.old).stored) entries.now) }
-    ensures there { F.is_honest ≡ true → AreRising entries.now → AreThereUnless (spares spared.now) entries.now (F.seen folder.old).stored
+    ensures there { F.honest folder.new → AreRising entries.now → AreThereUnless (spares spared.now) entries.now (F.seen folder.old).stored
         → result ≢ Err ReadFault.Gone }
-    ensures counted { F.is_honest ≡ true → OnOk result (F.reads folder.new ≡ F.reads folder.old + count_asked (spares spared.now) entries.now) }
+    ensures counted { F.honest folder.new → OnOk result (F.reads folder.new ≡ F.reads folder.old + count_asked (spares spared.now) entries.now) }
     ensures untouched { AreSpared (spares spared.now) entries.now → folder.new ≡ folder.old }
 {
     let mut items = Items::new(alloc);
@@ -99,13 +102,14 @@ fn is_fit<F: Folder>(
     entry: &SurveyEntry,
     spared: &Spared,
 ) -> Result<bool, ReadFault>
+    ensures was_honest { F.honest folder.new → F.honest folder.old }
     ensures reads { Reads (F.seen folder.old) (F.seen folder.new) result }
-    ensures keeps { F.is_honest ≡ true → (F.seen folder.new).stored ≡ (F.seen folder.old).stored }
-    ensures fit { F.is_honest ≡ true → IsThereUnless (spares spared.now) (F.seen folder.old).stored entry.now → (keywords : List Keyword)
+    ensures keeps { F.honest folder.new → (F.seen folder.new).stored ≡ (F.seen folder.old).stored }
+    ensures fit { F.honest folder.new → IsThereUnless (spares spared.now) (F.seen folder.old).stored entry.now → (keywords : List Keyword)
         → IfOk result (λ is. is ≡ (item_at keywords (spares spared.now) (F.seen folder.old).stored entry.now).fit) }
-    ensures there { F.is_honest ≡ true → IsThereUnless (spares spared.now) (F.seen folder.old).stored entry.now
+    ensures there { F.honest folder.new → IsThereUnless (spares spared.now) (F.seen folder.old).stored entry.now
         → result ≢ Err ReadFault.Gone }
-    ensures counted { F.is_honest ≡ true → F.reads folder.new ≡ F.reads folder.old + count_asked (spares spared.now) (entry.now ∷ []) }
+    ensures counted { F.honest folder.new → F.reads folder.new ≡ F.reads folder.old + count_asked (spares spared.now) (entry.now ∷ []) }
     ensures untouched { spares spared.now entry.now.uid ≡ true → folder.new ≡ folder.old }
 {
     if spared.has(entry.uid) {
@@ -136,14 +140,15 @@ pub fn find_mark<F: Folder>(
     mark: Tuid,
     from: u32,
 ) -> Result<Option<Uid>, ReadFault>
+    ensures was_honest { F.honest folder.new → F.honest folder.old }
     ensures reads { Reads (F.seen folder.old) (F.seen folder.new) result }
-    ensures keeps { F.is_honest ≡ true → (F.seen folder.new).stored ≡ (F.seen folder.old).stored }
-    ensures found { F.is_honest ≡ true → AreThere entries.now (F.seen folder.old).stored → (next : ℕ) (keywords : List Keyword)
+    ensures keeps { F.honest folder.new → (F.seen folder.new).stored ≡ (F.seen folder.old).stored }
+    ensures found { F.honest folder.new → AreThere entries.now (F.seen folder.old).stored → (next : ℕ) (keywords : List Keyword)
         → AreRising entries.now → All (λ e. e.uid < next) entries.now
         → AreKnown next (map (message_at keywords (F.seen folder.old).stored) entries.now) known.old
         → IfOk result (λ found. (found ≡ marked_among mark from (map (message_at keywords (F.seen folder.old).stored) entries.now))
         × AreKnown next (map (message_at keywords (F.seen folder.old).stored) entries.now) known.new) }
-    ensures there { F.is_honest ≡ true → AreThere entries.now (F.seen folder.old).stored → result ≢ Err ReadFault.Gone }
+    ensures there { F.honest folder.new → AreThere entries.now (F.seen folder.old).stored → result ≢ Err ReadFault.Gone }
 {
     known.passed.begin(mark, from);
     let below = known.passed.below;
@@ -164,15 +169,16 @@ fn known_mark<F: Folder>(
     entry: &SurveyEntry,
     known: &mut Vec<KnownMark>,
 ) -> Result<Option<Tuid>, ReadFault>
+    ensures was_honest { F.honest folder.new → F.honest folder.old }
     ensures reads { Reads (F.seen folder.old) (F.seen folder.new) result }
-    ensures keeps { F.is_honest ≡ true → (F.seen folder.new).stored ≡ (F.seen folder.old).stored }
-    ensures mark { F.is_honest ≡ true → IsThere (F.seen folder.old).stored entry.now
+    ensures keeps { F.honest folder.new → (F.seen folder.new).stored ≡ (F.seen folder.old).stored }
+    ensures mark { F.honest folder.new → IsThere (F.seen folder.old).stored entry.now
         → AreMarksOfFile (F.seen folder.old).stored entry.now known.old.items
         → IfOk result (λ mark. mark ≡ mark_of (bytes_in (F.seen folder.old).stored entry.now)) }
-    ensures known { F.is_honest ≡ true → IsThere (F.seen folder.old).stored entry.now → (next : ℕ) → (messages : List Message)
+    ensures known { F.honest folder.new → IsThere (F.seen folder.old).stored entry.now → (next : ℕ) → (messages : List Message)
         → IsMarkAmong next messages (mark_at (F.seen folder.old).stored entry.now) → AreMarksAmong next messages known.old.items
         → OnOk result (AreMarksAmong next messages known.new.items) }
-    ensures there { F.is_honest ≡ true → IsThere (F.seen folder.old).stored entry.now → result ≢ Err ReadFault.Gone }
+    ensures there { F.honest folder.new → IsThere (F.seen folder.old).stored entry.now → result ≢ Err ReadFault.Gone }
 {
     let uid = entry.uid;
     match place_of_mark(known, uid) {

@@ -1,6 +1,6 @@
 //! What stands in a folder: its messages by their UIDs, and the files that wait for one.
 
-ghost use Rattle.std.specs.Prelude.{◌≡◌, ◌<◌, true, filter, All, AllPairs, List, IfOk, IfErr, OnOk, IfSome, MatchBool, Some, ◌++◌, ◌∷◌, []};
+ghost use Rattle.std.specs.Prelude.{◌≡◌, ◌<◌, filter, All, AllPairs, List, IfOk, IfErr, OnOk, IfSome, MatchBool, Some, ◌++◌, ◌∷◌, []};
 ghost use Rattle.std.specs.List.{filter_map};
 ghost use Rattle.std.specs.List.Sorted.{IsPermutation, IsSortedBy, IsSortedByKey};
 ghost use Rattle.std.specs.Ordering.{nat_cmp};
@@ -75,10 +75,12 @@ pub fn survey_of<F: Folder>(
     folder: &mut F,
     fresh: NonZeroU32,
 ) -> Result<Survey, NearFault>
+    ensures was_honest { F.honest folder.new → F.honest folder.old }
     ensures looks { Looks (F.seen folder.old) (F.seen folder.new) result }
     ensures numbers { IfOk result (λ survey. (0 < survey.meta.validity) × (0 < survey.meta.next)) }
-    ensures adds { F.is_honest ≡ true → Adds F.visitors (F.seen folder.old).stored (F.seen folder.new).stored }
-    ensures states { F.is_honest ≡ true → (keywords : List Keyword) → SurveyReports (non_zero_u32_get fresh) keywords (F.seen folder.new).stored result }
+    ensures adds { F.honest folder.new → Adds F.visitors (F.seen folder.old).stored (F.seen folder.new).stored }
+    ensures states { F.honest folder.new
+        → (keywords : List Keyword) → SurveyReports (non_zero_u32_get fresh) keywords (F.seen folder.new).stored result }
 {
     let Some(names) = folder.names()? else {
         return Err(NearFault::Absent);

@@ -19,7 +19,7 @@ impl<F: Folder> NearBox<F> {
 
     /// How many files wait for a UID.
     pub fn waiting_count(&self) -> usize
-        ensures { F.is_honest ≡ true → self.now.is_ready ≡ true → result ≡ length (mailbox_of self.now).waiting }
+        ensures { F.honest self.now.folder → self.now.is_ready ≡ true → result ≡ length (mailbox_of self.now).waiting }
     {
         self.survey.waiting.len()
     }
@@ -27,9 +27,11 @@ impl<F: Folder> NearBox<F> {
     /// Reads the file that waits at this place, counted from 0 in the order in which `admit` gives UIDs: its bytes, which `body` then lends,
     /// and its flags. None: no file waits there. It stays waiting.
     pub fn read_waiting(&mut self, place: usize) -> Result<Option<Flags>, NearFault>
-        ensures file { F.is_honest ≡ true → IfOk result (λ flags. slice_get (mailbox_of self.old).waiting place
+        ensures was_honest { F.honest self.new.folder → F.honest self.old.folder }
+        ensures file { F.honest self.new.folder → IfOk result (λ flags. slice_get (mailbox_of self.old).waiting place
             ≡ option_map (waiting_with self.new.body.items) flags) }
-        ensures keeps { F.is_honest ≡ true → (stored_in self.new ≡ stored_in self.old) × (length self.new.missed.items ≡ length self.old.missed.items) }
+        ensures keeps { F.honest self.new.folder
+            → (stored_in self.new ≡ stored_in self.old) × (length self.new.missed.items ≡ length self.old.missed.items) }
         ensures ends { Ends false (box_of self.old) (box_of self.new) result }
     {
         self.begin()?;
@@ -51,10 +53,12 @@ impl<F: Folder> NearBox<F> {
 
 /// The bytes of a file that waits.
 fn read_file<F: Folder>(folder: &mut F, file: &FileName) -> Result<Vec<u8>, ReadFault>
+    ensures was_honest { F.honest folder.new → F.honest folder.old }
     ensures reads { Reads (F.seen folder.old) (F.seen folder.new) result }
-    ensures keeps { F.is_honest ≡ true → (F.seen folder.new).stored ≡ (F.seen folder.old).stored }
-    ensures bytes { F.is_honest ≡ true → IfOk result (λ bytes. bytes_at file.now.place file.now.name (F.seen folder.old).stored ≡ Some bytes.items) }
-    ensures there { F.is_honest ≡ true → bytes_at file.now.place file.now.name (F.seen folder.old).stored ≢ None → result ≢ Err ReadFault.Gone }
+    ensures keeps { F.honest folder.new → (F.seen folder.new).stored ≡ (F.seen folder.old).stored }
+    ensures bytes { F.honest folder.new
+        → IfOk result (λ bytes. bytes_at file.now.place file.now.name (F.seen folder.old).stored ≡ Some bytes.items) }
+    ensures there { F.honest folder.new → bytes_at file.now.place file.now.name (F.seen folder.old).stored ≢ None → result ≢ Err ReadFault.Gone }
 {
     match folder.read(Source::Mail(waiting_at(file)))? {
         Some(bytes) => Ok(bytes),

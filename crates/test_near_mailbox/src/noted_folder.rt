@@ -62,7 +62,7 @@ impl<F: Folder> NotedFolder<F> {
 }
 
 impl<F: Folder> Folder for NotedFolder<F> {
-    ghost is_honest = { F.is_honest };
+    ghost honest = { λ noted. F.honest noted.folder };
 
     ghost visitors = { F.visitors };
 

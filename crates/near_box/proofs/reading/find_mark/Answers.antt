@@ -7,6 +7,7 @@ use Rattle.near_box.proofs.reading.find_mark.Goals as goal
 
 pub loop-entry-init : goal.loop-entry-init
 loop-entry-init g c = record {
+  was_honest = search rules;
   keeps = search rules;
   stops = search rules;
   whole = search rules;
@@ -23,38 +24,41 @@ loop-entry-init g c = record {
 
 pub loop-entry-preserved : goal.loop-entry-preserved
 loop-entry-preserved g c = record {
+  was_honest = search rules;
   keeps = search rules;
   stops = search rules;
   whole = search rules;
   within = search rules;
   at = λ honest there next keywords rising within are.
+      let before = c.known_mark.ensures.was_honest honest in
       let s = (g.F.Folder.seen c.args.folder.now).stored in
       let t = (g.F.Folder.seen c.loop-entry.folder).stored in
       let es = c.args.entries.now in
       let first = c.partition_point-first.result in
       let i = c.loop-entry.entry-index in
       let entry = c.entry-item.result in
-      let at = c.loop-entry.invariant.at honest there next keywords rising within are in
+      let at = c.loop-entry.invariant.at before there next keywords rising within are in
       let here = place_of_rest es first i c.loop-entry-test.true in
       let is = entry_of_rest es first i entry c.entry-item.is in
       let known = next_known keywords s t es c.args.mark c.args.from next (first + i) c.loop-entry.known (record { by_uid = c.known_mark.new.known; passed = c.pass.new.self }) entry c.in_ok-found.found at here is rising there within
-      (c.loop-entry.invariant.keeps honest) (c.in_ok-found.ensures.mark honest) (c.in_ok-found.ensures.known honest) c.in_ok-pass.ensures.passed in
+      (c.loop-entry.invariant.keeps before) (c.in_ok-found.ensures.mark honest) (c.in_ok-found.ensures.known honest) c.in_ok-pass.ensures.passed in
       search_goes_on keywords s es c.args.mark c.args.from next (first + i) _ c.loop-entry.known _ entry c.in_ok-found.found at (omega arith) here is rising known.0 (search rules) known.1 c.in_ok-pass.ensures.range.1;
 }
 
 pub returns-then-eq-clause-found : goal.returns-then-eq-clause-found
 returns-then-eq-clause-found g c = λ honest there next keywords rising within are.
+    let before = c.known_mark.ensures.was_honest honest in
     let s = (g.F.Folder.seen c.args.folder.now).stored in
     let t = (g.F.Folder.seen c.loop-entry.folder).stored in
     let es = c.args.entries.now in
     let first = c.partition_point-first.result in
     let i = c.loop-entry.entry-index in
     let entry = c.entry-item.result in
-    let at = c.loop-entry.invariant.at honest there next keywords rising within are in
+    let at = c.loop-entry.invariant.at before there next keywords rising within are in
     let here = place_of_rest es first i c.loop-entry-test.true in
     let is = entry_of_rest es first i entry c.entry-item.is in
     let known = next_known keywords s t es c.args.mark c.args.from next (first + i) c.loop-entry.known (record { by_uid = c.known_mark.new.known; passed = c.pass.new.self }) entry c.in_ok-found.found at here is rising there within
-    (c.loop-entry.invariant.keeps honest) (c.in_ok-found.ensures.mark honest) (c.in_ok-found.ensures.known honest) c.in_ok-pass.ensures.passed in (
+    (c.loop-entry.invariant.keeps before) (c.in_ok-found.ensures.mark honest) (c.in_ok-found.ensures.known honest) c.in_ok-pass.ensures.passed in (
       search_finds keywords s es c.args.mark c.args.from next (first + i) c.loop-entry.known entry c.in_ok-found.found at here is known.0 (search rules),
       known.1,
     )

@@ -16,8 +16,8 @@ returns-clause-resumed g c = λ left interrupted.
     let same = c.in_ok-outside.ensures.seen in
     ⊎_elim (λ at.
     let there = subst (λ (s : Seen). StandsAt g.opening c.args.options s.device) (sym same) at in
-    inr (ends_run g.opening (seen_of c.settle_from.result.0).device c.settle_from.result.1 (c.settle_from.ensures.over (tt, refl, tt) (λ mark. refl) there)
-    (c.settle_from.ensures.done (tt, refl, tt) refl (λ mark. refl) there)))
+    inr (ends_run g.opening (seen_of c.settle_from.result.0).device c.settle_from.result.1 (c.settle_from.ensures.over (tt, tt, tt) (λ mark. refl) there)
+    (c.settle_from.ensures.done (tt, tt, tt) refl (λ mark. refl) there)))
     (λ over. inl over) (stands_interrupted g.opening c.args.options left _ interrupted)
 
 pub returns-clause-pending : goal.returns-clause-pending
@@ -25,13 +25,13 @@ returns-clause-pending g c = λ left interrupted.
     let same = c.in_ok-outside.ensures.seen in
     ⊎_elim (λ at.
     inr (subst (λ (s : Seen). IfErr c.settle_from.result.1 (λ fault. LeavesRun (Underway g.opening) fault s (seen_of c.settle_from.result.0))) same
-    (c.settle_from.ensures.left (tt, refl, tt) (λ mark. refl) (subst (λ (s : Seen). StandsAt g.opening c.args.options s.device) (sym same) at))))
+    (c.settle_from.ensures.left (tt, tt, tt) (λ mark. refl) (subst (λ (s : Seen). StandsAt g.opening c.args.options s.device) (sym same) at))))
     (λ over. inl over) (stands_interrupted g.opening c.args.options left _ interrupted)
 
 pub returns-clause-greatest : goal.returns-clause-greatest
 returns-clause-greatest g c =
     let same = c.in_ok-outside.ensures.seen in
-    over_device _ true (seen_of c.in_ok-outside.outside).device _ (seen_of c.settle_from.result.0).device c.settle_from.result.1 (ap (λ (s : Seen). s.device) same) (tt, refl, tt) c.settle_from.ensures.greatest
+    over_device _ true (seen_of c.in_ok-outside.outside).device _ (seen_of c.settle_from.result.0).device c.settle_from.result.1 (ap (λ (s : Seen). s.device) same) (tt, tt, tt) c.settle_from.ensures.greatest
 
 pub returns-clause-stopped : goal.returns-clause-stopped
 returns-clause-stopped g c = λ stopped.

@@ -17,19 +17,19 @@ pub returns-clause-ends : goal.returns-clause-ends
 returns-clause-ends g c = λ at.
     let same = setting_seen c.args.setting _ _ c.new-link.ensures.server c.in_ok-outside.ensures.seen in
     let there = subst (λ (s : Seen). StandsAt g.opening c.args.setting.options s.device) (sym same) at in
-    ends_run g.opening (seen_of c.settle_from.result.0).device c.settle_from.result.1 (c.settle_from.ensures.over (tt, refl, tt) (λ mark. refl) there)
-    (c.settle_from.ensures.done (tt, refl, tt) refl (λ mark. refl) there)
+    ends_run g.opening (seen_of c.settle_from.result.0).device c.settle_from.result.1 (c.settle_from.ensures.over (tt, tt, tt) (λ mark. refl) there)
+    (c.settle_from.ensures.done (tt, tt, tt) refl (λ mark. refl) there)
 
 pub returns-clause-left : goal.returns-clause-left
 returns-clause-left g c = λ at.
     let same = setting_seen c.args.setting _ _ c.new-link.ensures.server c.in_ok-outside.ensures.seen in
     subst (λ (s : Seen). IfErr c.settle_from.result.1 (λ fault. LeavesRun (Underway g.opening) fault s (seen_of c.settle_from.result.0))) same
-    (c.settle_from.ensures.left (tt, refl, tt) (λ mark. refl) (subst (λ (s : Seen). StandsAt g.opening c.args.setting.options s.device) (sym same) at))
+    (c.settle_from.ensures.left (tt, tt, tt) (λ mark. refl) (subst (λ (s : Seen). StandsAt g.opening c.args.setting.options s.device) (sym same) at))
 
 pub returns-clause-greatest : goal.returns-clause-greatest
 returns-clause-greatest g c =
     let same = setting_seen c.args.setting _ _ c.new-link.ensures.server c.in_ok-outside.ensures.seen in
-    over_device _ true (seen_of c.in_ok-outside.outside).device (device_in c.args.setting) (seen_of c.settle_from.result.0).device c.settle_from.result.1 (ap (λ (s : Seen). s.device) same) (tt, refl, tt) c.settle_from.ensures.greatest
+    over_device _ true (seen_of c.in_ok-outside.outside).device (device_in c.args.setting) (seen_of c.settle_from.result.0).device c.settle_from.result.1 (ap (λ (s : Seen). s.device) same) (tt, tt, tt) c.settle_from.ensures.greatest
 
 pub returns-clause-stopped : goal.returns-clause-stopped
 returns-clause-stopped g c = λ stopped.

@@ -18,13 +18,13 @@ returns-in-Err-clause-call g c = rw c.reported.ensures (added_none c.args.self.n
 pub returns-in-Ok-clause-full : goal.returns-in-Ok-clause-full
 returns-in-Ok-clause-full g c = λ h full.
     let out : Ok c.in-Ok.uid ≡ Err near.UidsExhausted =
-    (c.in-Ok.ensures.exhausted h).1 (ready c.args.self.now c.append_copy.new.self c.requires.open c.requires.whole, has_no_uid c.args.self.now c.append_copy.new.self c.requires.open c.requires.whole h full) in
+    (c.in-Ok.ensures.exhausted h).1 (ready c.args.self.now c.append_copy.new.self c.requires.open c.requires.whole, has_no_uid c.args.self.now c.append_copy.new.self c.requires.open c.requires.whole (c.append_copy.ensures.was_honest h) full) in
     absurd (cc)
 
 pub returns-in-Err-clause-full : goal.returns-in-Err-clause-full
 returns-in-Err-clause-full g c = λ h full.
     let answer : Result ℕ NearFault = Err c.in-Err.fault in
     let out : answer ≡ Err near.UidsExhausted =
-    (c.in-Err.ensures.exhausted h).1 (ready c.args.self.now c.append_copy.new.self c.requires.open c.requires.whole, has_no_uid c.args.self.now c.append_copy.new.self c.requires.open c.requires.whole h full) in
+    (c.in-Err.ensures.exhausted h).1 (ready c.args.self.now c.append_copy.new.self c.requires.open c.requires.whole, has_no_uid c.args.self.now c.append_copy.new.self c.requires.open c.requires.whole (c.append_copy.ensures.was_honest h) full) in
     let is : c.in-Err.fault ≡ near.UidsExhausted = cc in
     ap Err (c.reported.ensures ∙ ap reported is)

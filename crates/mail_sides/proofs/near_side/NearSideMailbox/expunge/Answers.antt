@@ -15,7 +15,7 @@ returns-then-is_deleted-clause-call g c =
     rw c.reported_by.ensures (turns s new c.requires.open c.requires.whole
     (on_store (removed c.args.uid)) c.expunge.result c.expunge.ensures.ends
     (λ h. removes_one c.args.uid n (near_of s.near.fresh s.near.keywords (stored_in new)) c.expunge.result
-    (subst (λ (is : Bool). IsMarkedAs c.args.uid is n) c.if-is_deleted.true (c.is_deleted.ensures.marked h (ready s s.near c.requires.open c.requires.whole)))
+    (subst (λ (is : Bool). IsMarkedAs c.args.uid is n) c.if-is_deleted.true (c.is_deleted.ensures.marked (c.expunge.ensures.was_honest h) (ready s s.near c.requires.open c.requires.whole)))
     (c.expunge.ensures.effect h)))
 
 pub returns-else-is_deleted-clause-call : goal.returns-else-is_deleted-clause-call

@@ -12,6 +12,13 @@ use Rattle.near_box.proofs.NewUidLemmas.{surveys_same}
 use Rattle.near_box.proofs.near_box.NearBox.admit.Goals.{then-count-gt0+in_ok-give_uids, else-count-gt0+else-not-self}
 use Rattle.near_box.proofs.near_box.NearBox.admit.Goals as goal
 
+pub returns-clause-was_honest : goal.returns-clause-was_honest
+returns-clause-was_honest g c = λ honest.
+    elim c.if-count-gt0.branch as (λ _. g.F.Folder.honest c.args.self.now.folder) [
+      | then-count-gt0+in_ok-give_uids w ↦ c.begin.ensures.was_honest (w.give_uids.ensures.was_honest (subst (λ b. g.F.Folder.honest b.folder) w.self-is honest))
+      | else-count-gt0+else-not-self w ↦ c.begin.ensures.was_honest (subst (λ b. g.F.Folder.honest b.folder) w.self-is honest)
+    ]
+
 pub returns-in_err-give_uids-clause-effect : goal.returns-in_err-give_uids-clause-effect
 returns-in_err-give_uids-clause-effect g c = λ honest.
     let e = err_from_is_err_and c.from_residual-in_err-give_uids.result c.from_residual-in_err-give_uids.ensures.1 in
@@ -19,7 +26,7 @@ returns-in_err-give_uids-clause-effect g c = λ honest.
     let begun = c.begin.new.self in
     let s = (g.F.Folder.seen box.folder).stored in
     let after = (g.F.Folder.seen c.give_uids.new.self.folder).stored in
-    let surveys : Surveys box.survey box.fresh box.keywords s = box.surveys c.in_ok-begin.ensures.ready honest in
+    let surveys : Surveys box.survey box.fresh box.keywords s = box.surveys c.in_ok-begin.ensures.ready (c.begin.ensures.was_honest (c.give_uids.ensures.was_honest honest)) in
     let room_begun : begun.survey.meta.next + length begun.survey.waiting.items < 2 ^ 32 = omega (arith, c.in-Some.ensures.0, c.len.ensures) in
     let room : box.survey.meta.next + length box.survey.waiting.items < 2 ^ 32 = subst (λ (v : Survey). v.meta.next + length v.waiting.items < 2 ^ 32) c.begin.ensures.same.0 room_begun in
     let left = subst (λ f. (after ≡ (g.F.Folder.seen f).stored) ⊎ Admitting box.survey.waiting.items box.survey.meta (g.F.Folder.seen f).stored after) c.begin.ensures.folder
@@ -32,13 +39,13 @@ returns-clause-effect g c = λ honest.
     let box = c.args.self.now in
     let begun = c.begin.new.self in
     let s = (g.F.Folder.seen box.folder).stored in
-    let surveys : Surveys box.survey box.fresh box.keywords s = box.surveys c.in_ok-begin.ensures.ready honest in
+    let surveys : Surveys box.survey box.fresh box.keywords s = box.surveys c.in_ok-begin.ensures.ready (returns-clause-was_honest g c honest) in
     let room_begun : begun.survey.meta.next + length begun.survey.waiting.items < 2 ^ 32 = omega (arith, c.in-Some.ensures.0, c.len.ensures) in
     let room : box.survey.meta.next + length box.survey.waiting.items < 2 ^ 32 = subst (λ (v : Survey). v.meta.next + length v.waiting.items < 2 ^ 32) c.begin.ensures.same.0 room_begun in
     elim c.if-count-gt0.branch as (λ _. near_of box.fresh box.keywords (g.F.Folder.seen c.if-count-gt0.self.folder).stored ≡ all_admitted (near_of box.fresh box.keywords s)) [
       | then-count-gt0+in_ok-give_uids w ↦
           ap (λ b. near_of box.fresh box.keywords (g.F.Folder.seen b.folder).stored) w.self-is
-          ∙ ap (near_of box.fresh box.keywords) (w.in_ok-give_uids.ensures.effect honest)
+          ∙ ap (near_of box.fresh box.keywords) (w.in_ok-give_uids.ensures.effect (subst (λ b. g.F.Folder.honest b.folder) w.self-is honest))
           ∙ ap (λ (v : Survey). near_of box.fresh box.keywords (admitted_all v.waiting.items v.meta.next (set_aside_all v.waiting.items v.meta (g.F.Folder.seen begun.folder).stored))) c.begin.ensures.same.0
           ∙ ap (λ f. near_of box.fresh box.keywords (admitted_all box.survey.waiting.items box.survey.meta.next (set_aside_all box.survey.waiting.items box.survey.meta (g.F.Folder.seen f).stored))) c.begin.ensures.folder
           ∙ admitted_whole box.survey box.fresh box.keywords s surveys box.has_fresh.0 box.has_fresh.1 room
@@ -56,7 +63,7 @@ returns-in_err-give_uids-clause-mailbox g c = λ honest is.
     let begun = c.begin.new.self in
     let s = (g.F.Folder.seen box.folder).stored in
     let after = (g.F.Folder.seen c.give_uids.new.self.folder).stored in
-    let surveys : Surveys box.survey box.fresh box.keywords s = box.surveys c.in_ok-begin.ensures.ready honest in
+    let surveys : Surveys box.survey box.fresh box.keywords s = box.surveys c.in_ok-begin.ensures.ready (c.begin.ensures.was_honest (c.give_uids.ensures.was_honest honest)) in
     let room_begun : begun.survey.meta.next + length begun.survey.waiting.items < 2 ^ 32 = omega (arith, c.in-Some.ensures.0, c.len.ensures) in
     let room : box.survey.meta.next + length box.survey.waiting.items < 2 ^ 32 = subst (λ (v : Survey). v.meta.next + length v.waiting.items < 2 ^ 32) c.begin.ensures.same.0 room_begun in
     let left = subst (λ f. (after ≡ (g.F.Folder.seen f).stored) ⊎ Admitting box.survey.waiting.items box.survey.meta (g.F.Folder.seen f).stored after) c.begin.ensures.folder
@@ -69,14 +76,14 @@ returns-clause-mailbox g c = λ honest is.
     let box = c.args.self.now in
     let begun = c.begin.new.self in
     let s = (g.F.Folder.seen box.folder).stored in
-    let surveys : Surveys box.survey box.fresh box.keywords s = box.surveys c.in_ok-begin.ensures.ready honest in
+    let surveys : Surveys box.survey box.fresh box.keywords s = box.surveys c.in_ok-begin.ensures.ready (returns-clause-was_honest g c honest) in
     let room_begun : begun.survey.meta.next + length begun.survey.waiting.items < 2 ^ 32 = omega (arith, c.in-Some.ensures.0, c.len.ensures) in
     let room : box.survey.meta.next + length box.survey.waiting.items < 2 ^ 32 = subst (λ (v : Survey). v.meta.next + length v.waiting.items < 2 ^ 32) c.begin.ensures.same.0 room_begun in
     elim c.if-count-gt0.branch as (λ _. IsMailbox box.fresh (g.F.Folder.seen c.if-count-gt0.self.folder).stored) [
       | then-count-gt0+in_ok-give_uids w ↦
           mailbox_same box.fresh (admitted_all box.survey.waiting.items box.survey.meta.next (set_aside_all box.survey.waiting.items box.survey.meta s)) (g.F.Folder.seen c.if-count-gt0.self.folder).stored
           (ap (λ b. (g.F.Folder.seen b.folder).stored) w.self-is
-          ∙ w.in_ok-give_uids.ensures.effect honest
+          ∙ w.in_ok-give_uids.ensures.effect (subst (λ b. g.F.Folder.honest b.folder) w.self-is honest)
           ∙ ap (λ (v : Survey). admitted_all v.waiting.items v.meta.next (set_aside_all v.waiting.items v.meta (g.F.Folder.seen begun.folder).stored)) c.begin.ensures.same.0
           ∙ ap (λ f. admitted_all box.survey.waiting.items box.survey.meta.next (set_aside_all box.survey.waiting.items box.survey.meta (g.F.Folder.seen f).stored)) c.begin.ensures.folder)
           (whole_mailbox box.survey box.fresh box.keywords s surveys box.has_fresh.0 box.has_fresh.1 is room)
@@ -91,7 +98,12 @@ invariant_of-self-2-clause-surveys g c = λ ready honest.
     let begun = c.begin.new.self in
     let now = c.if-count-gt0.self in
     let s = (g.F.Folder.seen box.folder).stored in
-    let surveys : Surveys box.survey box.fresh box.keywords s = box.surveys c.in_ok-begin.ensures.ready honest in
+    let before : g.F.Folder.honest box.folder =
+    elim c.if-count-gt0.branch as (λ _. g.F.Folder.honest box.folder) [
+      | then-count-gt0+in_ok-give_uids w ↦ c.begin.ensures.was_honest (w.give_uids.ensures.was_honest (subst (λ b. g.F.Folder.honest b.folder) w.self-is honest))
+      | else-count-gt0+else-not-self w ↦ c.begin.ensures.was_honest (subst (λ b. g.F.Folder.honest b.folder) w.self-is honest)
+    ] in
+    let surveys : Surveys box.survey box.fresh box.keywords s = box.surveys c.in_ok-begin.ensures.ready before in
     let room_begun : begun.survey.meta.next + length begun.survey.waiting.items < 2 ^ 32 = omega (arith, c.in-Some.ensures.0, c.len.ensures) in
     let room : box.survey.meta.next + length box.survey.waiting.items < 2 ^ 32 = subst (λ (v : Survey). v.meta.next + length v.waiting.items < 2 ^ 32) c.begin.ensures.same.0 room_begun in
     elim c.if-count-gt0.branch as (λ _. Surveys now.survey now.fresh now.keywords (g.F.Folder.seen now.folder).stored) [
@@ -105,7 +117,7 @@ invariant_of-self-2-clause-surveys g c = λ ready honest.
           (ap (λ b. b.survey) w.self-is)
           (ap (λ b. b.fresh) w.self-is ∙ w.give_uids.ensures.failed.1 ∙ c.begin.ensures.same.1)
           (ap (λ b. (g.F.Folder.seen b.folder).stored) w.self-is
-          ∙ w.in_ok-give_uids.ensures.effect honest
+          ∙ w.in_ok-give_uids.ensures.effect (subst (λ b. g.F.Folder.honest b.folder) w.self-is honest)
           ∙ ap (λ (v : Survey). admitted_all v.waiting.items v.meta.next (set_aside_all v.waiting.items v.meta (g.F.Folder.seen begun.folder).stored)) c.begin.ensures.same.0
           ∙ ap (λ f. admitted_all box.survey.waiting.items box.survey.meta.next (set_aside_all box.survey.waiting.items box.survey.meta (g.F.Folder.seen f).stored)) c.begin.ensures.folder)
           (admitted_surveys box.survey box.fresh box.keywords s surveys box.has_fresh.0 box.has_fresh.1 room new.survey extends)

@@ -16,7 +16,7 @@ pub returns-clause-effect : goal.returns-clause-effect
 returns-clause-effect g c = λ honest.
     let box = c.args.self.now in
     let s = (g.F.Folder.seen box.folder).stored in
-    let surveys : Surveys box.survey box.fresh box.keywords s = box.surveys c.in_ok-begin.ensures.ready honest in
+    let surveys : Surveys box.survey box.fresh box.keywords s = box.surveys c.in_ok-begin.ensures.ready (c.begin.ensures.was_honest (c.deliver.ensures.was_honest honest)) in
     let room : box.survey.meta.next + 1 < 2 ^ 32 = grind (arith, c.in-Some.ensures) in
     let done : (g.F.Folder.seen c.deliver.new.self.folder).stored ≡ appended box.keywords box.survey.meta (text_left c.args.copy) c.args.flags s =
     c.in_ok-deliver.ensures.effect honest
@@ -31,7 +31,7 @@ returns-in_err-deliver-clause-effect g c = λ honest.
     let box = c.args.self.now in
     let s = (g.F.Folder.seen box.folder).stored in
     let after = (g.F.Folder.seen c.deliver.new.self.folder).stored in
-    let surveys : Surveys box.survey box.fresh box.keywords s = box.surveys c.in_ok-begin.ensures.ready honest in
+    let surveys : Surveys box.survey box.fresh box.keywords s = box.surveys c.in_ok-begin.ensures.ready (c.begin.ensures.was_honest (c.deliver.ensures.was_honest honest)) in
     let room : box.survey.meta.next + 1 < 2 ^ 32 = grind (arith, c.in-Some.ensures) in
     let left = subst (λ f. (after ≡ (g.F.Folder.seen f).stored) ⊎ ((after ≡ appended box.keywords box.survey.meta (text_left c.args.copy) c.args.flags (g.F.Folder.seen f).stored) ⊎ AppendsPart box.survey.meta (text_left c.args.copy) (g.F.Folder.seen f).stored after)) c.begin.ensures.folder
     (subst (λ (v : Survey). (after ≡ (g.F.Folder.seen c.begin.new.self.folder).stored) ⊎ ((after ≡ appended box.keywords v.meta (text_left c.args.copy) c.args.flags (g.F.Folder.seen c.begin.new.self.folder).stored) ⊎ AppendsPart v.meta (text_left c.args.copy) (g.F.Folder.seen c.begin.new.self.folder).stored after)) c.begin.ensures.same.0
@@ -44,7 +44,7 @@ invariant_of-self-2-clause-surveys g c = λ ready honest.
     let box = c.args.self.now in
     let s = (g.F.Folder.seen box.folder).stored in
     let new = c.deliver.new.self in
-    let surveys : Surveys box.survey box.fresh box.keywords s = box.surveys c.in_ok-begin.ensures.ready honest in
+    let surveys : Surveys box.survey box.fresh box.keywords s = box.surveys c.in_ok-begin.ensures.ready (c.begin.ensures.was_honest (c.deliver.ensures.was_honest honest)) in
     let room : box.survey.meta.next + 1 < 2 ^ 32 = grind (arith, c.in-Some.ensures) in
     let number : c.in-Some.uid ≡ box.survey.meta.next = grind (arith, c.in-Some.ensures) in
     let done : (g.F.Folder.seen new.folder).stored ≡ appended box.keywords box.survey.meta (text_left c.args.copy) c.args.flags s =
@@ -67,7 +67,7 @@ returns-in_err-deliver-clause-mailbox g c = λ honest is.
     let box = c.args.self.now in
     let s = (g.F.Folder.seen box.folder).stored in
     let after = (g.F.Folder.seen c.deliver.new.self.folder).stored in
-    let surveys : Surveys box.survey box.fresh box.keywords s = box.surveys c.in_ok-begin.ensures.ready honest in
+    let surveys : Surveys box.survey box.fresh box.keywords s = box.surveys c.in_ok-begin.ensures.ready (c.begin.ensures.was_honest (c.deliver.ensures.was_honest honest)) in
     let room : box.survey.meta.next + 1 < 2 ^ 32 = grind (arith, c.in-Some.ensures) in
     let left = subst (λ f. (after ≡ (g.F.Folder.seen f).stored) ⊎ ((after ≡ appended box.keywords box.survey.meta (text_left c.args.copy) c.args.flags (g.F.Folder.seen f).stored) ⊎ AppendsPart box.survey.meta (text_left c.args.copy) (g.F.Folder.seen f).stored after)) c.begin.ensures.folder
     (subst (λ (v : Survey). (after ≡ (g.F.Folder.seen c.begin.new.self.folder).stored) ⊎ ((after ≡ appended box.keywords v.meta (text_left c.args.copy) c.args.flags (g.F.Folder.seen c.begin.new.self.folder).stored) ⊎ AppendsPart v.meta (text_left c.args.copy) (g.F.Folder.seen c.begin.new.self.folder).stored after)) c.begin.ensures.same.0
@@ -81,7 +81,7 @@ returns-clause-mailbox g c = λ honest is.
     let box = c.args.self.now in
     let s = (g.F.Folder.seen box.folder).stored in
     let after = (g.F.Folder.seen c.deliver.new.self.folder).stored in
-    let surveys : Surveys box.survey box.fresh box.keywords s = box.surveys c.in_ok-begin.ensures.ready honest in
+    let surveys : Surveys box.survey box.fresh box.keywords s = box.surveys c.in_ok-begin.ensures.ready (c.begin.ensures.was_honest (c.deliver.ensures.was_honest honest)) in
     let room : box.survey.meta.next + 1 < 2 ^ 32 = grind (arith, c.in-Some.ensures) in
     let done : after ≡ appended box.keywords box.survey.meta (text_left c.args.copy) c.args.flags s =
     c.in_ok-deliver.ensures.effect honest

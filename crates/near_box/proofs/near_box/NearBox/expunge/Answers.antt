@@ -17,6 +17,7 @@ loop-uid-init g c = record {
   missed = refl;
   stops = refl;
   whole = λ e. e;
+  was_honest = λ honest. honest;
   surveys = c.in_ok-begin.ensures.surveys;
   removed = λ honest. without_none (g.F.Folder.seen c.begin.new.self.folder).stored;
   untouched = λ honest same. refl;
@@ -30,16 +31,18 @@ loop-uid-preserved g c = record {
   missed = c.expunge_one.ensures.failed.2 ∙ c.loop-uid.invariant.missed;
   stops = c.in_ok-expunge_one.ensures.part.0 ∙ c.loop-uid.invariant.stops;
   whole = λ e. c.in_ok-expunge_one.ensures.part.1 (c.loop-uid.invariant.whole e);
+  was_honest = λ honest. c.loop-uid.invariant.was_honest (c.expunge_one.ensures.was_honest honest);
   surveys = c.in_ok-expunge_one.ensures.surveys;
   removed = λ honest.
       c.in_ok-expunge_one.ensures.effect honest
-      ∙ ap (without_uids (c.uid-item.result ∷ [])) (c.loop-uid.invariant.removed honest)
+      ∙ ap (without_uids (c.uid-item.result ∷ [])) (c.loop-uid.invariant.removed (c.expunge_one.ensures.was_honest honest))
       ∙ without_one_more c.args.uids.now c.loop-uid.uid-index c.uid-item.result (g.F.Folder.seen c.begin.new.self.folder).stored (omega arith) c.uid-item.is;
   untouched = λ honest same.
-      let so_far = c.loop-uid.invariant.untouched honest same in
+      let kept_word = c.expunge_one.ensures.was_honest honest in
+      let so_far = c.loop-uid.invariant.untouched kept_word same in
       let before : Stored = (g.F.Folder.seen c.loop-uid.self.folder).stored in
       let kept : without_uids c.args.uids.now before ≡ before = subst (λ (t : Stored). without_uids c.args.uids.now t ≡ t) (sym (ap (λ (f : Seen Stored). f.stored) so_far)) same in
-      c.expunge_one.ensures.untouched (none_named c.loop-uid.self.survey c.loop-uid.self.fresh c.loop-uid.self.keywords before (c.loop-uid.invariant.surveys honest) c.args.uids.now c.loop-uid.uid-index c.uid-item.result (omega arith) c.uid-item.is kept)
+      c.expunge_one.ensures.untouched (none_named c.loop-uid.self.survey c.loop-uid.self.fresh c.loop-uid.self.keywords before (c.loop-uid.invariant.surveys kept_word) c.args.uids.now c.loop-uid.uid-index c.uid-item.result (omega arith) c.uid-item.is kept)
       ∙ so_far;
 }
 
@@ -49,7 +52,7 @@ returns-in_err-expunge_one-clause-files g c = λ honest.
     let before : Stored = (g.F.Folder.seen c.loop-uid.self.folder).stored in
     let after : Stored = (g.F.Folder.seen c.expunge_one.new.self.folder).stored in
     let so_far : before ≡ without_uids (take c.loop-uid.uid-index c.args.uids.now) s =
-    c.loop-uid.invariant.removed honest ∙ ap (λ f. without_uids (take c.loop-uid.uid-index c.args.uids.now) (g.F.Folder.seen f).stored) c.in_ok-begin.ensures.folder in
+    c.loop-uid.invariant.removed (c.expunge_one.ensures.was_honest honest) ∙ ap (λ f. without_uids (take c.loop-uid.uid-index c.args.uids.now) (g.F.Folder.seen f).stored) c.in_ok-begin.ensures.folder in
     let e = err_from_is_err_and c.from_residual-in_err-expunge_one.result c.from_residual-in_err-expunge_one.ensures.1 in
     rw (e.1) (removes_some c.args.uids.now c.loop-uid.uid-index c.uid-item.result s before after (omega arith) c.uid-item.is so_far (c.in_err-expunge_one.ensures.effect honest))
 
@@ -75,12 +78,13 @@ returns-in_err-expunge_one-clause-mailbox g c = λ honest is.
 
 pub returns-in_err-expunge_one-clause-untouched : goal.returns-in_err-expunge_one-clause-untouched
 returns-in_err-expunge_one-clause-untouched g c = λ honest unchanged.
+    let kept_word = c.expunge_one.ensures.was_honest honest in
     let folder = c.in_ok-begin.ensures.folder in
     let same = subst (λ (t : Stored). without_uids c.args.uids.now t ≡ t) (sym (ap (λ f. (g.F.Folder.seen f).stored) folder)) unchanged in
-    let so_far = c.loop-uid.invariant.untouched honest same in
+    let so_far = c.loop-uid.invariant.untouched kept_word same in
     let before : Stored = (g.F.Folder.seen c.loop-uid.self.folder).stored in
     let kept : without_uids c.args.uids.now before ≡ before = subst (λ (t : Stored). without_uids c.args.uids.now t ≡ t) (sym (ap (λ (f : Seen Stored). f.stored) so_far)) same in
-    c.expunge_one.ensures.untouched (none_named c.loop-uid.self.survey c.loop-uid.self.fresh c.loop-uid.self.keywords before (c.loop-uid.invariant.surveys honest) c.args.uids.now c.loop-uid.uid-index c.uid-item.result (omega arith) c.uid-item.is kept)
+    c.expunge_one.ensures.untouched (none_named c.loop-uid.self.survey c.loop-uid.self.fresh c.loop-uid.self.keywords before (c.loop-uid.invariant.surveys kept_word) c.args.uids.now c.loop-uid.uid-index c.uid-item.result (omega arith) c.uid-item.is kept)
     ∙ so_far ∙ ap g.F.Folder.seen folder
 
 pub returns-clause-mailbox : goal.returns-clause-mailbox

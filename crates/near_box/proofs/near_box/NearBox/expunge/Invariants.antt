@@ -1,4 +1,4 @@
-use Rattle.std.proofs.Common.{◌≡◌, true, false, take}
+use Rattle.std.proofs.Common.{◌≡◌, false, take}
 use Rattle.near_box.specs.NearEffects.{without_uids}
 use Rattle.near_box.specs.Surveys.{Surveys}
 use Rattle.near_box.proofs.near_box.NearBox.expunge.Given as goal
@@ -11,9 +11,10 @@ invariant-loop-uid g l = record {
   missed : l.self.missed ≡ l.initial.self.missed;
   stops : (g.F.Folder.seen l.self.folder).stops ≡ (g.F.Folder.seen l.initial.self.folder).stops;
   whole : (g.F.Folder.seen l.initial.self.folder).is_broken ≡ false → (g.F.Folder.seen l.self.folder).is_broken ≡ false;
-  surveys : g.F.Folder.is_honest ≡ true → Surveys l.self.survey l.self.fresh l.self.keywords (g.F.Folder.seen l.self.folder).stored;
-  removed : g.F.Folder.is_honest ≡ true → (g.F.Folder.seen l.self.folder).stored
+  was_honest : g.F.Folder.honest l.self.folder → g.F.Folder.honest l.initial.self.folder;
+  surveys : g.F.Folder.honest l.self.folder → Surveys l.self.survey l.self.fresh l.self.keywords (g.F.Folder.seen l.self.folder).stored;
+  removed : g.F.Folder.honest l.self.folder → (g.F.Folder.seen l.self.folder).stored
       ≡ without_uids (take l.uid-index l.uids) (g.F.Folder.seen l.initial.self.folder).stored;
-  untouched : g.F.Folder.is_honest ≡ true → without_uids l.uids (g.F.Folder.seen l.initial.self.folder).stored ≡ (g.F.Folder.seen l.initial.self.folder).stored
+  untouched : g.F.Folder.honest l.self.folder → without_uids l.uids (g.F.Folder.seen l.initial.self.folder).stored ≡ (g.F.Folder.seen l.initial.self.folder).stored
       → g.F.Folder.seen l.self.folder ≡ g.F.Folder.seen l.initial.self.folder;
 }

@@ -10,7 +10,7 @@ returns-in_err-give_uid-clause-effect g c = λ honest.
     let e = err_from_is_err_and c.from_residual-in_err-give_uid.result c.from_residual-in_err-give_uid.ensures.1 in
     let s = (g.F.Folder.seen c.args.self.now.folder).stored in
     let after = (g.F.Folder.seen c.give_uid.new.self.folder).stored in
-    let one = admitting c.deref-file-items.result.now c.args.self.now.survey.meta s (g.F.Folder.seen c.loop-file.self.folder).stored after c.loop-file.file-index c.loop-file.number c.file-item.result (omega arith) c.file-item.is c.loop-file.invariant.number (c.loop-file.invariant.admitted honest) (c.in_err-give_uid.ensures.effect honest) in
+    let one = admitting c.deref-file-items.result.now c.args.self.now.survey.meta s (g.F.Folder.seen c.loop-file.self.folder).stored after c.loop-file.file-index c.loop-file.number c.file-item.result (omega arith) c.file-item.is c.loop-file.invariant.number (c.loop-file.invariant.admitted (c.give_uid.ensures.was_honest honest)) (c.in_err-give_uid.ensures.effect honest) in
     rw (e.1) (subst (λ (w : List FileName). (after ≡ s) ⊎ Admitting w c.args.self.now.survey.meta s after) c.loop-file.invariant.items one)
 
 pub loop-file-preserved : goal.loop-file-preserved
@@ -37,6 +37,7 @@ loop-file-preserved g c =
           (omega arith) c.file-item.is so_far.number so_far.entries c.in_ok-give_uid.ensures.entries;
       stops = omega (arith, so_far.stops, c.in_ok-give_uid.ensures.part.0);
       whole = λ whole. c.in_ok-give_uid.ensures.part.1 (so_far.whole whole);
+      was_honest = λ honest. so_far.was_honest (c.give_uid.ensures.was_honest honest);
       admitted = λ honest. renamed_so_far (set_aside_all files box.survey.meta (g.F.Folder.seen box.folder).stored) (g.F.Folder.seen c.loop-file.self.folder).stored (g.F.Folder.seen c.give_uid.new.self.folder).stored files i box.survey.meta.next n file
-          (omega arith) c.file-item.is so_far.number (so_far.admitted honest) (c.in_ok-give_uid.ensures.effect honest);
+          (omega arith) c.file-item.is so_far.number (so_far.admitted (c.give_uid.ensures.was_honest honest)) (c.in_ok-give_uid.ensures.effect honest);
     }

@@ -19,6 +19,7 @@ invariant-loop-file g l = record {
   entries : l.self.survey.entries.items ≡ l.fn.self.survey.entries.items ++ entries_from l.fn.self.survey.meta.next (take l.file-index l.file-items);
   stops : (g.F.Folder.seen l.self.folder).stops ≡ (g.F.Folder.seen l.fn.self.folder).stops;
   whole : (g.F.Folder.seen l.fn.self.folder).is_broken ≡ false → (g.F.Folder.seen l.self.folder).is_broken ≡ false;
-  admitted : g.F.Folder.is_honest ≡ true → (g.F.Folder.seen l.self.folder).stored
+  was_honest : g.F.Folder.honest l.self.folder → g.F.Folder.honest l.fn.self.folder;
+  admitted : g.F.Folder.honest l.self.folder → (g.F.Folder.seen l.self.folder).stored
       ≡ admitted_all (take l.file-index l.file-items) l.fn.self.survey.meta.next (set_aside_all l.file-items l.fn.self.survey.meta (g.F.Folder.seen l.fn.self.folder).stored);
 }

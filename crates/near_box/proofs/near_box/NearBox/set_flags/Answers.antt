@@ -18,7 +18,7 @@ returns-clause-surveys g c = λ honest.
     let same : c.index.result.now ≡ entry = same_Some c.index.result.now entry (sym first ∙ there) in
     let name : Some c.from_vec.result ≡ name_flagged c.args.self.now.keywords entry.name c.args.flags =
     ap (λ (n : List ℕ). Some n) c.from_vec.ensures ∙ sym (ap text_of c.in-Some.is) ∙ c.in_ok-name.ensures.name ∙ ap (λ (e : SurveyEntry). name_flagged c.args.self.now.keywords e.name c.args.flags) same in
-    surveys_renamed c.args.self.now.survey c.args.self.now.fresh c.args.self.now.keywords s (c.requires.surveyed honest) c.args.i entry there c.args.flags _ _
+    surveys_renamed c.args.self.now.survey c.args.self.now.fresh c.args.self.now.keywords s (c.requires.surveyed (c.set_name.ensures.was_honest honest)) c.args.i entry there c.args.flags _ _
     (c.in_ok-name.ensures.effect honest ∙ ap (λ (e : SurveyEntry). set_name (file_of e) (name_flagged c.args.self.now.keywords e.name c.args.flags) s) same)
     (ap (λ (n : Option (List ℕ)). set entries c.args.i (entry_under entry n)) name)
     refl refl refl refl
