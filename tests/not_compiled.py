@@ -20,7 +20,7 @@ PROGRAM = r'''//! Reads a reply where it lies.
 #![tactic(auto)]
 
 use imap_replies::reply::Reply;
-use reply_buf::buffer::ReplyBuf;
+use imap_link::reply_buf::ReplyBuf;
 use std::alloc::Global;
 use std::process::ExitCode;
 use wire_reader::answer::{Read, WireFault};
@@ -50,13 +50,13 @@ fn told(alloc: Global) -> Result<u32, WireFault> {
 def copy(room):
     """Copies the sources of the crates below the program; of the program its place alone."""
     crates = crates_below()
-    names = sorted(with_those_below(crates, "reply_buf"))
+    names = sorted(with_those_below(crates, "imap_link"))
     for name in names:
         shutil.copytree(f"{TOP}/crates/{name}", f"{room}/crates/{name}", ignore=shutil.ignore_patterns("out"))
     os.makedirs(f"{room}/crates/reads/src")
     with open(f"{room}/crates.txt", "w", encoding="utf-8") as text:
         text.writelines(f"{name}: {' '.join(crates[name])}\n" for name in names)
-        text.write("reads: imap_replies reply_buf wire_reader\n")
+        text.write("reads: imap_link imap_replies wire_reader\n")
 
 
 def tried(room, change):

@@ -51,6 +51,15 @@ def twenty(tally):
         tally.same("over one connection, with two commands a mailbox and six more at most", [connections, commands <= 46], [1, True])
 
 
+def labelled(tally):
+    """Mailboxes with labels: the names of mailboxes are asked for over the session that is theirs then."""
+    with Edge(patterns="box*", create="Near") as scene:
+        scene.server.boxes = {name: Box([ONE]) for name in TWENTY[:2]}
+        scene.configure(configuration(scene.server.port, "box*", "Near").replace("\nCreate", "\nKeyword a $Label1\nCreate"))
+        tally.same("two mailboxes with labels are pulled", scene.run("all")[0], 0)
+        tally.same("over one connection", asked(scene.server)[0], 1)
+
+
 def stores(tally):
     """Channels of one store share a session, and each store has its own."""
     with Edge(ONE) as scene:
@@ -232,4 +241,4 @@ def begun(tally):
         tally.same("and is not made", "a" in scene.server.boxes, False)
 
 
-SCENES = [twenty, stores, ended_between, failed_box, refused_box, words, unopened, skipped, own_parts, inbox, begun]
+SCENES = [twenty, labelled, stores, ended_between, failed_box, refused_box, words, unopened, skipped, own_parts, inbox, begun]

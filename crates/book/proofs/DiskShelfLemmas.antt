@@ -1,12 +1,12 @@
 -- From what calls do to the files of a folder to what they do to the shelf there.
 use Rattle.std.proofs.Common.{◌≡◌, ◌∙◌, ◌+◌, ◌++◌, ◌<◌, ◌≤◌, ℕ, true, false, List, [], length, take, Option, Some, None, Result, Ok, Err, refl, sym, ap, inl, inr, subst, arith}
-use Rattle.std.specs.Prelude.{◌⊎◌, is_ok, MatchResult, OnOk, OnErr, IfErr}
-use Rattle.device.specs.Calls.{Call, Effect, Leaves, Nothing, Went, Halted}
+use Rattle.std.specs.Prelude.{◌⊎◌, is_ok, IfOk, OnOk, OnErr}
+use Rattle.device.specs.Calls.{Call, Effect, Leaves, Nobody, Nothing}
 use Rattle.device.specs.declared.DeviceFault.{DeviceFault}
-use Rattle.device.specs.declared.DeviceFault.TheVariants.{Stopped}
-use Rattle.device.specs.Conditions.{DiskParts}
-use Rattle.device.specs.FileEvents.{FileEvent, World}
-use Rattle.device.specs.OwnFiles.{FilesParts, held, KeptWord, Touches, Unnoted, Same, Either, NoFile, HoldsAt, HoldsOrNot, Grew, GrewPart, GrewOrNot}
+use Rattle.device.specs.FileEvents.{FileEvent, IsHonest, World, files_after}
+use Rattle.device.specs.OwnFiles.{FilesParts, held, KeptWord, Touches, Same, Either, NoFile, HoldsAt, HoldsOrNot, Grew, GrewPart, GrewOrNot}
+use Rattle.device.proofs.Reporting.{Reported}
+use Rattle.device.proofs.Reporting as Reporting
 use Rattle.book.specs.declared.disk_shelf.TheConstants.{STATE, JOURNAL, NEXT}
 use Rattle.book.specs.declared.shelf.ShelfFile.{ShelfFile}
 use Rattle.book.specs.declared.shelf.ShelfFile.TheVariants.{State, Journal}
@@ -43,17 +43,6 @@ alike s t j k e d = ap (λ (x : Option (List ℕ)). files x j) e ∙ ap (λ (x :
 -- the calls touched no file
 pub untouched : (a b : FilesParts) → Touches NoFile a b → files_on b ≡ files_on a
 untouched a b t = alike _ _ _ _ (t.others STATE.now (λ none. none)) (t.others JOURNAL.now (λ none. none))
-
--- no call was noted
-pub unnoted : (a b : FilesParts) → Unnoted a b → files_on b ≡ files_on a
-unnoted a b u = ap (λ (w : World). files_on (record b { world = w })) u.world ∙ ap (λ (e : List FileEvent). files_on (record a { events = e })) u.events
-
-pub kept : (a b : FilesParts) → Unnoted a b → KeptWord b → KeptWord a
-kept a b u k =
-    let P : World → Type 0 = λ w. KeptWord (record b { world = w }) in
-    let Q : List FileEvent → Type 0 = λ e. KeptWord (record a { events = e }) in
-    let k' : KeptWord (record a { events = b.events }) = subst P u.world k in
-    subst Q u.events k'
 
 other : ShelfFile → ShelfFile
 other State = Journal
@@ -113,57 +102,18 @@ appended_or_not file bytes a b t (inl stays) = inl (stays_on (Same (file_name fi
 appended_or_not file bytes a b t (inr g) =
     inr (inr (record { count = g.count; within = g.within; part = appended file (take g.count bytes) a b t g.part }))
 
--- ---- a call of a shelf: calls of the system, and what is reported
+-- ---- a call of a shelf, which made calls of the system and reports the answer of the last
 
-pub went : (does : Effect Files) (a b d : FilesParts) → a.disk.condition.is_broken ≡ false → b.disk ≡ a.disk → d ≡ b
-    → (KeptWord b → does (files_on a) (files_on b)) → Went (KeptWord d) does (seen_on_disk a) (seen_on_disk d)
-went does a b d whole disk e effect =
-    let P : FilesParts → Type 0 = λ x. Went (KeptWord x) does (seen_on_disk a) (seen_on_disk x) in
-    subst P (sym e) (record {
-      was_whole = whole;
-      is_whole = ap (λ (x : DiskParts). x.condition.is_broken) disk ∙ whole;
-      stops = ap (λ (x : DiskParts). x.condition.stops) disk;
-      effect = effect;
-    })
+-- what the files of the shelf hold after calls
+abbrev says : World → List FileEvent → Files
+says world events = files (files_after world events STATE.now) (files_after world events JOURNAL.now)
 
-pub halted : (is_stop : Type 0) (leaves : Effect Files) (a b d : FilesParts) → a.disk.condition.is_broken ≡ false → b.disk ≡ a.disk → Unnoted b d
-    → d.disk.condition.is_broken ≡ true → (is_stop → d.disk.condition.stops ≡ b.disk.condition.stops + 1)
-    → b.disk.condition.stops ≤ d.disk.condition.stops
-    → (KeptWord b → leaves (files_on a) (files_on b)) → Halted (KeptWord d) is_stop leaves (seen_on_disk a) (seen_on_disk d)
-halted is_stop leaves a b d whole disk u broken counted more left =
-    let stops : b.disk.condition.stops ≡ a.disk.condition.stops = ap (λ (x : DiskParts). x.condition.stops) disk in
-    record {
-      is_broken = broken;
-      counted = λ s. inr (let up = counted s in omega arith);
-      no_less = omega arith;
-      stuck = λ was. absurd (cc);
-      left = λ k. let P : Files → Type 0 = λ x. leaves (files_on a) x in subst P (sym (unnoted b d u)) (left (kept b d u k));
-    }
-
--- a call of a shelf whose call before has stopped
-pub stuck : (honest is_stop : Type 0) (leaves : Effect Files) (a : FilesParts) → a.disk.condition.is_broken ≡ true → is_stop
-    → leaves (files_on a) (files_on a) → Halted honest is_stop leaves (seen_on_disk a) (seen_on_disk a)
-stuck honest is_stop leaves a broken stop stays =
-    record { is_broken = broken; counted = λ _. inl broken; no_less = omega arith; stuck = λ _. (stop, refl); left = λ _. stays }
-
--- what a shelf reports of the answer of the system
-pub record Reported {E : Type 0} (answer : Result (Unit {0}) E) (result : Result (Unit {0}) DeviceFault) (b d : FilesParts) : Type 0 where
-  pub answer_is : MatchResult result (λ value. answer ≡ Ok value) (λ _. is_ok answer ≡ false)
-  pub ok : OnOk result (d ≡ b)
-  pub calls : Unnoted b d
-  pub broken : OnErr result (d.disk.condition.is_broken ≡ true)
-  pub counted : IfErr result (λ fault. fault ≡ Stopped → d.disk.condition.stops ≡ b.disk.condition.stops + 1)
-  pub no_less : b.disk.condition.stops ≤ d.disk.condition.stops
-
-pub called : {E : Type 0} (does part : Effect Files) (a b d : FilesParts) (answer : Result (Unit {0}) E) (result : Result (Unit {0}) DeviceFault)
-    → a.disk.condition.is_broken ≡ false → b.disk ≡ a.disk → OnOk answer (KeptWord b → does (files_on a) (files_on b))
+called : {E : Type 0} (does part : Effect Files) (a b d : FilesParts) (answer : Result (Unit {0}) E) (result : Result (Unit {0}) DeviceFault)
+    → a.disk.condition.is_broken ≡ false → b.disk ≡ a.disk → IfOk answer (λ _. KeptWord b → does (files_on a) (files_on b))
     → OnErr answer (KeptWord b → Leaves does part (files_on a) (files_on b)) → Reported answer result b d
     → Call (KeptWord d) does part (seen_on_disk a) (seen_on_disk d) result
-called does part a b d (Ok x) (Ok v) whole disk ok err reported = went does a b d whole disk reported.ok ok
-called does part a b d (Err e) (Ok v) whole disk ok err reported = let no : Err e ≡ Ok v = reported.answer_is in absurd (cc)
-called does part a b d (Ok x) (Err fault) whole disk ok err reported = let no : true ≡ false = reported.answer_is in absurd (cc)
-called does part a b d (Err e) (Err fault) whole disk ok err reported =
-    halted (fault ≡ Stopped) (Leaves does part) a b d whole disk reported.calls reported.broken reported.counted reported.no_less err
+called does part a b d answer result whole disk ok err reported =
+    Reporting.called IsHonest says Nobody (λ _. does) (Leaves does part) a b d answer result whole disk ok err reported
 
 pub replace_called : {E : Type 0} (file : ShelfFile) (name bytes : List ℕ) (a b d : FilesParts) (answer : Result (Unit {0}) E) (result : Result (Unit {0}) DeviceFault)
     → name ≡ file_name file → a.disk.condition.is_broken ≡ false → Touches (Either name NEXT.now) a b

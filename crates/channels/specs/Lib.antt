@@ -14,3 +14,5 @@ pub mod Asks
 pub mod Outcomes
 pub mod Explanations
 pub mod Courses
+pub mod Answered
+pub mod Causes

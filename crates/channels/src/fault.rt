@@ -2,6 +2,7 @@
 
 ghost use Rattle.std.specs.Prelude.{◌≡◌, true, IfSome};
 ghost use Rattle.channels.specs.Asked.{Failed, outcome_of_fault};
+ghost use Rattle.channels.specs.Causes.{is_stop, repeated_copy};
 ghost use Rattle.channels.specs.Outcomes.{fault_of_stop, is_stale, is_stale_cause, outcome_of_box_fault};
 
 use crate::stop_cause::StopCause;
@@ -90,16 +91,29 @@ impl BoxFailure {
         }
     }
 
-    /// Whether a run was stopped, and it is not known by what.
+    /// Whether a run was stopped, or this is a fault that the stores alone know.
     pub(crate) fn is_stop(&self) -> bool
-        ensures { result ≡ true → outcome_of_box_fault self.now ≡ Failed }
+        ensures stop { result ≡ is_stop self.now }
+        ensures failed { result ≡ true → outcome_of_box_fault self.now ≡ Failed }
     {
-        matches!(self, BoxFailure::Run(RunFault::Stopped))
+        match self {
+            BoxFailure::Stopped(_) | BoxFailure::GivenAgain(..) => true,
+            BoxFailure::Run(fault) => matches!(fault, RunFault::Stopped),
+            BoxFailure::Absent(_)
+            | BoxFailure::Removed(_)
+            | BoxFailure::CannotOpen(..)
+            | BoxFailure::Server(..)
+            | BoxFailure::Locked
+            | BoxFailure::Refused(..)
+            | BoxFailure::LeftOut(_)
+            | BoxFailure::AtStep(..) => false,
+        }
     }
 
     /// The step whose copy got a UID that an entry of the state has already, if that is the fault: its number, counted from 1, and the step.
     pub(crate) fn repeated_copy(&self) -> Option<(usize, Step)>
-        ensures { IfSome result (λ _. outcome_of_box_fault self.now ≡ Failed) }
+        ensures copy { result ≡ repeated_copy self.now }
+        ensures failed { IfSome result (λ _. outcome_of_box_fault self.now ≡ Failed) }
     {
         match self {
             BoxFailure::AtStep(RunFault::BadState(0), number, step) => Some((*number, *step)),

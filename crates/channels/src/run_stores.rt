@@ -1,13 +1,15 @@
 //! The stores of a run and its streams, as one: the stores are asked only as long as what is done could be written.
 
-ghost use Rattle.std.specs.Prelude.{◌≡◌, ◌∷◌, [], false, true, is_some, option_map, IfErr, IfOk, OnOk, string_bytes};
+ghost use Rattle.std.specs.Prelude.{◌≡◌, ◌∷◌, [], Some, false, true, is_some, option_map, IfErr, IfOk, OnOk, string_bytes};
 ghost use Rattle.std.specs.Io.KnownBytes.{Appends};
 ghost use Rattle.std.specs.List.{flat_map};
 ghost use Rattle.rules.specs.Options.{covers};
 ghost use Rattle.channels.specs.Asked.{Ended, Failed, FarListed, FoundNew, GaveUp, Made, NearListed, Ran, names_of, outcome_of_making, outcome_of_state, place_of};
 ghost use Rattle.channels.specs.declared.verdict.Verdict.TheVariants.{Over};
+ghost use Rattle.channels.specs.Answered.{PathsAnswered, with_answer};
 ghost use Rattle.channels.specs.Asks.{Asks, run_attempts};
 ghost use Rattle.channels.specs.Boxes.{Rises};
+ghost use Rattle.channels.specs.Causes.{IsExplained, IsFailureOf, IsFaultOf, IsGivenUp, IsRunFault, NamesCause, NamesUid, copy_side};
 ghost use Rattle.channels.specs.Explanations.{explanation_line, explanations};
 ghost use Rattle.channels.specs.Lines.{box_line};
 ghost use Rattle.channels.specs.Courses.{giving_asked, settled_asked};
@@ -161,6 +163,7 @@ impl<'a, S: BoxLists, O: Write, E: Write> RunStores<'a, S, O, E> {
         requires going { self.old.write_failed ≡ false }
         ensures others { self.new ≡ record self.old { stores = self.new.stores } }
         ensures asks { Asks S.noted S.asked self.old.stores self.new.stores [] }
+        ensures answered { S.answered self.new.stores.now ≡ S.answered self.old.stores.now }
     {
         let words = self.stores.server_words();
         if is_of_server { words } else { None }
@@ -227,6 +230,7 @@ impl<'a, S: BoxLists, O: Write, E: Write> RunStores<'a, S, O, E> {
         ensures reported { IfOk result IsReported }
         ensures verdict { IfOk result (λ verdict. verdict ≡ verdict_of (outcome_of_box_fault fault.now)) }
         ensures failed { Notes self.old.write_failed self.new.write_failed result }
+        ensures answered { S.answered self.new.stores.now ≡ S.answered self.old.stores.now }
     {
         self.report_with(place, fault, None)
     }
@@ -244,6 +248,7 @@ impl<'a, S: BoxLists, O: Write, E: Write> RunStores<'a, S, O, E> {
         ensures reported { IfOk result IsReported }
         ensures verdict { IfOk result (λ verdict. verdict ≡ verdict_of (outcome_of_box_fault failure.now.fault)) }
         ensures failed { Notes self.old.write_failed self.new.write_failed result }
+        ensures answered { S.answered self.new.stores.now ≡ S.answered self.old.stores.now }
     {
         self.report_with(place, &failure.fault, failure.giving_up.as_ref())
     }
@@ -262,6 +267,7 @@ impl<'a, S: BoxLists, O: Write, E: Write> RunStores<'a, S, O, E> {
         ensures reported { IfOk result IsReported }
         ensures verdict { IfOk result (λ verdict. verdict ≡ verdict_of (outcome_of_box_fault fault.now)) }
         ensures failed { Notes self.old.write_failed self.new.write_failed result }
+        ensures answered { S.answered self.new.stores.now ≡ S.answered self.old.stores.now }
     {
         let words = self.words_on(fault.is_of_server());
         let written = reporting::report(self.err, place, fault, giving_up, words.as_deref());
@@ -295,6 +301,7 @@ impl<S: Stores, O: Write, E: Write> RunStores<'_, S, O, E> {
         requires going { self.old.write_failed ≡ false }
         ensures others { self.new ≡ record self.old { stores = self.new.stores } }
         ensures asks { Asks S.noted S.asked self.old.stores self.new.stores [] }
+        ensures answered { S.answered self.new.stores.now ≡ with_answer (S.answered self.old.stores.now) (PathsAnswered result.items) }
     {
         self.stores.left_out()
     }
@@ -319,6 +326,7 @@ impl<S: Stores, O: Write, E: Write> RunStores<'_, S, O, E> {
         requires going { self.old.write_failed ≡ false }
         ensures others { self.new ≡ record self.old { stores = self.new.stores } }
         ensures asks { Asks S.noted S.asked self.old.stores self.new.stores (settled_asked options.now (place_of place.entry) result) }
+        ensures answered { IsFailureOf result (S.answered self.old.stores.now) (S.answered self.new.stores.now) }
         ensures due { IfErr result (λ failure. is_some failure.giving_up ≡ is_stale failure.fault) }
     {
         match self.settle_reported(alloc, place, options, rng) {
@@ -343,6 +351,7 @@ impl<S: Stores, O: Write, E: Write> RunStores<'_, S, O, E> {
         ensures others { self.new ≡ record self.old { stores = self.new.stores } }
         ensures asks { Asks S.noted S.asked self.old.stores self.new.stores
             (giving_asked (option_map outcome_of_giving result) (outcome_of_box_fault fault.now) (place_of place.entry)) }
+        ensures answered { IsGivenUp (S.answered self.old.stores.now) (S.answered self.new.stores.now) result }
         ensures due { is_some result ≡ is_stale fault.now }
     {
         if fault.is_stale() {
@@ -358,13 +367,13 @@ impl<S: Stores, O: Write, E: Write> RunStores<'_, S, O, E> {
         ensures others { self.new ≡ record self.old { stores = self.new.stores } }
         ensures asks { Asks S.noted S.asked self.old.stores self.new.stores
             (GaveUp (place_of place.entry) (outcome_of_giving result) ∷ []) }
+        ensures answered { IsGivenUp (S.answered self.old.stores.now) (S.answered self.new.stores.now) (Some result) }
     {
         match self.stores.work_over(place, GiveUp { alloc, options }) {
             Ok(Ok(true)) => GivingUp::GivenUp,
             Ok(Ok(false)) => GivingUp::NothingPending,
-            Ok(Err(RunFault::Stopped)) => GivingUp::Failed(self.stopped()),
-            Ok(Err(fault)) => GivingUp::Failed(BoxFailure::Run(fault)),
-            Err(fault) => GivingUp::Failed(BoxFailure::from(fault)),
+            Ok(Err(fault)) => GivingUp::Failed(self.explained(BoxFailure::Run(fault))),
+            Err(fault) => GivingUp::Failed(self.explained(BoxFailure::from(fault))),
         }
     }
 
@@ -380,6 +389,7 @@ impl<S: Stores, O: Write, E: Write> RunStores<'_, S, O, E> {
         ensures others { self.new ≡ record self.old { stores = self.new.stores } }
         ensures asks { Asks S.noted S.asked self.old.stores self.new.stores
             (Ran (place_of place.entry) options.now run_attempts (outcome_of_run result) ∷ []) }
+        ensures answered { IsFaultOf result (S.answered self.old.stores.now) (S.answered self.new.stores.now) }
     {
         match self.settle_open(alloc, place, options, rng) {
             Ok(pass) => Ok(pass),
@@ -399,6 +409,7 @@ impl<S: Stores, O: Write, E: Write> RunStores<'_, S, O, E> {
         ensures others { self.new ≡ record self.old { stores = self.new.stores } }
         ensures asks { Asks S.noted S.asked self.old.stores self.new.stores
             (Ran (place_of place.entry) options.now run_attempts (outcome_of_run result) ∷ []) }
+        ensures answered { S.answered self.new.stores.now ≡ S.answered self.old.stores.now }
     {
         let run = RunOnce {
             alloc,
@@ -416,6 +427,7 @@ impl<S: Stores, O: Write, E: Write> RunStores<'_, S, O, E> {
         requires going { self.old.write_failed ≡ false }
         ensures others { self.new ≡ record self.old { stores = self.new.stores } }
         ensures asks { Asks S.noted S.asked self.old.stores self.new.stores [] }
+        ensures answered { IsExplained fault (S.answered self.old.stores.now) (S.answered self.new.stores.now) result }
         ensures ends { outcome_of_box_fault result ≡ outcome_of_box_fault fault }
     {
         if fault.is_stop() {
@@ -432,6 +444,7 @@ impl<S: Stores, O: Write, E: Write> RunStores<'_, S, O, E> {
         requires going { self.old.write_failed ≡ false }
         ensures others { self.new ≡ record self.old { stores = self.new.stores } }
         ensures asks { Asks S.noted S.asked self.old.stores self.new.stores [] }
+        ensures answered { NamesCause (S.answered self.old.stores.now) (S.answered self.new.stores.now) result }
         ensures ends { outcome_of_box_fault result ≡ Failed }
     {
         BoxFailure::of_stop(self.stores.stop_cause())
@@ -442,6 +455,7 @@ impl<S: Stores, O: Write, E: Write> RunStores<'_, S, O, E> {
         requires going { self.old.write_failed ≡ false }
         ensures others { self.new ≡ record self.old { stores = self.new.stores } }
         ensures asks { Asks S.noted S.asked self.old.stores self.new.stores [] }
+        ensures answered { NamesUid (number, step) (S.answered self.old.stores.now) (S.answered self.new.stores.now) result }
         ensures ends { outcome_of_box_fault result ≡ Failed }
     {
         match self.stores.stop_cause() {
@@ -452,7 +466,9 @@ impl<S: Stores, O: Write, E: Write> RunStores<'_, S, O, E> {
 }
 
 /// The side on which a step makes a copy. Another step makes none.
-fn target_of(step: &Step) -> Option<Side> {
+fn target_of(step: &Step) -> Option<Side>
+    ensures { result ≡ copy_side step.now }
+{
     match step {
         Step::New { direction, .. } => Some(direction.target()),
         Step::Gone { .. } | Step::Flags { .. } | Step::Expunge { .. } => None,

@@ -1,9 +1,10 @@
 //! The stores that channels are synchronised over.
 
-ghost use Rattle.std.specs.Prelude.{◌≡◌, true, IfOk};
+ghost use Rattle.std.specs.Prelude.{◌≡◌, List, None, Option, true, IfOk};
 ghost use Rattle.rules.specs.Options.{covers};
 ghost use Rattle.channels.specs.Boxes.{Rises};
 ghost use Rattle.rules.specs.declared.options.Options.{Options};
+ghost use Rattle.channels.specs.Answered.{Answered, CauseAnswered, PathsAnswered, with_answer};
 ghost use Rattle.channels.specs.Asked.{Asked, Ended, FarListed, FoundNew, Made, NearListed, Outcome, Place, names_of, outcome_by, outcome_of_making, outcome_of_state, place_of};
 
 use crate::channel_box::{ChannelBox, ChannelStores};
@@ -31,30 +32,37 @@ pub trait BoxLists {
     /// The record of what these stores were asked for.
     ghost asked: { Self → Record };
 
+    /// What these stores answered of the runs over their mailboxes, each answer in turn. None: this is not known.
+    ghost answered: { Self → Option (List Answered) } = { λ _. None };
+
     /// The names of the mailboxes of a far store, INBOX among them if it is there. Names beyond the limits are left out, and noted: 1 to
     /// 255 printable ASCII characters without `* % " \`, and no empty part, `.` or `..` between slashes. Each stands once, in the order of
     /// their bytes (`boxes::in_order`).
     fn far_boxes(&mut self, store: &ImapStore) -> Result<Vec<MailboxName>, ListFault>
         ensures rising { IfOk result (λ names. Rises names.items) }
-        ensures asked { asked self.new ≡ noted (asked self.old) (FarListed store.now (names_of result)) };
+        ensures asked { asked self.new ≡ noted (asked self.old) (FarListed store.now (names_of result)) }
+        ensures answered { answered self.new ≡ answered self.old };
 
     /// The names of the mailboxes of a near store, INBOX among them if it is there, within the same limits and
     /// in the same order.
     fn near_boxes(&mut self, store: &MaildirStore) -> Result<Vec<MailboxName>, ListFault>
         ensures rising { IfOk result (λ names. Rises names.items) }
-        ensures asked { asked self.new ≡ noted (asked self.old) (NearListed store.now (names_of result)) };
+        ensures asked { asked self.new ≡ noted (asked self.old) (NearListed store.now (names_of result)) }
+        ensures answered { answered self.new ≡ answered self.old };
 
     /// What is to be reported beside faults of the calls before. Of the mailboxes that are left out these are those that this channel could
     /// choose (`ChannelStores::could_choose`): the others stay noted for a later channel. Each is reported once, and each mailbox and file
     /// that is left out once in a run. Where memory is wanting, some may be missing.
     fn notices(&mut self, of: ChannelStores<'_>) -> Vec<Notice>
-        ensures { asked self.new ≡ asked self.old };
+        ensures asked { asked self.new ≡ asked self.old }
+        ensures answered { answered self.new ≡ answered self.old };
 
     /// What the server that was asked last said in its last NO, BAD or BYE, or the front of what it sent where that is no answer: one
     /// line of at most 200 bytes, of which those that are no plain characters stand as a backslash and two digits. It is given once. None:
     /// it said nothing, or memory is wanting.
     fn server_words(&mut self) -> Option<String>
-        ensures { asked self.new ≡ asked self.old };
+        ensures asked { asked self.new ≡ asked self.old }
+        ensures answered { answered self.new ≡ answered self.old };
 }
 
 /// What is done over a mailbox while it is open.
@@ -84,7 +92,8 @@ pub trait Work {
 pub trait Stores: BoxLists {
     /// Whether the near folder of a mailbox has the state of a former run.
     fn has_state(&mut self, place: ChannelBox<'_>) -> Result<bool, StoreFault>
-        ensures { Self.asked self.new ≡ Self.noted (Self.asked self.old) (FoundNew (place_of place.entry) (outcome_of_state result)) };
+        ensures asked { Self.asked self.new ≡ Self.noted (Self.asked self.old) (FoundNew (place_of place.entry) (outcome_of_state result)) }
+        ensures answered { Self.answered self.new ≡ Self.answered self.old };
 
     /// Makes this side of a mailbox, which is absent there. Only a side that the channel's Create covers is made.
     ///
@@ -92,7 +101,8 @@ pub trait Stores: BoxLists {
     /// was, made or not, since no call of these removes a mailbox.
     fn make(&mut self, side: Side, place: ChannelBox<'_>) -> Result<(), StoreFault>
         requires { covers place.of.channel.now.create side ≡ true }
-        ensures { Self.asked self.new ≡ Self.noted (Self.asked self.old) (Made side (place_of place.entry) (outcome_of_making result)) };
+        ensures asked { Self.asked self.new ≡ Self.noted (Self.asked self.old) (Made side (place_of place.entry) (outcome_of_making result)) }
+        ensures answered { Self.answered self.new ≡ Self.answered self.old };
 
     /// Opens both sides of a mailbox, and does this over them. Its lock is held as long.
     fn work_over<W: Work + Drop>(
@@ -100,19 +110,23 @@ pub trait Stores: BoxLists {
         place: ChannelBox<'_>,
         work: W,
     ) -> Result<W::Answer, StoreFault>
-        ensures { Self.asked self.new ≡ Self.noted (Self.asked self.old)
-            (W.asking work (place_of place.entry) (outcome_by W.ends result)) };
+        ensures asked { Self.asked self.new ≡ Self.noted (Self.asked self.old)
+            (W.asking work (place_of place.entry) (outcome_by W.ends result)) }
+        ensures answered { Self.answered self.new ≡ Self.answered self.old };
 
     /// What stopped the run over the mailbox that was opened last, if it was stopped and this is known. It is given once.
     fn stop_cause(&mut self) -> Option<StopCause>
-        ensures { Self.asked self.new ≡ Self.asked self.old };
+        ensures asked { Self.asked self.new ≡ Self.asked self.old }
+        ensures answered { Self.answered self.new ≡ with_answer (Self.answered self.old) (CauseAnswered result) };
 
     /// The paths of the near files that the run over the mailbox that was opened last left out: they wait for a UID, and their names are no
     /// UTF-8, or too long with one. They are given once. Where memory is wanting, some may be missing.
     fn left_out(&mut self) -> Vec<String>
-        ensures { Self.asked self.new ≡ Self.asked self.old };
+        ensures asked { Self.asked self.new ≡ Self.asked self.old }
+        ensures answered { Self.answered self.new ≡ with_answer (Self.answered self.old) (PathsAnswered result.items) };
 
     /// Ends what stands at servers: nothing more is asked.
     fn end(&mut self)
-        ensures { Self.asked self.new ≡ Self.noted (Self.asked self.old) Ended };
+        ensures asked { Self.asked self.new ≡ Self.noted (Self.asked self.old) Ended }
+        ensures answered { Self.answered self.new ≡ Self.answered self.old };
 }

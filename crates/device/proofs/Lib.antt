@@ -1,1 +1,2 @@
-mod Walks
+pub mod Reporting
+pub mod Walks

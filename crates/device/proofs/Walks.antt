@@ -1,4 +1,4 @@
--- Steps of the walks of `src/history.rt`: a struct whose one field has no bytes. Assumes `Logic`.
+-- Steps of the walks of records that take no memory: a struct whose one field has no bytes. Assumes `Logic`.
 use Rattle.std.proofs.Common.{List, [], ◌∷◌, refl}
 use seplogic.Ra.Ura.{Ura}
 use mir.Val.{Val, vstruct, vcons, vnil}

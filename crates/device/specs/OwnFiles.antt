@@ -3,13 +3,11 @@ use Rattle.std.specs.Prelude.{◌≡◌, ◌≤◌, ◌⊎◌, ℕ, Bool, true, 
 use Rattle.std.specs.Global.{Global}
 use Rattle.device.specs.declared.file_call.Deed.{Deed}
 use Rattle.device.specs.declared.file_call.Deed.TheVariants.{Read, Missing, Removed}
-use Rattle.device.specs.Conditions.{DiskParts}
 use Rattle.device.specs.FileEvents.{FileEvent, World, Contents, IsHonest, files_after}
+use Rattle.device.specs.Recorded.{Recorded}
 
-pub record FilesParts : Type 0 where
-  pub disk : DiskParts
-  pub world : World
-  pub events : List FileEvent
+abbrev pub FilesParts : Type 0
+FilesParts = Recorded World FileEvent
 
 -- what the files hold
 abbrev pub held : FilesParts → Contents
@@ -36,12 +34,6 @@ noted_read None name f = noted Missing true name [] f
 abbrev pub noted_removal : Bool → List ℕ → FilesParts → FilesParts
 noted_removal true name f = noted Removed true name [] f
 noted_removal false name f = noted Missing true name [] f
-
--- no call was noted
-pub record Unnoted (old new : FilesParts) : Type 0 where
-  pub path : new.disk.path ≡ old.disk.path
-  pub world : new.world ≡ old.world
-  pub events : new.events ≡ old.events
 
 -- what a vector holds, where there is one
 abbrev pub bytes_of : Option (Vec ℕ Global) → Option (List ℕ)

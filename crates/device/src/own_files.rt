@@ -2,7 +2,8 @@
 
 ghost use Rattle.std.specs.Prelude.{◌≡◌, ◌+◌, ◌<◌, ◌^◌, ◌≤◌, ◌≢◌, [], true, false, None, Ok, Some, is_ok, MatchResult, OnOk, OnErr, IfOk, IfErr};
 ghost use Rattle.device.specs.Conditions.{disk_at};
-ghost use Rattle.device.specs.OwnFiles.{Either, GrewOrNot, Grew, HoldsAt, HoldsOrNot, NoFile, Same, Touches, Unnoted, bytes_of, held, KeptWord, noted, noted_read, noted_removal};
+ghost use Rattle.device.specs.OwnFiles.{Either, GrewOrNot, Grew, HoldsAt, HoldsOrNot, NoFile, Same, Touches, bytes_of, held, KeptWord, noted, noted_read, noted_removal};
+ghost use Rattle.device.specs.Recorded.{Unnoted};
 
 use crate::DeviceFault;
 use crate::disk::Disk;
@@ -26,7 +27,7 @@ pub struct OwnFiles<R: Files + AllocGlobal + Clone + Drop> {
     disk: Disk<R>,
     /// The file that was made or appended to last, open for further bytes, as long as it has its name.
     open: Option<Open<R::File>>,
-    record: FileRecord,
+    calls: FileRecord,
 }
 
 /// An open file, and the name that it was opened by.
@@ -41,7 +42,7 @@ impl<R: Files + AllocGlobal + Clone + Drop> Model for OwnFiles<R> {
 
     ghost Value = { FilesParts };
 
-    ghost view = { λ files. record { disk = files.disk; world = files.record.world; events = files.record.events } };
+    ghost view = { λ files. record { disk = files.disk; world = files.calls.world; events = files.calls.events } };
 }
 
 impl<R: Files + AllocGlobal + Clone + Drop> OwnFiles<R> {
@@ -53,7 +54,7 @@ impl<R: Files + AllocGlobal + Clone + Drop> OwnFiles<R> {
         Ok(OwnFiles {
             disk: Disk::new(rt, path)?,
             open: None,
-            record: FileRecord::new(),
+            calls: FileRecord::new(),
         })
     }
 
@@ -89,7 +90,7 @@ impl<R: Files + AllocGlobal + Clone + Drop> OwnFiles<R> {
     fn note(&mut self, deed: Deed, is_ok: bool, name: &str, bytes: &[u8])
         ensures { self.new ≡ noted deed is_ok name.now bytes.now self.old }
     {
-        self.record
+        self.calls
             .note(&FileCall { deed, is_ok }, name.as_bytes(), bytes);
     }
 

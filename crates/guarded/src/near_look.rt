@@ -89,7 +89,9 @@ pub struct NearLook<R: Files + AllocGlobal + Clone + Drop> {
 
 impl<R: Files + AllocGlobal + Clone + Drop> NearLook<R> {
     /// A look into this folder.
-    pub fn new(rt: R, folder: String) -> Self {
+    pub fn new(rt: R, folder: String) -> Self
+        ensures folder { result.folder ≡ folder }
+    {
         let watch = Watch::over(Removals::none(rt.alloc()), 0);
         NearLook {
             rt,

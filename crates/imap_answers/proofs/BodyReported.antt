@@ -18,7 +18,7 @@ use Rattle.imap_answers.specs.Bodies.{body_at, body_bytes, body_more, body_in, i
 use Rattle.imap_answers.specs.Fetching.{uid_of}
 use Rattle.imap_answers.specs.Readings.{ReadsAs}
 use Rattle.imap_answers.specs.Spoken.{Speaks, IsFirst}
-use Rattle.reply_buf.proofs.Exits.{slice_is}
+use Rattle.imap_link.proofs.BufferExits.{slice_is}
 use Rattle.imap_answers.proofs.Left.{no_left}
 
 -- where a part cannot be read, the whole cannot

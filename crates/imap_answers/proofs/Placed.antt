@@ -8,8 +8,8 @@ use Rattle.std.proofs.lemmas.List.{length-take, drop-take, drop-drop}
 use Rattle.std.proofs.lemmas.Slice.Eq.{starts_is}
 use Rattle.wire_reader.specs.declared.scanner.Scanner.{Scanner}
 use Rattle.wire_reader.specs.Scanning.{first_place}
-use Rattle.reply_buf.proofs.Exits.{slice_is}
-use Rattle.reply_buf.proofs.Places.{place_within}
+use Rattle.imap_link.proofs.BufferExits.{slice_is}
+use Rattle.imap_link.proofs.Places.{place_within}
 
 pub next_within : (done : ℕ) (scanner : Scanner) (text : List ℕ) (count : ℕ) → done ≤ length text
     → Some count ≡ first_place scanner (take (length text - done) (drop done text)) → done + count ≤ length text

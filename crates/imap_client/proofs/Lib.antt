@@ -1,4 +1,3 @@
-mod Walks
 pub mod TagLemmas
 pub mod Visited
 pub mod Plain

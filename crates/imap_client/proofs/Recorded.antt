@@ -123,6 +123,10 @@ pub on_err : {T E P : Type 0} (result : Result T E) → P → OnErr result P
 on_err (Ok x) p = tt
 on_err (Err e) p = p
 
+failed : {T E P : Type 0} (answer : Result T E) → is_ok answer ≡ false → OnErr answer P → P
+failed (Ok x) bad h = absurd (cc)
+failed (Err e) bad h = h
+
 module _ {E : Type 0} (bytes : List ℕ) (a b d : LineRecord) (answer : Result (Unit {0}) E) where
   pub sends_ok : (result : Result (Unit {0}) LinkFault) → OnOk answer (Hands bytes (begun a) b) → OnOk result ((answer ≡ Ok tt) × (d ≡ noted Sent [] b))
       → OnOk result (Behaved d → SendsThen anybody bytes (line_now a) (line_now d))
@@ -138,10 +142,6 @@ module _ {E : Type 0} (bytes : List ℕ) (a b d : LineRecord) (answer : Result (
   sends_err (Err fault) h k = λ honest.
       let P : LineRecord → Type 0 = λ r. SomeThen anybody (line_now a) bytes (line_now r).end.server in
       subst P (sym k.1) (sends_some bytes a b (failed answer k.0 h) (subst Behaved k.1 honest))
-    where
-      failed : (answer : Result (Unit {0}) E) → is_ok answer ≡ false → OnErr answer (HandsSome bytes (begun a) b) → HandsSome bytes (begun a) b
-      failed (Ok x) bad h = absurd (cc)
-      failed (Err e) bad h = h
 
   pub sends_was : (result : Result (Unit {0}) LinkFault) → OnOk answer (Hands bytes (begun a) b) → OnErr answer (HandsSome bytes (begun a) b)
       → OnOk result ((answer ≡ Ok tt) × (d ≡ noted Sent [] b)) → OnErr result ((is_ok answer ≡ false) × (d ≡ noted Unsent [] b)) → Behaved d → Behaved a
@@ -150,7 +150,3 @@ module _ {E : Type 0} (bytes : List ℕ) (a b d : LineRecord) (answer : Result (
       sent_was bytes a b hands (subst Behaved k.1 honest)
   sends_was (Err fault) h j k l honest =
       let hands = failed answer l.0 j in unsent_was hands.some a b hands.hands (subst Behaved l.1 honest)
-    where
-      failed : (answer : Result (Unit {0}) E) → is_ok answer ≡ false → OnErr answer (HandsSome bytes (begun a) b) → HandsSome bytes (begun a) b
-      failed (Ok x) bad h = absurd (cc)
-      failed (Err e) bad h = h

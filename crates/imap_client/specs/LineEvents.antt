@@ -28,7 +28,7 @@ abbrev pub handed : List LineEvent → List ℕ
 handed [] = []
 handed (event ∷ earlier) = handed_by event.call event.bytes (handed earlier)
 
--- how many calls have ended: what is written before a message is sent is none of its own
+-- how many calls have ended: to begin a message and to write pieces of it is a part of the call that sends it
 abbrev pub ended_by : LineCall → ℕ → ℕ
 ended_by Begun n = n
 ended_by Written n = n

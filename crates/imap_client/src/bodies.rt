@@ -36,7 +36,8 @@ impl<L: Link> Session<L> {
         ensures remains { L.honest self.new.wire.link → Among L.visitors (λ s t. (m : FarMailbox) → selected s ≡ Some m → Remains s t)
             (server_of self.old) (server_of self.new) }
         ensures outcome { L.honest self.new.wire.link → Among L.visitors (λ s t. (m : FarMailbox) → selected s ≡ Some m → IsStore m.store
-            → AreInRange m.store.messages → Outcome (Reports (λ found. found_at self.new.wire.heard.read found ≡ bytes_of uid m.store)) Never Remains result s t)
+            → AreInRange m.store.messages
+            → Outcome (Reports (λ found. found_at self.new.wire.heard.read found ≡ bytes_of uid m.store)) Never Remains result s t)
             (server_of self.old) (server_of self.new) }
     {
         self.ask(&Call::Body(uid))?;

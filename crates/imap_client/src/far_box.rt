@@ -100,7 +100,8 @@ impl<L: Link> Session<L> {
         ensures fails { IfErr result (λ e. L.honest e.1.wire.link → HasMap keywords (server_of self) → is_logged_in (server_of self).condition ≡ true
             → Among L.visitors (Outcome {T = FarBox L L.Link} (λ b. Never) (NoMailbox name.now) (Chooses name.now) (Err e.0))
             (server_of self) (server_of e.1)) }
-        ensures heard { IfOk result (λ b. EndsBy (of_select keywords (self.tags + 1) (λ x. opened x.validity x.next)) (Ok b) self.transcript b.session.transcript) }
+        ensures heard { IfOk result (λ b. EndsBy (of_select keywords (self.tags + 1) (λ x. opened x.validity x.next)) (Ok b)
+            self.transcript b.session.transcript) }
         ensures heard_err { IfErr result (λ e. EndsBy {T = FarBox L L.Link} (of_select keywords (self.tags + 1) (λ x. opened x.validity x.next)) (Err e.0)
             self.transcript e.1.transcript) }
     {
@@ -144,7 +145,8 @@ impl<L: Link> Session<L> {
         ensures outcome { L.honest self.new.wire.link → HasMap keywords.now (server_of self.old) → is_logged_in (server_of self.old).condition ≡ true
             → Among L.visitors (Outcome (λ c. Selects name.now c.validity c.next) (NoMailbox name.now) (Chooses name.now) result)
             (server_of self.old) (server_of self.new) }
-        ensures heard { EndsBy (of_select keywords.now (self.old.tags + 1) (λ x. opened x.validity x.next)) result self.old.transcript self.new.transcript }
+        ensures heard { EndsBy (of_select keywords.now (self.old.tags + 1) (λ x. opened x.validity x.next)) result
+            self.old.transcript self.new.transcript }
     {
         is_map(keywords);
         self.ask(&Call::Select(name))?;
@@ -363,7 +365,8 @@ impl<L: Link> FarBox<L> {
         ensures outcome { L.honest self.new.session.wire.link → HasMap self.old.keywords (server_of self.old.session)
             → Among L.visitors (λ s t. (m : FarMailbox) → selected s ≡ Some m
             → Outcome (λ _. Becomes (stored modes.Add (kept self.old.keywords flags) (one_uid uid))) Never
-            (Becomes (stored modes.Add (kept self.old.keywords flags) (one_uid uid))) result s t) (server_of self.old.session) (server_of self.new.session) }
+            (Becomes (stored modes.Add (kept self.old.keywords flags) (one_uid uid))) result s t)
+            (server_of self.old.session) (server_of self.new.session) }
     {
         let call = Call::Store(uid, StoreMode::Add, flags, &self.keywords);
         self.session.change(&call)
@@ -382,7 +385,8 @@ impl<L: Link> FarBox<L> {
         ensures outcome { L.honest self.new.session.wire.link → HasMap self.old.keywords (server_of self.old.session)
             → Among L.visitors (λ s t. (m : FarMailbox) → selected s ≡ Some m
             → Outcome (λ _. Becomes (stored modes.Remove (kept self.old.keywords flags) (one_uid uid))) Never
-            (Becomes (stored modes.Remove (kept self.old.keywords flags) (one_uid uid))) result s t) (server_of self.old.session) (server_of self.new.session) }
+            (Becomes (stored modes.Remove (kept self.old.keywords flags) (one_uid uid))) result s t)
+            (server_of self.old.session) (server_of self.new.session) }
     {
         let call = Call::Store(uid, StoreMode::Remove, flags, &self.keywords);
         self.session.change(&call)

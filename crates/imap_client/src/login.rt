@@ -56,7 +56,8 @@ impl<L: Link> Session<L> {
         ensures counts { L.stops self.old.wire.link ≤ L.stops self.new.wire.link }
         ensures stuck { self.old.is_ready ≡ false → self.new ≡ self.old }
         ensures ends { EndsSo 1 (state_of self.old) (state_of self.new) result }
-        ensures outcome { L.honest self.new.wire.link → Among L.visitors (Outcome (λ _. Remains) Never Remains result) (server_of self.old) (server_of self.new) }
+        ensures outcome { L.honest self.new.wire.link
+            → Among L.visitors (Outcome (λ _. Remains) Never Remains result) (server_of self.old) (server_of self.new) }
         ensures heard { EndsBy (of_abilities (self.old.tags + 1)) result self.old.transcript self.new.transcript }
     {
         self.ask(&Call::Capability)?;

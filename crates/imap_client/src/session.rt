@@ -3,7 +3,7 @@
 ghost use Rattle.std.specs.Prelude.{◌≡◌, ◌≤◌, ◌⊎◌, ◌+◌, ◌++◌, [], true, false, IfOk, IfErr, OnOk, OnErr, IsErrOf};
 ghost use Rattle.imap_replies.specs.declared.word.Status.TheVariants as statuses;
 ghost use Rattle.imap_session.specs.Ends.{ends_of, is_logout};
-ghost use Rattle.reply_buf.specs.Buffers.{empty};
+ghost use Rattle.imap_link.specs.ReplyBuffers.{empty};
 ghost use Rattle.imap_client.specs.Stillness.{IsStill};
 ghost use Rattle.imap_link.specs.Buffers.{IsAnswerText};
 ghost use Rattle.imap_client.specs.Tags.{tag_text};
@@ -27,11 +27,11 @@ use crate::transcript::Transcript;
 use imap_commands::command::{Command, Request};
 use imap_link::fault::FarFault;
 use imap_link::link::Link;
+use imap_link::reply_buf::ReplyBuf;
 use imap_link::sink::{NoSink, ReplySink};
 use imap_link::uses::Uses;
 use imap_link::wire::{PIECE, Wire};
 use imap_replies::word::Status;
-use reply_buf::buffer::ReplyBuf;
 use std::alloc::Global;
 use wire_tokens::tag::Tag;
 

@@ -3,7 +3,7 @@
 ghost use Rattle.std.specs.Prelude.{◌≡◌, ◌∷◌, []};
 
 use device::history::History;
-use reply_buf::buffer::ReplyBuf;
+use imap_link::reply_buf::ReplyBuf;
 use std::marker::Model;
 
 /// The answers that a session has heard, the last first. To contracts it is the list of their bytes; it takes no memory.

@@ -8,7 +8,7 @@ use Rattle.imap_session.specs.Heard.{tag_of, is_passed, IsAnswer, AreUntagged, A
 use Rattle.imap_session.proofs.Apart.{apart, replies_apart}
 use Rattle.imap_session.proofs.AnswersApart.{plain_go, reply_some}
 use Rattle.imap_session.specs.Ends.{Ends}
-use Rattle.reply_buf.specs.Fronts.{Spells, IsFaulty}
+use Rattle.imap_link.specs.Fronts.{Spells, IsFaulty}
 use Rattle.imap_link.specs.declared.uses.Uses.{Uses}
 use Rattle.imap_link.specs.declared.kind.ReplyKind.{ReplyKind}
 use Rattle.imap_link.specs.declared.kind.ReplyKind.TheVariants.{Stray}

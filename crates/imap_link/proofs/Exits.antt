@@ -5,7 +5,7 @@ use Rattle.imap_link.specs.declared.fault.FarFault.TheVariants as faults
 use Rattle.imap_link.specs.declared.link.LinkFault.{LinkFault}
 use Rattle.imap_link.specs.declared.link.LinkFault.TheVariants as links
 use Rattle.imap_link.specs.Faults.{link_fault, IsStop}
-use Rattle.reply_buf.specs.Fronts.{IsFaulty}
+use Rattle.imap_link.specs.Fronts.{IsFaulty}
 
 pub if_err : {T : Type 0} (Q : FarFault → Type 0) (r : Result T FarFault) (x y : FarFault) → r ≡ Err x → x ≡ y → Q y → IfErr r Q
 if_err {T} Q r x y e f q = subst (λ (s : Result T FarFault). IfErr s Q) (sym e) (subst Q (sym f) q)

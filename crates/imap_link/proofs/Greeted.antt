@@ -12,7 +12,7 @@ use Rattle.imap_session.proofs.Greeted.{greeted}
 use Rattle.imap_link.specs.declared.kind.ReplyKind.{ReplyKind}
 use Rattle.imap_link.specs.declared.kind.ReplyKind.TheVariants.{Hello, Bye}
 use Rattle.imap_link.specs.ReplyKinds.{kind_of}
-use Rattle.reply_buf.specs.Fronts.{IsFaulty}
+use Rattle.imap_link.specs.Fronts.{IsFaulty}
 use Rattle.imap_link.specs.Buffers.{WholeRead, GoesOn, SaysBye}
 use Rattle.imap_link.specs.Exchanges.{Restarts}
 use Rattle.imap_link.proofs.Passing.{one}

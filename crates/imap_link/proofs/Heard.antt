@@ -6,8 +6,8 @@ use Rattle.wire_reader.specs.declared.answer.WireFault.{WireFault}
 use Rattle.imap_replies.specs.declared.reply.Reply.{Reply}
 use Rattle.imap_session.specs.Lines.{Line}
 use Rattle.imap_session.specs.Ends.{Ends, ends_of}
-use Rattle.reply_buf.specs.Buffers.{Buffer, reads}
-use Rattle.reply_buf.specs.Fronts.{Spells, IsWhole}
+use Rattle.imap_link.specs.ReplyBuffers.{Buffer, reads}
+use Rattle.imap_link.specs.Fronts.{Spells, IsWhole}
 use Rattle.imap_link.specs.Buffers.{WholeRead, GoesOn, Keeps}
 
 module _ (honest : Type 0) (first : Ends) (line : Line) (old : List ℕ) (b new : Buffer) (len : ℕ) where

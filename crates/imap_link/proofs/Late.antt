@@ -9,11 +9,11 @@ use Rattle.imap_replies.specs.declared.reply.Reply.{Reply}
 use Rattle.wire_reader.specs.declared.answer.Read.{Read}
 use Rattle.wire_reader.specs.declared.answer.Read.TheVariants.{Whole, WantsLiteral, Partial}
 use Rattle.imap_session.specs.Heard.{AreReplies}
-use Rattle.reply_buf.specs.Buffers.{Buffer, Moves, held_in, reads}
-use Rattle.reply_buf.specs.Fronts.{Spells, NoneWhole, IsWhole, Begun, BeginsAtPlaces, Looks}
-use Rattle.reply_buf.proofs.Begun.{begins_empty}
-use Rattle.reply_buf.proofs.Fitting.{fits_at_places}
-use Rattle.reply_buf.proofs.Searched.{none_empty}
+use Rattle.imap_link.specs.ReplyBuffers.{Buffer, Moves, held_in, reads}
+use Rattle.imap_link.specs.Fronts.{Spells, NoneWhole, IsWhole, Begun, BeginsAtPlaces, Looks}
+use Rattle.imap_link.proofs.Begun.{begins_empty}
+use Rattle.imap_link.proofs.Fitting.{fits_at_places}
+use Rattle.imap_link.proofs.Searched.{none_empty}
 use Rattle.imap_link.specs.declared.uses.Uses.{Uses}
 use Rattle.imap_link.specs.UsedReplies.{is_used}
 use Rattle.imap_link.specs.Buffers.{WholeRead, OneMore, Following, AreRead, IsBounded}

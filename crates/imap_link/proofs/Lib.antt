@@ -1,3 +1,12 @@
+pub mod Places
+pub mod Begun
+pub mod Fitting
+pub mod Searched
+pub mod Faulty
+pub mod Looked
+pub mod BufferExits
+pub mod Views
+pub mod Answered
 pub mod KindLemmas
 pub mod Text
 pub mod Kept

@@ -10,7 +10,7 @@ use Rattle.imap_session.specs.Heard.{is_passed, tag_of, AreUntagged, AreReplies}
 use Rattle.imap_session.specs.Lines.{Line}
 use Rattle.imap_session.specs.Ends.{Ends, ends_of, Hears}
 use Rattle.imap_session.proofs.Others.{quiet-trans}
-use Rattle.reply_buf.specs.Buffers.{Buffer, drops_last}
+use Rattle.imap_link.specs.ReplyBuffers.{Buffer, drops_last}
 use Rattle.imap_link.specs.declared.kind.ReplyKind.{ReplyKind}
 use Rattle.imap_link.specs.declared.kind.ReplyKind.TheVariants.{Mine}
 use Rattle.imap_link.specs.declared.uses.Uses.{Uses}

@@ -6,8 +6,8 @@ use Rattle.imap_session.specs.Heard.{AreUntagged, AreReplies}
 use Rattle.imap_session.specs.Lines.{Stays}
 use Rattle.imap_session.specs.Ends.{Ends}
 use Rattle.wire_reader.specs.Lexical.{outside}
-use Rattle.reply_buf.specs.Fronts.{Spells, NoneWhole, BeginsAtPlaces}
-use Rattle.reply_buf.specs.Buffers.{Buffer, held_in}
+use Rattle.imap_link.specs.Fronts.{Spells, NoneWhole, BeginsAtPlaces}
+use Rattle.imap_link.specs.ReplyBuffers.{Buffer, held_in}
 use Rattle.imap_link.specs.declared.kind.ReplyKind.{ReplyKind}
 use Rattle.imap_link.specs.declared.kind.ReplyKind.TheVariants.{Go, Mine, Bye}
 use Rattle.imap_link.specs.declared.wire.LastReply.{LastReply}

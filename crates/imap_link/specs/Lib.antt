@@ -1,3 +1,6 @@
+pub mod Fronts
+pub mod Searches
+pub mod ReplyBuffers
 pub mod Faults
 pub mod ReplyKinds
 pub mod UsedReplies

@@ -7,8 +7,8 @@ ghost use Rattle.imap_replies.specs.declared.reply.Reply.{Reply};
 ghost use Rattle.imap_session.specs.Servers.{Quiet};
 ghost use Rattle.imap_session.specs.Lines.{reported_server};
 ghost use Rattle.imap_session.specs.Ends.{IsIdle};
-ghost use Rattle.reply_buf.specs.Buffers.{held_in, drops_last};
-ghost use Rattle.reply_buf.specs.Fronts.{IsFaulty};
+ghost use Rattle.imap_link.specs.ReplyBuffers.{held_in, drops_last};
+ghost use Rattle.imap_link.specs.Fronts.{IsFaulty};
 ghost use Rattle.imap_link.specs.Faults.{IsStop, IsHearing};
 ghost use Rattle.imap_link.specs.Buffers.{Reads, GoesOn, Keeps, Reports, SaysBye, Expects, IsAnswerText, Came, IsReported, Following, IsBounded};
 ghost use Rattle.imap_link.specs.Sinks.{TakesReply, any_replies};
@@ -21,11 +21,11 @@ ghost use Rattle.imap_link.specs.Wires.{ends_in, HearsWhole};
 use crate::fault::FarFault;
 use crate::kind::{ReplyKind, kind_of};
 use crate::link::Link;
+use crate::reply_buf::ReplyBuf;
 use crate::sink::{NoSink, ReplySink};
 use crate::uses::Uses;
 use imap_replies::word::Status;
 use mailcore::copy_pieces::CopyPieces;
-use reply_buf::buffer::ReplyBuf;
 use std::alloc::Global;
 use wire_reader::answer::Read;
 use wire_tokens::tag::Tag;
@@ -115,7 +115,8 @@ impl<L: Link> Wire<L> {
         ensures late { Following self.old.heard.read (max 4096 (length self.old.heard.unread)) (held_in self.new.heard) }
         ensures heard { IfOk result (λ r. Reads uses tag.now r.0 r.1 r.2
             (λ reply. TakesReply S.took reply sink.old sink.new)
-            (λ text. L.honest self.new.link → GoesOn (ends_in L.line self.old) (ends_in L.line self.new) text) self.old.heard.read self.new.heard.read) }
+            (λ text. L.honest self.new.link → GoesOn (ends_in L.line self.old) (ends_in L.line self.new) text)
+            self.old.heard.read self.new.heard.read) }
         ensures fault { IfErr result (λ fault. L.honest self.new.link → IsStop fault ⊎ IsFaulty (ends_in L.line self.old).coming) }
         ensures known { IfErr result IsHearing }
         ensures stopped { IsErrOf result FarFault.Stopped → L.stops self.old.link < L.stops self.new.link }
@@ -141,8 +142,8 @@ impl<L: Link> Wire<L> {
         ensures steady { OnOk result (L.stops self.new.link ≡ L.stops self.old.link) }
         ensures quiet { L.honest self.new.link → Quiet (L.line self.old.link).end.server (L.line self.new.link).end.server }
         ensures reported { IfOk result (λ reported. Reports tag.now self.new.heard.read reported) }
-        ensures came { IfOk result (λ reported. Came uses (λ reported. S.took sink.old reported sink.new) (IsReported tag.now reported) self.new.heard.read
-            (λ text. L.honest self.new.link → GoesOn (ends_in L.line self.old) (ends_in L.line self.new) text)) }
+        ensures came { IfOk result (λ reported. Came uses (λ reported. S.took sink.old reported sink.new)
+            (IsReported tag.now reported) self.new.heard.read (λ text. L.honest self.new.link → GoesOn (ends_in L.line self.old) (ends_in L.line self.new) text)) }
         ensures fault { IfErr result (λ fault. L.honest self.new.link → Expects tag.now (ends_in L.line self.old).coming → IsStop fault) }
         ensures bounded { IsBounded uses (max 4096 (length self.old.heard.unread)) self.new.heard }
         ensures known { IfErr result IsHearing }
@@ -181,7 +182,8 @@ impl<L: Link> Wire<L> {
         ensures was_honest { L.honest self.new.link → L.honest self.old.link }
         ensures counts { L.stops self.old.link ≤ L.stops self.new.link }
         ensures steady { OnOk result (L.stops self.new.link ≡ L.stops self.old.link) }
-        ensures outcome { L.honest self.new.link → AfterVisits L.visitors (λ line. Exchanges uses tag.now rest.now (λ reported. S.took sink.old reported sink.new) result
+        ensures outcome { L.honest self.new.link → AfterVisits L.visitors
+            (λ line. Exchanges uses tag.now rest.now (λ reported. S.took sink.old reported sink.new) result
             line self.old.heard.unread (L.line self.new.link) self.new.heard.read) (L.line self.old.link) }
         ensures idle { OnOk result (L.honest self.new.link → StaysIdle uses tag.now rest.now
             (L.line self.old.link) self.old.heard.unread (L.line self.new.link) self.new.heard.unread) }
@@ -208,7 +210,8 @@ impl<L: Link> Wire<L> {
         ensures was_honest { L.honest self.new.link → L.honest self.old.link }
         ensures counts { L.stops self.old.link ≤ L.stops self.new.link }
         ensures steady { OnOk result (L.stops self.new.link ≡ L.stops self.old.link) }
-        ensures outcome { L.honest self.new.link → AfterVisits L.visitors (λ line. Exchanges uses tag.now (text_left copy.entry ++ crlf) any_replies result
+        ensures outcome { L.honest self.new.link → AfterVisits L.visitors
+            (λ line. Exchanges uses tag.now (text_left copy.entry ++ crlf) any_replies result
             line self.old.heard.unread (L.line self.new.link) self.new.heard.read) (L.line self.old.link) }
         ensures idle { OnOk result (L.honest self.new.link → StaysIdle uses tag.now (text_left copy.entry ++ crlf)
             (L.line self.old.link) self.old.heard.unread (L.line self.new.link) self.new.heard.unread) }

@@ -2,8 +2,8 @@
 use Rattle.std.proofs.Common.{◌≡◌, ◌≤◌, ℕ, ◌+◌, ◌-◌, List, length, take, drop, arith, refl, ap, ◌∙◌, length-drop, Option, Some}
 use Rattle.wire_reader.specs.declared.scanner.Scanner.{Scanner}
 use Rattle.wire_reader.specs.Scanning.{first_place}
-use Rattle.reply_buf.proofs.Exits.{slice_is}
-use Rattle.reply_buf.proofs.Places.{place_within}
+use Rattle.imap_link.proofs.BufferExits.{slice_is}
+use Rattle.imap_link.proofs.Places.{place_within}
 
 pub next_within : (scanned : ℕ) (scanner : Scanner) (bytes : List ℕ) (count : ℕ) → scanned ≤ length bytes
     → Some count ≡ first_place scanner (take (length bytes - scanned) (drop scanned bytes)) → scanned + count ≤ length bytes

@@ -4,7 +4,7 @@ use Rattle.std.specs.Prelude.{if◌then◌else◌}
 use Rattle.wire_reader.specs.declared.scanner.Scanner.{Scanner}
 use Rattle.wire_reader.specs.Scanning.{after, scanned, is_place, place_from, first_place}
 use Rattle.wire_reader.proofs.Scanned.{scanned-append}
-use Rattle.reply_buf.proofs.Places.{place_within}
+use Rattle.imap_link.proofs.Places.{place_within}
 use Rattle.link_face.proofs.Pieces.{rest_is}
 
 some_apart : (m n : ℕ) → (let x : Option ℕ = Some m in x) ≡ Some n → m ≡ n

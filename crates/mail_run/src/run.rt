@@ -16,8 +16,9 @@ use config::config::Config;
 use config::request::{Chosen, RunRequest};
 use mail_stores::mail_stores::MailStores;
 use mail_stores::notes::ServerNotes;
+use mailcore::keywords::Keywords;
 use near_places::home::Home;
-use std::alloc::Global;
+use std::alloc::{AllocError, Global};
 use std::fs::File;
 use std::io::Write;
 use std::net::Net;
@@ -32,6 +33,8 @@ pub(crate) struct Start {
     seed: [u8; 32],
     pub(crate) fresh: NonZeroU32,
     pub(crate) notes: ServerNotes,
+    /// The map of keywords of the first channel: by it the first server is seen.
+    pub(crate) seen_by: Keywords,
 }
 
 /// Reads what a run needs: HOME, the configuration, which is that of this file if one is named, 32 random bytes and the clock, in this
@@ -43,13 +46,23 @@ pub(crate) fn start_of<R: Files + Env + Clock + AllocGlobal>(
     let home = read_home(rt)?;
     let config = open_config(rt, file, home.as_deref())?;
     refuse_boxes(rt.alloc(), &config)?;
+    let seen_by = first_keywords(rt.alloc(), &config)?;
     Ok(Start {
         config,
         home: Home::new(home),
         seed: read_seed(rt)?,
         fresh: read_fresh(rt)?,
         notes: ServerNotes::new(rt.alloc())?,
+        seen_by,
     })
+}
+
+/// The map of keywords of the first channel, or that of no channel.
+fn first_keywords(alloc: Global, config: &Config) -> Result<Keywords, AllocError> {
+    match config.channels.first() {
+        Some(channel) => channel.keywords.try_clone(alloc),
+        None => Ok(Keywords::new(alloc)),
+    }
 }
 
 /// Refuses a configuration that names a mailbox which no Maildir store can have, before anything is made.
@@ -115,6 +128,7 @@ fn run_start<
         seed,
         fresh,
         notes,
+        seen_by,
     } = start;
     let work = RunWork {
         alloc: rt.alloc(),
@@ -122,7 +136,7 @@ fn run_start<
         request,
         seed,
     };
-    let stores = MailStores::new(rt, home, fresh, notes, screen.steps());
+    let stores = MailStores::new(rt, home, fresh, notes, seen_by, screen.steps());
     run_over(work, stores, screen, out, err)
 }
 

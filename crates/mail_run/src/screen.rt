@@ -2,7 +2,7 @@
 
 use channels::channel_box::ChannelBox;
 use config::config::ImapStore;
-use mail_stores::waits::{Wait, Waits};
+use imap_client::waits::{Wait, Waits};
 use runner::progress::Progress;
 use std::cell::Cell;
 use std::io;

@@ -32,6 +32,8 @@ impl<S: Stores + Drop, T: Write + Copy> BoxLists for ShownStores<'_, S, T> {
 
     ghost asked = { λ shown. S.asked shown.stores };
 
+    ghost answered = { λ shown. S.answered shown.stores };
+
     fn far_boxes(&mut self, store: &ImapStore) -> Result<Vec<MailboxName>, ListFault> {
         self.screen.show_store(store);
         let names = self.stores.far_boxes(store);

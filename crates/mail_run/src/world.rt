@@ -65,6 +65,7 @@ fn start_world<
         home,
         fresh,
         notes,
+        seen_by,
         ..
     } = start;
     let Some(named) = named_box(&config, mailbox) else {
@@ -75,7 +76,7 @@ fn start_world<
         );
         return status_of(reported, 2);
     };
-    let mut stores = MailStores::new(rt, home, fresh, notes, ());
+    let mut stores = MailStores::new(rt, home, fresh, notes, seen_by, ());
     let read = world_text(alloc, named, bodies, &mut stores);
     let status = match read {
         Ok(text) => status_of(print(out, text.as_str()), 0),

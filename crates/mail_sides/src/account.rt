@@ -22,7 +22,9 @@ impl Account {
         requires user { IsWord user.items }
         requires password { IsWord password.items }
         requires mailbox { IsWord mailbox.items }
-        ensures { result.mailbox.items ≡ mailbox.items }
+        ensures user { result.user.items ≡ user.items }
+        ensures password { result.password.items ≡ password.items }
+        ensures mailbox { result.mailbox.items ≡ mailbox.items }
     {
         Account {
             user,

@@ -59,6 +59,7 @@ impl<L: Link + Drop> FarSide<L> {
             ≡ record { stored = box_at keywords account.mailbox.items (L.line link).end.server; is_broken = false; stops = L.stops link } }
         ensures was_honest { honest_of result → L.honest link }
         ensures honest { L.honest link → honest_of result }
+        ensures account { result.account ≡ account }
         ensures keywords { result.far.keywords ≡ keywords }
         ensures closed { is_open_at result.stage ≡ false }
     {
@@ -80,6 +81,7 @@ impl<L: Link + Drop> FarSide<L> {
         } }
         ensures was_honest { honest_of result → L.honest session.session.wire.link }
         ensures honest { L.honest session.session.wire.link → honest_of result }
+        ensures account { result.account ≡ account }
         ensures keywords { result.far.keywords ≡ keywords }
         ensures closed { is_open_at result.stage ≡ false }
     {

@@ -179,7 +179,8 @@ impl<F: Folder + Drop> Mailbox for NearSide<F> {
         ensures keywords { self.new.near.keywords ≡ self.old.near.keywords }
         ensures open { self.new.is_open ≡ true }
         ensures full { F.honest self.new.near.folder → IsFull 1 (seen_of self.old).stored → IsErrOf result (BoxFault.Own NEAR_UIDS_EXHAUSTED) }
-        ensures call { Calls (NoRoom Near (λ _. 1)) (Appends Near (text_left copy.entry) (kept self.old.near.keywords flags)) SetsAside self.old self.new result }
+        ensures call { Calls (NoRoom Near (λ _. 1)) (Appends Near (text_left copy.entry) (kept self.old.near.keywords flags)) SetsAside
+            self.old self.new result }
     {
         match self.near.append_copy(copy, flags) {
             Ok(uid) => Ok(Some(uid)),

@@ -1,3 +1,4 @@
 pub mod Names
 pub mod Notices
 pub mod Passwords
+pub mod Reached

@@ -1,5 +1,8 @@
 //! Who logs in for a mailbox.
 
+ghost use Rattle.std.specs.Prelude.{IfOk, IfSome};
+ghost use Rattle.mail_stores.specs.Reached.{IsAccount};
+
 use crate::server::is_word;
 use config::config::ImapStore;
 use mail_sides::account::Account;
@@ -11,7 +14,9 @@ pub(crate) fn account_of(
     alloc: Global,
     store: &ImapStore,
     name: &MailboxName,
-) -> Result<Option<Account>, AllocError> {
+) -> Result<Option<Account>, AllocError>
+    ensures { IfOk result (λ found. IfSome found (IsAccount store.now name.now)) }
+{
     let user = store.user.as_bytes();
     let password = store.pass.as_bytes();
     let name = name.as_str().as_bytes();

@@ -1,6 +1,7 @@
 //! The real stores: servers over TCP, and folders of a disk.
 
-ghost use Rattle.std.specs.Prelude.{◌≡◌, IfOk};
+ghost use Rattle.std.specs.Prelude.{◌≡◌, IfOk, string_bytes};
+ghost use Rattle.mail_stores.specs.Reached.{AreIn, IsAccount};
 
 use crate::asked::Asked;
 use crate::guarded_work::GuardedSides;
@@ -12,13 +13,13 @@ use crate::reach::{NearParts, Reach, RealSides};
 use crate::reported::{list_fault, lock_fault, make_fault, ordered, unlisted, unreached};
 use crate::server::{AskFault, RealLink, is_word};
 use crate::sessions::Sessions;
-use crate::waits::Waits;
 use channels::channel_box::{ChannelBox, ChannelStores};
 use channels::notice::Notice;
 use channels::stop_cause::StopCause;
 use channels::store_fault::{ListFault, StoreFault};
 use channels::stores::{BoxLists, Stores, Work};
 use config::config::{ImapStore, MaildirStore};
+use imap_client::waits::Waits;
 use imap_link::fault::FarFault;
 use imap_link::link::Link;
 use mail_sides::far_side::FarSide;
@@ -55,8 +56,8 @@ pub struct MailStores<
     asked: Option<Asked>,
     pub(crate) notices: Notices,
     sessions: Sessions<L>,
-    /// The map of keywords of the mailbox that was open last. By it the server is seen of a session that is opened to list mailboxes or to
-    /// make one: the next mailbox most likely has the same.
+    /// The map of keywords of the mailbox that was open last, or of the first channel. By it the server is seen of a session that is opened
+    /// to list mailboxes or to make one: the next mailbox most likely has the same.
     seen_by: Keywords,
     /// What is known of the mailbox that was open last.
     pub(crate) last: LastBox,
@@ -66,9 +67,17 @@ impl<
     R: Net + Files<File = File> + Clock + AllocGlobal + Clone + Drop,
     P: Progress + Waits + Copy,
 > MailStores<R, P> {
-    /// The stores of a user with this home folder. Near mailboxes that have no UIDVALIDITY yet get this one. `progress` shows how far
-    /// the run over a mailbox is, and what mbsync waits for.
-    pub fn new(rt: R, home: Home, fresh: NonZeroU32, notes: ServerNotes, progress: P) -> Self {
+    /// The stores of a user with this home folder. Near mailboxes that have no UIDVALIDITY yet get this one. The first server is seen by
+    /// this map of keywords: where the first mailbox has the same, one login serves its list and the mailbox. `progress` shows how far the
+    /// run over a mailbox is, and what mbsync waits for.
+    pub fn new(
+        rt: R,
+        home: Home,
+        fresh: NonZeroU32,
+        notes: ServerNotes,
+        seen_by: Keywords,
+        progress: P,
+    ) -> Self {
         let alloc = rt.alloc();
         MailStores {
             reach: Reach {
@@ -82,7 +91,7 @@ impl<
             asked: None,
             notices: Notices::new(alloc),
             sessions: Sessions::new(),
-            seen_by: Keywords::new(alloc),
+            seen_by,
             last: LastBox::none(alloc),
         }
     }
@@ -195,26 +204,50 @@ impl<
         work: W,
     ) -> Result<W::Answer, LockFault> {
         let folder = self.reach.folder_of(place)?;
-        let lock = Lock::take(&self.reach.rt, folder.as_str())?;
-        let (alloc, fresh) = (self.reach.rt.alloc(), self.reach.fresh);
-        let keywords = work.keywords().try_clone(alloc)?;
-        let sides = self.open_sides(place, folder.as_str(), &keywords)?;
-        let (sides, answer) = sides.work(&lock, alloc, fresh, keywords, work, &self.progress);
-        self.note_end(place, folder.as_str(), &sides);
-        self.keep_far(place.of.far_store, sides.into_far());
-        Ok(answer)
+        let path = folder.as_str();
+        let lock = Lock::take(&self.reach.rt, path)?;
+        let keywords = work.keywords().try_clone(self.reach.rt.alloc())?;
+        let sides = self.open_sides(place, path, &keywords)?;
+        Ok(self.work_locked(place, path, &lock, sides, keywords, work))
     }
 
-    /// Both sides of a mailbox, the far one by this map of keywords. Nothing of them is open.
+    /// Does this over both sides of a mailbox, the near one in this folder, which this lock is for, and notes how it ended.
+    fn work_locked<W: Work + Drop>(
+        &mut self,
+        place: ChannelBox<'_>,
+        folder: &str,
+        lock: &Lock,
+        sides: RealSides<R, P>,
+        keywords: Keywords,
+        work: W,
+    ) -> W::Answer
+        requires lock { string_bytes lock.now.folder ≡ folder.now }
+        requires near { AreIn folder.now sides.sides.folder sides.sides.shelf sides.guard.folder }
+        requires map { sides.sides.far.far.keywords ≡ keywords }
+        requires asked { keywords ≡ (W.options work).keywords }
+    {
+        let (alloc, fresh) = (self.reach.rt.alloc(), self.reach.fresh);
+        let (sides, answer) = sides.work(lock, alloc, fresh, keywords, work, &self.progress);
+        self.note_end(place, folder, &sides);
+        self.keep_far(place.of.far_store, sides.into_far());
+        answer
+    }
+
+    /// Both sides of a mailbox, the near one in this folder, the far one by this map of keywords. Nothing of them is open.
     fn open_sides(
         &mut self,
         place: ChannelBox<'_>,
         folder: &str,
         keywords: &Keywords,
     ) -> Result<RealSides<R, P>, LockFault>
+        ensures far { IfOk result (λ sides. IsAccount place.entry.of.far_store.now place.entry.far.now sides.sides.far.account) }
+        ensures near { IfOk result (λ sides. AreIn folder.now sides.sides.folder sides.sides.shelf sides.guard.folder) }
         ensures map { IfOk result (λ sides. sides.sides.far.far.keywords ≡ keywords.now) }
     {
-        let near = self.reach.near_parts(folder).map_err(LockFault::Refused)?;
+        let near = match self.reach.near_parts(folder) {
+            Ok(near) => near,
+            Err(refusal) => return Err(LockFault::Refused(refusal)),
+        };
         match self.far_side(place, keywords) {
             Ok(far) => Ok(sides_of(far, near)),
             Err(refusal) => Err(LockFault::Refused(refusal)),
@@ -228,6 +261,7 @@ impl<
         place: ChannelBox<'_>,
         keywords: &Keywords,
     ) -> Result<FarSide<RealLink<R, P>>, PlaceRefusal>
+        ensures account { IfOk result (λ far. IsAccount place.entry.of.far_store.now place.entry.far.now far.account) }
         ensures map { IfOk result (λ far. far.far.keywords ≡ keywords.now) }
     {
         let alloc = self.reach.rt.alloc();
@@ -277,7 +311,10 @@ fn sides_of<R: Net + Files<File = File> + Clock + AllocGlobal + Clone + Drop, P:
     far: FarSide<RealLink<R, P>>,
     near: NearParts<R>,
 ) -> RealSides<R, P>
-    ensures map { result.sides.far.far.keywords ≡ far.far.keywords }
+    ensures far { result.sides.far ≡ far }
+    ensures folder { result.sides.folder ≡ near.folder }
+    ensures shelf { result.sides.shelf ≡ near.shelf }
+    ensures look { result.guard ≡ near.look }
 {
     let NearParts {
         folder,

@@ -1,8 +1,8 @@
 //! What is noted of servers while they are asked, to be reported later.
 
-use crate::noted_link::{LinkEnd, NotedEnd};
 use crate::server::AskFault;
 use channels::store_fault::ConnectFault;
+use imap_client::noted_link::{LinkEnd, NotedEnd};
 use imap_client::tcp_link::Unreached;
 use imap_link::fault::FarFault;
 use link_face::words::Words;

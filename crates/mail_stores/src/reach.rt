@@ -1,18 +1,20 @@
 //! How the mailboxes of a configuration are reached: servers over TCP, and folders of a disk.
 
-ghost use Rattle.std.specs.Prelude.{◌≡◌, IfOk};
+ghost use Rattle.std.specs.Prelude.{◌≡◌, IfOk, string_bytes};
+ghost use Rattle.mail_stores.specs.Reached.{AreIn, IsAccount};
+ghost use Rattle.near_places.specs.Paths.{folder_of};
 
 use crate::account::account_of;
 use crate::guarded_work::GuardedSides;
 use crate::notes::ServerNotes;
 use crate::server::{AskFault, RealLink, link_to, log_in};
-use crate::waits::Waits;
 use book::disk_shelf::{DiskShelf, name_of};
 use book::shelf;
 use channels::channel_box::ChannelBox;
 use config::config::{ImapStore, MaildirStore};
 use device::DeviceFault;
 use guarded::near_look::NearLook;
+use imap_client::waits::Waits;
 use mail_sides::account::Account;
 use mail_sides::logged_in::LoggedIn;
 use mailcore::keywords::Keywords;
@@ -126,7 +128,9 @@ impl<R: Net + Files<File = File> + Clock + AllocGlobal + Clone + Drop, W: Waits 
 
     /// The folder of the near side of a mailbox. `Refused`: a part of the far name is that of a folder or a file of a mailbox near, or there
     /// can be no near mailbox of its name (`near_folder`).
-    pub(crate) fn folder_of(&self, place: ChannelBox<'_>) -> Result<String, LockFault> {
+    pub(crate) fn folder_of(&self, place: ChannelBox<'_>) -> Result<String, LockFault>
+        ensures { IfOk result (λ folder. string_bytes folder ≡ folder_of self.now.home place.entry.of.near_store.now place.entry.near.now) }
+    {
         if has_own_part(place.far.as_str()) {
             let refusal = PlaceRefusal::cannot_open(self.rt.alloc(), place.far.as_str(), OWN_PART);
             return Err(LockFault::Refused(refusal));
@@ -148,7 +152,9 @@ impl<R: Net + Files<File = File> + Clock + AllocGlobal + Clone + Drop, W: Waits 
     }
 
     /// Who logs in for the far side of a mailbox.
-    pub(crate) fn account(&self, place: ChannelBox<'_>) -> Result<Account, PlaceRefusal> {
+    pub(crate) fn account(&self, place: ChannelBox<'_>) -> Result<Account, PlaceRefusal>
+        ensures { IfOk result (IsAccount place.entry.of.far_store.now place.entry.far.now) }
+    {
         let alloc = self.rt.alloc();
         let store = place.of.far_store;
         match account_of(alloc, store, place.far)? {
@@ -158,7 +164,9 @@ impl<R: Net + Files<File = File> + Clock + AllocGlobal + Clone + Drop, W: Waits 
     }
 
     /// The near side of a mailbox: nothing of it is read yet.
-    pub(crate) fn near_parts(&self, folder: &str) -> Result<NearParts<R>, PlaceRefusal> {
+    pub(crate) fn near_parts(&self, folder: &str) -> Result<NearParts<R>, PlaceRefusal>
+        ensures { IfOk result (λ near. AreIn folder.now near.folder near.shelf near.look.folder) }
+    {
         let look = NearLook::new(self.rt.clone()?, String::from_str(self.rt.alloc(), folder)?);
         let shelf = DiskShelf::new(self.rt.clone()?, folder)?;
         let folder = DiskFolder::new(self.rt.clone()?, folder)?;

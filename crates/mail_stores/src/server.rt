@@ -3,11 +3,11 @@
 ghost use Rattle.std.specs.Prelude.{◌≡◌, ◌↔◌, IfOk, IsTrue};
 ghost use Rattle.imap_client.specs.Requests.{IsWord};
 
-use crate::noted_link::NotedLink;
 use crate::notes::ServerNotes;
-use crate::waits::Waits;
 use config::config::ImapStore;
+use imap_client::noted_link::NotedLink;
 use imap_client::tcp_link::TcpLink;
+use imap_client::waits::Waits;
 use imap_link::fault::FarFault;
 use link_face::face_link::FaceLink;
 use mail_sides::logged_in::LoggedIn;

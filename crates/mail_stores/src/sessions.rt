@@ -3,8 +3,8 @@
 ghost use Rattle.std.specs.Prelude.{◌≡◌, IfSome};
 ghost use Rattle.imap_client.specs.Requests.{IsWord};
 
-use crate::noted_link::NotedLink;
-use crate::waits::Waits;
+use imap_client::noted_link::NotedLink;
+use imap_client::waits::Waits;
 use imap_link::fault::FarFault;
 use imap_link::link::Link;
 use mail_sides::logged_in::LoggedIn;

@@ -12,5 +12,4 @@ pub mod PermutedLemmas
 pub mod PlaceLemmas
 pub mod SearchedLemmas
 pub mod SlotLemmas
-pub mod Walks
 pub mod ReportedLemmas

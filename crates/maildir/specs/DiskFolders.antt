@@ -2,7 +2,8 @@
 use Rattle.std.specs.Prelude.{◌≡◌, ◌+◌, ◌&&◌, ℕ, Bool, true, false, if◌then◌else◌, List, [], ◌∷◌, take, Vec, Option, Some, None}
 use Rattle.std.specs.Global.{Global}
 use Rattle.device.specs.Calls.{Seen}
-use Rattle.device.specs.Conditions.{DiskParts, seen_in}
+use Rattle.device.specs.Conditions.{seen_in}
+use Rattle.device.specs.Recorded.{Recorded}
 use Rattle.maildir.specs.declared.disk_call.NameSync.{NameSync}
 use Rattle.maildir.specs.declared.disk_call.NameSync.TheVariants.{In, Whole}
 use Rattle.maildir.specs.declared.disk_call.DiskDeed.{DiskDeed}
@@ -14,10 +15,8 @@ use Rattle.maildir.specs.DiskEvents.{DiskEvent, DiskWorld, IsHonest, Standing, s
 use Rattle.maildir.specs.Folders.{Stored, Lists, is_place}
 use Rattle.maildir.specs.Gains.{Adds, others}
 
-pub record FolderParts : Type 0 where
-  pub disk : DiskParts
-  pub world : DiskWorld
-  pub events : List DiskEvent
+abbrev pub FolderParts : Type 0
+FolderParts = Recorded DiskWorld DiskEvent
 
 -- what stands in the folder
 abbrev pub standing : FolderParts → Standing
@@ -34,12 +33,6 @@ seen_on_disk f = seen_in (standing f).stored f.disk.condition
 abbrev pub noted : DiskDeed → Bool → List ℕ → List ℕ → List FileName → FolderParts → FolderParts
 noted deed is_ok name bytes names f =
     record f { events = record { call = record { deed = deed; is_ok = is_ok }; name = name; bytes = bytes; names = names } ∷ f.events }
-
--- no call was noted
-pub record Unnoted (old new : FolderParts) : Type 0 where
-  pub path : new.disk.path ≡ old.disk.path
-  pub world : new.world ≡ old.world
-  pub events : new.events ≡ old.events
 
 -- ---- what outlives a loss of power
 

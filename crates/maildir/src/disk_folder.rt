@@ -113,7 +113,8 @@ impl<R: Files + AllocGlobal + Clone + Drop> DiskFolder<R> {
         ensures disk { self.new.disk ≡ self.old.disk }
         ensures was_honest { KeptWord self.new → KeptWord self.old }
         ensures ok { OnOk result (standing self.new ≡ with_copied (text_left copy.entry) (standing self.old)) }
-        ensures err { OnErr result ((standing self.new ≡ standing self.old) ⊎ CopyBegins (text_left copy.entry) (standing self.old) (standing self.new)) }
+        ensures err { OnErr result ((standing self.new ≡ standing self.old)
+            ⊎ CopyBegins (text_left copy.entry) (standing self.old) (standing self.new)) }
     {
         let file = self.disk.make_copy()?;
         let mut writer = BufWriter::with_capacity(self.disk.alloc(), COPY_BUFFER, file)?;

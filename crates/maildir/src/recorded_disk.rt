@@ -2,7 +2,8 @@
 
 ghost use Rattle.std.specs.Prelude.{◌≡◌, ◌+◌, ◌<◌, ◌^◌, ◌≤◌, [], ◌∷◌, true, false, is_ok, is_none, Ok, MatchResult, OnOk, OnErr, IfOk, IfErr};
 ghost use Rattle.device.specs.Conditions.{disk_at};
-ghost use Rattle.maildir.specs.DiskFolders.{Unnoted, noted, noted_mail, noted_meta, looked};
+ghost use Rattle.device.specs.Recorded.{Unnoted};
+ghost use Rattle.maildir.specs.DiskFolders.{noted, noted_mail, noted_meta, looked};
 
 use crate::changes::Changes;
 use crate::disk_call::{DiskCall, DiskDeed, NameSync};
@@ -333,7 +334,8 @@ impl<R: Files + AllocGlobal + Clone + Drop> RecordedDisk<R> {
 
     /// Gives a message another name in `new` or `cur`. A file that has that name goes.
     pub(crate) fn rename(&mut self, from: Location<'_>, to: Location<'_>) -> io::Result<()>
-        ensures { self.new ≡ noted (DiskDeed.Renamed from.entry.place to.entry.place) (is_ok result) from.entry.name.now to.entry.name.now [] self.old }
+        ensures { self.new ≡ noted (DiskDeed.Renamed from.entry.place to.entry.place) (is_ok result)
+            from.entry.name.now to.entry.name.now [] self.old }
     {
         let answer = self.rename_mail(from, to);
         self.note(

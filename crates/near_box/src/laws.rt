@@ -19,7 +19,8 @@ pub fn near_mailboxes_are_mailboxes()
     ensures store { (fresh : ℕ) (keywords : List Keyword) (s : Stored) → IsMailbox fresh s → IsStore (near_of fresh keywords s).store }
     ensures ranges { (fresh : ℕ) (keywords : List Keyword) (s : Stored) → 0 < fresh → fresh < 2 ^ 32 → IsMailbox fresh s
         → IsInRange (near_of fresh keywords s).store }
-    ensures within { (fresh : ℕ) (keywords : List Keyword) (s : Stored) → All (λ m. IsWithin keywords m.flags) (near_of fresh keywords s).store.messages }
+    ensures within { (fresh : ℕ) (keywords : List Keyword) (s : Stored)
+        → All (λ m. IsWithin keywords m.flags) (near_of fresh keywords s).store.messages }
     ensures waiting_within { (fresh : ℕ) (keywords : List Keyword) (s : Stored)
         → All (λ f. IsWithin keywords f.flags) (near_of fresh keywords s).waiting }
     ensures waiting { (fresh : ℕ) (keywords : List Keyword) (s : Stored) → AreFlagSets (near_of fresh keywords s).waiting }

@@ -1,6 +1,7 @@
 //! The near mailbox: the mailbox that stands in a Maildir folder.
 #![tactic(auto)]
 
+mod admitting;
 mod call;
 mod flag_change;
 mod known_mark;

@@ -1,10 +1,9 @@
 //! The near mailbox over a folder.
 
-ghost use Rattle.std.specs.Prelude.{◌≡◌, ◌≢◌, ◌↔◌, ◌<◌, ◌≤◌, ◌+◌, ◌^◌, ◌++◌, ◌∷◌, [], true, false, length, vec_len, slice_get, is_some, IsTrue};
+ghost use Rattle.std.specs.Prelude.{◌≡◌, ◌≢◌, ◌↔◌, ◌<◌, ◌+◌, ◌^◌, ◌∷◌, [], true, false, length, vec_len, slice_get};
 ghost use Rattle.std.specs.Prelude.{All, Some, None, IsErrOf, if◌then◌else◌, IfOk, OnOk};
 ghost use Rattle.near_box.specs.declared.survey.SurveyEntry.{SurveyEntry};
 ghost use Rattle.device.specs.Calls.{Nothing};
-ghost use Rattle.std.specs.Int.NonZero.{non_zero_u32_get};
 ghost use Rattle.std.specs.Option.{option_map};
 ghost use Rattle.mailcore.specs.FlagSet.{DELETED, has, union, minus};
 ghost use Rattle.mailcore.specs.KeywordNames.{kept};
@@ -13,23 +12,21 @@ ghost use Rattle.mailcore.specs.CopyPieces.{text_left};
 ghost use Rattle.mailcore.specs.Spared.{spares};
 ghost use Rattle.near_box.specs.Entries.{AreSpared, asked};
 ghost use Rattle.near_box.specs.FlagChanges.{changed_flags, kept_change};
-ghost use Rattle.mailcore.specs.Mailboxes.{on_store, delivered, all_admitted, ExpungesSome, SetsAside, AdmitsSome};
-ghost use Rattle.near_box.specs.Mailboxes.{IsMailbox, IsMetaOf, meta_at, waiting_names};
-ghost use Rattle.maildir.specs.Folders.{renamed_file, with_meta};
+ghost use Rattle.mailcore.specs.Mailboxes.{on_store, delivered, ExpungesSome, SetsAside};
+ghost use Rattle.near_box.specs.Mailboxes.{IsMailbox, IsMetaOf, meta_at};
+ghost use Rattle.maildir.specs.Folders.{with_meta};
 ghost use Rattle.maildir.specs.Metas.{meta_text};
-ghost use Rattle.near_box.specs.NearEffects.{flagged_files, without_uids, RemovesSome, Admits, AdmitsIf, AppendsPart, admitted, appended};
+ghost use Rattle.near_box.specs.NearEffects.{flagged_files, without_uids, RemovesSome, AppendsPart, appended};
 ghost use Rattle.near_box.specs.NearEffects.{copy_name as copy_name_of, file_of, name_flagged, raised, set_name};
 ghost use Rattle.near_box.specs.NearCalls.{Part, Ends};
-ghost use Rattle.near_box.specs.Surveys.{Surveys, Extends, entries_from, entry_at};
+ghost use Rattle.near_box.specs.Surveys.{Surveys, Extends, entry_at};
 ghost use Rattle.std.proofs.Props.{props};
 
 use crate::flag_change::FlagChange;
-use crate::near_calls::{
-    admit_file, copy_name, flags_of, is_deleted, location, place_of, room_for, set_name,
-};
+use crate::near_calls::{copy_name, flags_of, is_deleted, location, place_of, set_name};
 use crate::near_fault::NearFault;
 use crate::reading::{find_mark, find_message, listed};
-use crate::survey::{Survey, SurveyEntry, survey_of};
+use crate::survey::{Survey, SurveyEntry};
 use device::history::History;
 use mailcore::copy_pieces::CopyPieces;
 use mailcore::flags::Flags;
@@ -40,10 +37,9 @@ use mailcore::side::Side;
 use mailcore::spared::Spared;
 use mailcore::tuid::Tuid;
 use mailcore::uid::Uid;
-use maildir::folder::{FileName, Folder, Location, Origin, Place};
+use maildir::folder::{Folder, Location, Origin, Place};
 use maildir::meta::Meta;
 use std::alloc::Global;
-use std::num::NonZeroU32;
 
 /// The mailbox that stands in a folder: closed, or open.
 ///
@@ -299,7 +295,8 @@ impl<F: Folder> NearBox<F> {
         ensures effect { F.honest self.new.folder
             → TurnsMailbox (delivered (text_left copy.entry) (kept self.old.keywords flags)) SetsAside self.old self.new result }
         ensures files { F.honest self.new.folder → (let meta = meta_at self.old.fresh (stored_in self.old) in
-            TurnsFiles (appended self.old.keywords meta (text_left copy.entry) flags) (AppendsPart meta (text_left copy.entry)) self.old self.new result) }
+            TurnsFiles (appended self.old.keywords meta (text_left copy.entry) flags) (AppendsPart meta (text_left copy.entry))
+            self.old self.new result) }
         ensures mailbox { F.honest self.new.folder → IsMailbox self.old.fresh (stored_in self.old) → IsMailbox self.old.fresh (stored_in self.new) }
         ensures ends { Ends true (box_of self.old) (box_of self.new) result }
     {
@@ -312,34 +309,6 @@ impl<F: Folder> NearBox<F> {
         self.deliver(uid, copy, flags)?;
         self.is_ready = true;
         Ok(uid)
-    }
-
-    /// Gives the waiting files their UIDs, in their order: if any waits or the meta file is missing, one `replace_meta`, and
-    /// then one `rename` for each.
-    ///
-    /// `UidsExhausted`: there are fewer UIDs left than files wait.
-    pub fn admit(&mut self) -> Result<(), NearFault>
-        ensures was_honest { F.honest self.new.folder → F.honest self.old.folder }
-        ensures exhausted { F.honest self.new.folder → IsErrOf result NearFault.UidsExhausted
-            ↔ ((self.old.is_ready ≡ true) × (let n = mailbox_of self.old in 2 ^ 32 ≤ n.store.next + length n.waiting)) }
-        ensures effect { F.honest self.new.folder → TurnsMailbox all_admitted AdmitsSome self.old self.new result }
-        ensures files { F.honest self.new.folder → (let s = stored_in self.old in
-            AdmitsIf (is_some s.meta) (waiting_names s) (meta_at self.old.fresh s) s (stored_in self.new) result) }
-        ensures mailbox { F.honest self.new.folder → IsMailbox self.old.fresh (stored_in self.old) → IsMailbox self.old.fresh (stored_in self.new) }
-        ensures untouched { F.honest self.new.folder → (mailbox_of self.old).waiting ≡ [] → IsTrue (is_some (stored_in self.old).meta)
-            → seen_in self.new ≡ seen_in self.old }
-        ensures ends { Ends true (box_of self.old) (box_of self.new) result }
-    {
-        self.begin()?;
-        let Some(count) = room_for(self.survey.waiting.len(), self.survey.meta.next) else {
-            self.is_ready = true;
-            return Err(NearFault::UidsExhausted);
-        };
-        if count > 0 || !self.survey.has_meta {
-            self.give_uids(count)?;
-        }
-        self.is_ready = true;
-        Ok(())
     }
 
     /// Makes what was renamed, removed and replaced so far outlive a loss of power: one `sync` of the folder.
@@ -364,8 +333,8 @@ impl<F: Folder> NearBox<F> {
         ensures was_honest { F.honest self.new.folder → F.honest self.old.folder }
         ensures effect { F.honest self.new.folder → (entry : SurveyEntry) → slice_get self.old.survey.entries.items i ≡ Some entry
             → TurnsFiles (set_name (file_of entry) (name_flagged self.old.keywords entry.name flags)) Nothing self.old self.new result }
-        ensures untouched { (entry : SurveyEntry) → slice_get self.old.survey.entries.items i ≡ Some entry → name_flagged self.old.keywords entry.name flags ≡ None
-            → seen_in self.new ≡ seen_in self.old }
+        ensures untouched { (entry : SurveyEntry) → slice_get self.old.survey.entries.items i ≡ Some entry
+            → name_flagged self.old.keywords entry.name flags ≡ None → seen_in self.new ≡ seen_in self.old }
         ensures surveys { F.honest self.new.folder → OnOk result (Surveys self.new.survey self.new.fresh self.new.keywords (stored_in self.new)) }
         ensures part { Part (seen_in self.old) (seen_in self.new) result }
         ensures failed { (self.new.is_ready ≡ self.old.is_ready) × (self.new.fresh ≡ self.old.fresh) × (self.new.missed ≡ self.old.missed) }
@@ -413,7 +382,8 @@ impl<F: Folder> NearBox<F> {
         requires next { uid ≡ self.old.survey.meta.next }
         ensures was_honest { F.honest self.new.folder → F.honest self.old.folder }
         ensures effect { F.honest self.new.folder → (let meta = self.old.survey.meta in
-            TurnsFiles (appended self.old.keywords meta (text_left copy.entry) flags) (AppendsPart meta (text_left copy.entry)) self.old self.new result) }
+            TurnsFiles (appended self.old.keywords meta (text_left copy.entry) flags) (AppendsPart meta (text_left copy.entry))
+            self.old self.new result) }
         ensures survey { OnOk result (let old = self.old.survey in
             Extends (entry_at uid (record { place = Place.Cur; name = copy_name_of self.old.keywords old.meta.validity uid flags }) ∷ [])
             old.waiting.items (raised old.meta 1) old self.new.survey) }
@@ -439,8 +409,8 @@ impl<F: Folder> NearBox<F> {
         Ok(())
     }
 
-    // Replaces the meta file by one whose next UID is so much higher.
-    fn raise_next(&mut self, count: u32) -> Result<(), NearFault>
+    /// Replaces the meta file by one whose next UID is so much higher.
+    pub(crate) fn raise_next(&mut self, count: u32) -> Result<(), NearFault>
         requires begun { self.old.is_ready ≡ false }
         requires fits { self.old.survey.meta.next + count < 2 ^ 32 }
         ensures was_honest { F.honest self.new.folder → F.honest self.old.folder }
@@ -462,57 +432,6 @@ impl<F: Folder> NearBox<F> {
         self.folder.replace_meta(&text)?;
         self.survey.meta = meta;
         self.survey.has_meta = true;
-        Ok(())
-    }
-
-    // Gives the waiting files, of which there are so many, the next UIDs.
-    fn give_uids(&mut self, count: u32) -> Result<(), NearFault>
-        requires begun { self.old.is_ready ≡ false }
-        requires count { count ≡ vec_len self.old.survey.waiting }
-        requires fits { self.old.survey.meta.next + count < 2 ^ 32 }
-        requires positive { 0 < self.old.survey.meta.next }
-        ensures was_honest { F.honest self.new.folder → F.honest self.old.folder }
-        ensures part { Part (seen_in self.old) (seen_in self.new) result }
-        ensures failed { (self.new.is_ready ≡ self.old.is_ready) × (self.new.fresh ≡ self.old.fresh) × (self.new.missed ≡ self.old.missed) }
-        ensures keywords { self.new.keywords ≡ self.old.keywords }
-        ensures survey { OnOk result (let old = self.old.survey in
-            Extends (entries_from old.meta.next old.waiting.items) [] (raised old.meta count) old self.new.survey) }
-        ensures effect { F.honest self.new.folder → Admits self.old.survey.waiting.items self.old.survey.meta (stored_in self.old)
-            (stored_in self.new) result }
-    {
-        let mut number = self.survey.meta.next;
-        self.raise_next(count)?;
-        let waiting = std::mem::replace(&mut self.survey.waiting, Vec::new(self.alloc));
-        for file in &waiting {
-            self.give_uid(number, file)?;
-            number += 1;
-        }
-        Ok(())
-    }
-
-    // Gives a waiting file the UID with this number.
-    fn give_uid(&mut self, number: u32, file: &FileName) -> Result<(), NearFault>
-        requires begun { self.old.is_ready ≡ false }
-        requires uid { (0 < number) × (number + 1 < 2 ^ 32) }
-        ensures was_honest { F.honest self.new.folder → F.honest self.old.folder }
-        ensures part { Part (seen_in self.old) (seen_in self.new) result }
-        ensures failed { (self.new.is_ready ≡ self.old.is_ready) × (self.new.fresh ≡ self.old.fresh) × (self.new.missed ≡ self.old.missed) }
-        ensures keywords { self.new.keywords ≡ self.old.keywords }
-        ensures meta { (self.new.survey.meta ≡ self.old.survey.meta) × (self.new.survey.has_meta ≡ self.old.survey.has_meta) }
-        ensures waiting { self.new.survey.waiting ≡ self.old.survey.waiting }
-        ensures marks { self.new.survey.marks ≡ self.old.survey.marks }
-        ensures entries { OnOk result (self.new.survey.entries.items
-            ≡ self.old.survey.entries.items ++ entry_at number (admitted file.now number) ∷ []) }
-        ensures effect { F.honest self.new.folder → TurnsFiles (renamed_file file.now (admitted file.now number)) Nothing self.old self.new result }
-    {
-        // A UID, by what the caller owes.
-        let uid = Uid::new(number).unwrap();
-        let name = admit_file(self.alloc, &mut self.folder, file, uid)?;
-        self.survey.entries.push(SurveyEntry {
-            uid,
-            place: file.place,
-            name: Octets::from_vec(name),
-        })?;
         Ok(())
     }
 }

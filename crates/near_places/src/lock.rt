@@ -1,6 +1,6 @@
 //! The lock of a near mailbox: of all processes one at a time may synchronise it.
 
-ghost use Rattle.std.specs.Prelude.{◌≡◌, ◌++◌, IfErr, codes};
+ghost use Rattle.std.specs.Prelude.{◌≡◌, ◌++◌, IfErr, IfOk, IfSome, codes, string_bytes};
 ghost use Rattle.near_places.specs.Refusals.{ReportsLock, reported_of_memory};
 
 use crate::refusal::PlaceRefusal;
@@ -50,6 +50,7 @@ impl<T: Drop> From<AllocFailed<T>> for LockFault {
 #[derive(Drop)]
 pub struct Lock {
     _file: File,
+    folder: String,
 }
 
 impl Lock {
@@ -60,11 +61,12 @@ impl Lock {
         rt: &R,
         folder: &str,
     ) -> Result<Self, LockFault>
-        ensures { IfErr result (ReportsLock (folder.now ++ codes "/.mbsyncstate.lock")) }
+        ensures folder { IfOk result (λ lock. string_bytes lock.folder ≡ folder.now) }
+        ensures fault { IfErr result (ReportsLock (folder.now ++ codes "/.mbsyncstate.lock")) }
     {
         let path = format!(in rt.alloc(); "{folder}/{LOCK}")?;
         match lock_file(rt, path.as_str()) {
-            Ok(file) => Self::of_file(rt, path.as_str(), file),
+            Ok(file) => Self::of_file(rt, folder, path.as_str(), file),
             Err(error) => Err(refused(rt, path.as_str(), &error)),
         }
     }
@@ -74,22 +76,33 @@ impl Lock {
         rt: &R,
         folder: &str,
     ) -> Result<Option<Self>, LockFault>
-        ensures { IfErr result (ReportsLock (folder.now ++ codes "/.mbsyncstate.lock")) }
+        ensures folder { IfOk result (λ found. IfSome found (λ lock. string_bytes lock.folder ≡ folder.now)) }
+        ensures fault { IfErr result (ReportsLock (folder.now ++ codes "/.mbsyncstate.lock")) }
     {
         let path = format!(in rt.alloc(); "{folder}/{LOCK}")?;
         match open_lock_file(rt, path.as_str()) {
-            Ok(file) => Ok(Some(Self::of_file(rt, path.as_str(), file)?)),
+            Ok(file) => Ok(Some(Self::of_file(rt, folder, path.as_str(), file)?)),
             Err(error) if error.kind() == ErrorKind::NotFound => Ok(None),
             Err(error) => Err(refused(rt, path.as_str(), &error)),
         }
     }
 
-    /// Locks the file at this path.
-    fn of_file<R: AllocGlobal>(rt: &R, path: &str, file: File) -> Result<Self, LockFault>
-        ensures { IfErr result (ReportsLock path.now) }
+    /// Locks the file at this path, that of the mailbox in this folder.
+    fn of_file<R: AllocGlobal>(
+        rt: &R,
+        folder: &str,
+        path: &str,
+        file: File,
+    ) -> Result<Self, LockFault>
+        ensures folder { IfOk result (λ lock. string_bytes lock.folder ≡ folder.now) }
+        ensures fault { IfErr result (ReportsLock path.now) }
     {
+        let folder = String::from_str(rt.alloc(), folder)?;
         match file.try_lock() {
-            Ok(()) => Ok(Lock { _file: file }),
+            Ok(()) => Ok(Lock {
+                _file: file,
+                folder,
+            }),
             Err(TryLockError::WouldBlock) => Err(LockFault::Held),
             Err(TryLockError::Error(error)) => Err(refused(rt, path, &error)),
         }

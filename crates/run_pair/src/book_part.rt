@@ -176,7 +176,8 @@ impl<S: Shelf + Drop> BookPart<S> {
         ensures held { OnOk result (honest_in self.new → IsHeld (kept_of self.new) (files_of self.new)) }
         ensures reported { IfErr result FromBook }
         ensures stops { Stops self.old self.new result }
-        ensures part { PartChanges (honest_in self.new) (λ _. OfKept (GivesUpTo lost.now) (kept_of self.old)) (OfKept (GivesUpHalf lost.now) (kept_of self.old))
+        ensures part { PartChanges (honest_in self.new)
+            (λ _. OfKept (GivesUpTo lost.now) (kept_of self.old)) (OfKept (GivesUpHalf lost.now) (kept_of self.old))
             (files_of self.old) (files_of self.new) result }
     {
         reported_by(self.book.give_up(lost))

@@ -1,7 +1,9 @@
 //! How a trial is read from its text (docs/FORMATS.md, "Trial").
 
-ghost use Rattle.std.specs.Prelude.{◌≡◌, ◌+◌, ◌≤◌, ◌<◌, IfErr, IfOk};
+ghost use Rattle.std.specs.Prelude.{◌≡◌, ◌+◌, ◌++◌, ◌≤◌, ◌<◌, IfErr, IfOk, List, ℕ};
+ghost use Rattle.worlds.specs.Keywords.{IsHead};
 ghost use Rattle.worlds.specs.Lines.{IsOf, IsUpTo};
+ghost use Rattle.worlds.specs.WorldText.{text_from_far};
 ghost use Rattle.texts.specs.Lines.{line_count, line_ends};
 ghost use Rattle.run_trial.specs.Worlds.{IsNamed, world_of};
 
@@ -18,9 +20,11 @@ use worlds::read::take_world;
 use worlds::read_mailbox::read_bytes;
 use worlds::world::Waiting;
 
-/// The trial that a text gives. `Line`: after this line no valid trial is possible, or one is, and the text ends too early, and this is
-/// the line after its last whole one.
+/// The trial that a text gives: after its world stands its course. `Line`: after this line no valid trial is possible, or one is, and the
+/// text ends too early, and this is the line after its last whole one.
 pub fn read_trial(alloc: Global, text: &[u8]) -> Result<Trial, WorldFault>
+    ensures text { IfOk result (λ trial. (course : List ℕ)
+        × IsHead trial.world.options.keywords (text_from_far (world_of trial.world) ++ course) text.now) }
     ensures named { IfOk result (λ trial. IsNamed trial.world.options.keywords (world_of trial.world)) }
     ensures fault { IfErr result (IsUpTo (line_ends text.now + 1)) }
 {

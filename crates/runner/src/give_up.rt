@@ -61,7 +61,8 @@ fn open_same<O: Outside>(outside: &mut O, side: Side) -> Result<(), RunFault>
         (O.seen outside.old).device (O.seen outside.new).device) }
     ensures kept { O.honest outside.new → KeepsAll O.ours O.alone (O.seen outside.old).device (O.seen outside.new).device }
     ensures counted { Counted (because (λ at. ReportsOther (O.honest outside.new) O.alone (O.opened outside.old) side (O.seen outside.old).device
-        (O.seen outside.new).device at × OpensBox IsOther side (O.opened outside.old) (O.opened outside.new)) ⊥) (O.honest outside.new) (O.seen outside.old) (O.seen outside.new) result }
+        (O.seen outside.new).device at × OpensBox IsOther side (O.opened outside.old) (O.opened outside.new)) ⊥)
+        (O.honest outside.new) (O.seen outside.old) (O.seen outside.new) result }
 {
     let recorded = recorded_validity(outside, side);
     match outside.open_box(side) {
@@ -275,7 +276,8 @@ fn open_both<O: Outside>(outside: &mut O) -> Result<(), RunFault>
         (O.seen outside.old).device (O.seen outside.new).device) }
     ensures kept { O.honest outside.new → KeepsAll O.ours O.alone (O.seen outside.old).device (O.seen outside.new).device }
     ensures counted { Counted (because (λ at. ReportsChange (O.honest outside.new) O.alone (O.opened outside.old) (O.seen outside.old).device
-        (O.seen outside.new).device at × AnswersChanged (O.opened outside.new) at) ⊥) (O.honest outside.new) (O.seen outside.old) (O.seen outside.new) result }
+        (O.seen outside.new).device at × AnswersChanged (O.opened outside.new) at) ⊥)
+        (O.honest outside.new) (O.seen outside.old) (O.seen outside.new) result }
 {
     open_same(outside, Side::Far)?;
     open_same(outside, Side::Near)
@@ -294,7 +296,8 @@ fn get_ready<O: Outside>(outside: &mut O) -> Result<(), RunFault>
         → StillPending (O.opened outside.old) (O.seen outside.new).device) }
     ensures boxes { O.honest outside.new → KeepsBoxes O.ours O.alone (O.seen outside.old).device (O.seen outside.new).device }
     ensures counted { Counted (because (λ at. ReportsChange (O.honest outside.new) O.alone (O.opened outside.old) (O.seen outside.old).device
-        (O.seen outside.new).device at × AnswersChanged (O.opened outside.new) at) ⊥) (O.honest outside.new) (O.seen outside.old) (O.seen outside.new) result }
+        (O.seen outside.new).device at × AnswersChanged (O.opened outside.new) at) ⊥)
+        (O.honest outside.new) (O.seen outside.old) (O.seen outside.new) result }
 {
     open_both(outside)?;
     mend_plan(outside)

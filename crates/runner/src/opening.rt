@@ -227,7 +227,8 @@ pub(crate) fn write_plan<O: Outside>(outside: &mut O, plan: Plan) -> Result<(), 
     ensures keywords { O.keywords outside.new ≡ O.keywords outside.old }
     ensures opened { OnOk result (O.opened outside.new ≡ turned (λ _. begun plan) (O.opened outside.old)) }
     ensures part { Part (O.honest outside.new) (IsMade opening (O.opened outside.old) plan) (Underway opening) (λ _. 0)
-        (λ _. BeforeStep (once_listed opening (world_shown (O.opened outside.new))) (O.opened outside.new) false) (O.seen outside.old) (O.seen outside.new) result }
+        (λ _. BeforeStep (once_listed opening (world_shown (O.opened outside.new))) (O.opened outside.new) false)
+        (O.seen outside.old) (O.seen outside.new) result }
 {
     match outside.begin(plan) {
         Ok(()) => Ok(()),
@@ -267,7 +268,8 @@ fn open_one<O: Outside>(outside: &mut O, side: Side) -> Result<(), RunFault>
         (O.seen outside.old).device (O.seen outside.new).device) }
     ensures same { OnOk result (O.honest outside.new → FindsSame O.ours (O.seen outside.old).device (O.seen outside.new).device) }
     ensures part { PartOr (because (λ at. ReportsOther (O.honest outside.new) O.alone (O.opened outside.old) side (O.seen outside.old).device
-        (O.seen outside.new).device at × OpensBox IsOther side (O.opened outside.old) (O.opened outside.new)) ⊥) (O.honest outside.new) (ReadUnderway opening (O.opened outside.old))
+        (O.seen outside.new).device at × OpensBox IsOther side (O.opened outside.old) (O.opened outside.new)) ⊥)
+        (O.honest outside.new) (ReadUnderway opening (O.opened outside.old))
         (Underway opening) (λ _. 0) (λ _. ReadUnderway opening (O.opened outside.new)) (O.seen outside.old)
         (O.seen outside.new) result }
 {
@@ -298,7 +300,8 @@ pub(crate) fn open_boxes<O: Outside>(outside: &mut O) -> Result<(), RunFault>
         (O.seen outside.old).device (O.seen outside.new).device) }
     ensures same { OnOk result (O.honest outside.new → FindsSame O.ours (O.seen outside.old).device (O.seen outside.new).device) }
     ensures part { PartOr (because (λ at. ReportsChange (O.honest outside.new) O.alone (O.opened outside.old) (O.seen outside.old).device
-        (O.seen outside.new).device at × AnswersChanged (O.opened outside.new) at) ⊥) (O.honest outside.new) (ReadUnderway opening (O.opened outside.old))
+        (O.seen outside.new).device at × AnswersChanged (O.opened outside.new) at) ⊥)
+        (O.honest outside.new) (ReadUnderway opening (O.opened outside.old))
         (Underway opening) (λ _. 0) (λ _. ReadUnderway opening (O.opened outside.new)) (O.seen outside.old)
         (O.seen outside.new) result }
 {

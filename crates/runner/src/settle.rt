@@ -125,7 +125,8 @@ pub fn settle<O: Outside, R: Rng, P: Progress>(
     // If it succeeds, the run is over: both mailboxes and the state are what the rules prescribe for the world that it began with. The
     // answer says what the last attempt did. If it fails, the run is still pending, and the next call resumes it.
     ensures done { IfOk result (λ settled. FromOpening (O.honest outside.new) opening options.now (R.stream rng.old)
-        (O.seen outside.old).device (IsSettled opening (O.opened outside.new) options.now (R.stream rng.old) settled (O.seen outside.old) (O.seen outside.new))) }
+        (O.seen outside.old).device
+        (IsSettled opening (O.opened outside.new) options.now (R.stream rng.old) settled (O.seen outside.old) (O.seen outside.new))) }
     ensures left { IfErr result (λ fault. FromOpening (O.honest outside.new) opening options.now (R.stream rng.old)
         (O.seen outside.old).device (IsUnsettled opening tries (R.stream rng.old) fault (O.seen outside.old) (O.seen outside.new))) }
 

@@ -42,7 +42,8 @@ pub(crate) fn map_fits(keywords: &Keywords)
 fn take_keyword(lines: &mut Lines<'_>, keywords: &mut Keywords) -> Result<bool, AllocError>
     ensures { IfOk result (λ taken. MatchBool taken
         (KeywordAdded keywords.old keywords.new lines.old.rest.now lines.new.rest.now × (lines.new.taken ≡ lines.old.taken + 1))
-        (HasNoLine [] (IsNextKeyword Version.Two keywords.old) keyword_line lines.old.rest.now × (lines.new ≡ lines.old) × (keywords.new ≡ keywords.old))) }
+        (HasNoLine [] (IsNextKeyword Version.Two keywords.old) keyword_line lines.old.rest.now
+        × (lines.new ≡ lines.old) × (keywords.new ≡ keywords.old))) }
 {
     let Some((line, rest)) = cut(lines.rest, b'\n') else {
         return Ok(false);

@@ -1,5 +1,5 @@
 use Rattle.std.proofs.Common.{sym, ◌∙◌, refl}
-use Rattle.reply_buf.proofs.Exits.{slice_is}
+use Rattle.imap_link.proofs.BufferExits.{slice_is}
 use Rattle.imap_answers.proofs.Left.{all_read, left_next, none_rest}
 use Rattle.imap_answers.proofs.reading.read_replies.Goals as goal
 

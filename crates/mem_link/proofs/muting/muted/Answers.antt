@@ -1,5 +1,5 @@
 use Rattle.std.proofs.Common.{◌∙◌, refl, sym}
-use Rattle.reply_buf.proofs.Exits.{slice_is}
+use Rattle.imap_link.proofs.BufferExits.{slice_is}
 use Rattle.imap_answers.proofs.Left.{none_rest}
 use Rattle.mem_link.proofs.MutingLemmas.{all_muted, muted_next}
 use Rattle.mem_link.proofs.muting.muted.Goals as goal

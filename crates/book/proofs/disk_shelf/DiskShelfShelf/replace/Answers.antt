@@ -1,6 +1,7 @@
 use Rattle.std.proofs.Common.{◌≡◌, ap, sym}
 use Rattle.book.specs.DiskShelves.{file_name, seen_on_disk}
-use Rattle.book.proofs.DiskShelfLemmas.{Reported, replace_called}
+use Rattle.device.proofs.Reporting.{Reported}
+use Rattle.book.proofs.DiskShelfLemmas.{replace_called}
 use Rattle.book.proofs.disk_shelf.DiskShelfShelf.replace.Goals as goal
 
 pub returns-clause-call : goal.returns-clause-call

@@ -15,7 +15,7 @@ use denote.Triple.Clauses.{Ended}
 use denote.Triple.Entry.{alive}
 use denote.Triple.Walked.{says, walk_of, ends_at}
 use Rattle.std.specs.contracts.marker.PhantomData as mark
-use Rattle.imap_client.proofs.Walks.{bare, wrapped, wraps}
+use Rattle.device.proofs.Walks.{bare, wrapped, wraps}
 use Rattle.imap_client.specs.contracts.line_record.LineRecord as Record
 use Rattle.imap_client.specs.contracts.line_record.LineRecord.new as f
 use Rattle.imap_client.proofs.line_record.LineRecord.new.Statement.{statement}

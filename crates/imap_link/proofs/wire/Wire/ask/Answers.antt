@@ -1,7 +1,7 @@
 use Rattle.std.proofs.Common.{ap, sym, subst, Result, List, ℕ}
 use Rattle.std.proofs.lemmas.Result.{err_from_is_err_and}
 use Rattle.imap_session.specs.Lines.{Line}
-use Rattle.reply_buf.specs.Buffers.{Buffer}
+use Rattle.imap_link.specs.ReplyBuffers.{Buffer}
 use Rattle.imap_link.specs.declared.fault.FarFault.{FarFault}
 use Rattle.imap_link.specs.declared.wire.LastReply.{LastReply}
 use Rattle.imap_link.specs.Faults.{IsStop}

@@ -2,7 +2,7 @@ use Rattle.std.proofs.Common.{◌≡◌, ◌∙◌, inr, arith, ap, sym, subst, 
 use Rattle.std.proofs.lemmas.Result.{err_from_is_err_and}
 use Rattle.imap_session.specs.Lines.{reported_server}
 use Rattle.imap_session.specs.Ends.{ends_of}
-use Rattle.reply_buf.specs.Buffers.{Buffer}
+use Rattle.imap_link.specs.ReplyBuffers.{Buffer}
 use Rattle.imap_link.specs.declared.fault.FarFault.{FarFault}
 use Rattle.imap_link.specs.declared.fault.FarFault.TheVariants.{Stopped, Protocol}
 use Rattle.imap_link.specs.Faults.{IsStop}

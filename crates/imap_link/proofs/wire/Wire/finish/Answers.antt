@@ -3,7 +3,7 @@ use Rattle.std.proofs.lemmas.Result.{err_from_is_err_and}
 use Rattle.imap_replies.specs.declared.word.Status.{Status}
 use Rattle.imap_session.specs.Lines.{Line}
 use Rattle.imap_session.specs.Ends.{ends_of}
-use Rattle.reply_buf.specs.Buffers.{Buffer}
+use Rattle.imap_link.specs.ReplyBuffers.{Buffer}
 use Rattle.imap_link.specs.declared.fault.FarFault.{FarFault}
 use Rattle.imap_link.specs.declared.fault.FarFault.TheVariants.{Protocol}
 use Rattle.imap_link.specs.declared.wire.LastReply.TheVariants as states

@@ -5,7 +5,7 @@ use Rattle.wire_reader.specs.Spelling.{crlf}
 use Rattle.imap_replies.specs.declared.word.Status.{Status}
 use Rattle.imap_session.specs.Lines.{Line}
 use Rattle.imap_session.specs.Ends.{ends_of}
-use Rattle.reply_buf.specs.Buffers.{Buffer}
+use Rattle.imap_link.specs.ReplyBuffers.{Buffer}
 use Rattle.imap_link.specs.declared.fault.FarFault.{FarFault}
 use Rattle.imap_link.specs.declared.fault.FarFault.TheVariants.{Protocol}
 use Rattle.imap_link.specs.declared.wire.LastReply.TheVariants as states

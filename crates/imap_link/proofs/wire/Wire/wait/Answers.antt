@@ -2,7 +2,7 @@ use Rattle.std.proofs.Common.{◌≡◌, ◌⊎◌, ◌++◌, ◌∷◌, [], inl
 use Rattle.std.proofs.lemmas.Result.{err_from_is_err_and}
 use Rattle.imap_replies.specs.declared.reply.Reply.{Reply}
 use Rattle.imap_session.specs.Ends.{Ends, ends_of}
-use Rattle.reply_buf.specs.Fronts.{IsFaulty}
+use Rattle.imap_link.specs.Fronts.{IsFaulty}
 use Rattle.imap_link.specs.declared.kind.ReplyKind.{ReplyKind}
 use Rattle.imap_link.specs.declared.kind.ReplyKind.TheVariants.{Bye, Go, Mine, Stray}
 use Rattle.imap_link.specs.ReplyKinds.{kind_of, passes}

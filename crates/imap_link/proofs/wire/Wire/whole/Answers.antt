@@ -2,8 +2,8 @@ use Rattle.std.proofs.Common.{◌++◌, ◌∙◌, ap, arith, length, max, refl,
 use Rattle.wire_reader.specs.declared.answer.Read.{Read}
 use Rattle.wire_reader.specs.declared.answer.WireFault.{WireFault}
 use Rattle.imap_session.specs.Ends.{ends_of}
-use Rattle.reply_buf.specs.Fronts.{Looks}
-use Rattle.reply_buf.specs.Buffers.{Buffer, Moves}
+use Rattle.imap_link.specs.Fronts.{Looks}
+use Rattle.imap_link.specs.ReplyBuffers.{Buffer, Moves}
 use Rattle.imap_link.proofs.Kept.{keeps-refl}
 use Rattle.imap_link.proofs.Late.{after_now, begun_by, first_more, late_more, waits_as_before}
 use Rattle.imap_link.proofs.Heard.{whole_read}

@@ -5,7 +5,8 @@ use Rattle.device.specs.Calls.{Answers, Between, Stays}
 use Rattle.maildir.specs.DiskFolders.{FolderParts, Gained, KeptWord, standing}
 use Rattle.maildir.specs.Folders.{Lists, listed}
 use Rattle.maildir.specs.Gains.{Adds, others}
-use Rattle.maildir.proofs.DiskCalls.{Reported, called, listed_err, listed_ok, names_stuck}
+use Rattle.device.proofs.Reporting.{Reported}
+use Rattle.maildir.proofs.DiskCalls.{called, listed_err, listed_ok, names_stuck}
 use Rattle.maildir.proofs.disk_folder.DiskFolderFolder.names.Goals as goal
 
 pub returns-clause-call : goal.returns-clause-call

@@ -16,7 +16,7 @@ use denote.Triple.Clauses.{Ended}
 use denote.Triple.Entry.{alive}
 use denote.Triple.Walked.{says, walk_of, ends_at}
 use Rattle.std.specs.contracts.marker.PhantomData as mark
-use Rattle.maildir.proofs.Walks.{bare, wrapped, wraps}
+use Rattle.device.proofs.Walks.{bare, wrapped, wraps}
 use Rattle.maildir.specs.contracts.disk_record.DiskRecord as Record
 use Rattle.maildir.specs.contracts.disk_record.DiskRecord.new as f
 use Rattle.maildir.proofs.disk_record.DiskRecord.new.Statement.{statement}

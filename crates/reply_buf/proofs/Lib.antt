@@ -1,9 +1,0 @@
-pub mod Places
-pub mod Begun
-pub mod Fitting
-pub mod Searched
-pub mod Faulty
-pub mod Looked
-pub mod Exits
-pub mod Views
-pub mod Answered
