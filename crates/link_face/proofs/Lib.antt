@@ -11,3 +11,4 @@ pub mod TakenLemmas
 pub mod Utf16Back
 pub mod RunsBack
 pub mod NamesBack
+pub mod ChunkLemmas

@@ -1,3 +1,4 @@
+pub mod Chunks
 pub mod Commands
 pub mod Extents
 pub mod Faces

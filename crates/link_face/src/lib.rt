@@ -2,6 +2,7 @@
 //! refuses is written anew by a table of rules, or left out with all its octets.
 #![tactic(auto)]
 
+mod chunks;
 mod command;
 mod extent;
 mod face;
