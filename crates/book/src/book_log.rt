@@ -24,8 +24,8 @@ use sync_state::version::Version;
 impl<S: Shelf> Book<S> {
     ghost use Rattle.book.specs.Standings.{LeavesJournal, standing};
 
-    /// Writes the plan of the next run in the second version, with no step logged: one `append`. A fault leaves no journal, one without
-    /// a plan, or this one.
+    /// Writes the plan of the next run in the second version, with no step logged: one `append`. It lasts if it has steps, since these are
+    /// begun then. A fault leaves no journal, one without a plan, or this one.
     pub fn begin(&mut self, plan: Plan) -> Result<(), BookFault>
         requires missing { self.old.pending ≡ Pending.Missing }
         requires has_text { IsPlan plan }
@@ -45,7 +45,8 @@ impl<S: Shelf> Book<S> {
         let text = write_plan(self.alloc, &plan)?;
         let entries = self.state.entries.as_slice();
         let taken = Taken::begun(self.alloc, entries, plan.steps.as_slice())?;
-        self.shelf.append(ShelfFile::Journal, &text)?;
+        let lasts = !plan.steps.as_slice().is_empty();
+        self.shelf.append(ShelfFile::Journal, &text, lasts)?;
         let log = Log::from_vec(Vec::new(self.alloc));
         self.pending = Pending::Planned(WrittenJournal {
             version: Version::Two,
@@ -112,7 +113,7 @@ impl<S: Shelf> Book<S> {
         }
         self.is_ready = false;
         let line = line_of(self.alloc, step, &logged)?;
-        self.shelf.append(ShelfFile::Journal, &line)?;
+        self.shelf.append(ShelfFile::Journal, &line, false)?;
         self.taken.add_next(&self.pending, logged)?;
         log_pending(&mut self.pending, logged)?;
         self.is_ready = true;

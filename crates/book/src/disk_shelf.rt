@@ -35,11 +35,11 @@ pub struct ShelfStop {
 
 /// The files `.mbsyncstate` and `.mbsyncstate.journal` of a folder. A call stops where the system fails.
 ///
-/// What has to outlive a loss of power is synced to the disk, and no more: the first bytes of a file with its name, since a plan
-/// has to be there before its first step; a file that is replaced before it is renamed, and its name after that; and the journal with
-/// its name where one is read, since the call that wrote it may have stopped before it was synced. Further bytes of a journal
-/// and the removal of a file may be lost: docs/DECISIONS.md says what follows. A file that is replaced is written anew as
-/// `.mbsyncstate.new` and renamed over the old one, so that it is whole or as before.
+/// What has to outlive a loss of power is synced to the disk, and no more: the first bytes of a file that is to last, with its name,
+/// since a plan has to be there before its first step; a file that is replaced before it is renamed, and its name after that; and the
+/// journal with its name where one is read, since the call that wrote it may have stopped before it was synced. A plan without steps,
+/// further bytes of a journal and the removal of a file may be lost: docs/DECISIONS.md says what follows. A file that is replaced is
+/// written anew as `.mbsyncstate.new` and renamed over the old one, so that it is whole or as before.
 ///
 /// Each call of the system is noted with its answer, and what the shelf stores is read off this record. Whether the answers are
 /// those of a file system no proof can say: that is a premise (`honest`) of what is proved.
@@ -133,9 +133,9 @@ impl<R: Files + AllocGlobal + Clone + Drop> Shelf for DiskShelf<R> {
         answer
     }
 
-    fn append(&mut self, file: ShelfFile, bytes: &[u8]) -> Result<(), DeviceFault> {
+    fn append(&mut self, file: ShelfFile, bytes: &[u8], lasts: bool) -> Result<(), DeviceFault> {
         self.disk.check()?;
-        let answer = self.disk.append(name_of(file), bytes);
+        let answer = self.disk.append(name_of(file), bytes, lasts);
         let answer = self.disk.report(answer);
         self.note(name_of(file));
         answer

@@ -133,7 +133,7 @@ impl Shelf for MemShelf {
         }
     }
 
-    fn append(&mut self, file: ShelfFile, bytes: &[u8]) -> Result<(), DeviceFault> {
+    fn append(&mut self, file: ShelfFile, bytes: &[u8], _lasts: bool) -> Result<(), DeviceFault> {
         let moment = self.stopping.begin(ShelfCall::Append)?;
         let written = match moment {
             None | Some(Moment::After) => bytes,

@@ -31,9 +31,9 @@ pub trait Shelf {
         ensures was_honest { honest self.new → honest self.old }
         ensures call { Read (honest self.new) (Gives file) (seen self.old) (seen self.new) result };
 
-    /// Adds bytes after those of a file, which is made if it is missing. A stopped call may leave any beginning of them. A disk
-    /// keeps the bytes that a file is made with where the power fails; it may lose those that are added later.
-    fn append(&mut self, file: ShelfFile, bytes: &[u8]) -> Result<(), DeviceFault>
+    /// Adds bytes after those of a file, which is made if it is missing. A stopped call may leave any beginning of them. Where the power
+    /// fails, a disk keeps the bytes that a file is made with if this `lasts`; it may lose others, and those that are added later.
+    fn append(&mut self, file: ShelfFile, bytes: &[u8], lasts: bool) -> Result<(), DeviceFault>
         ensures was_honest { honest self.new → honest self.old }
         ensures call { Call (honest self.new) (Appends file bytes.now) (AppendsPart file bytes.now) (seen self.old) (seen self.new) result };
 

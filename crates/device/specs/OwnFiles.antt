@@ -2,7 +2,7 @@
 use Rattle.std.specs.Prelude.{◌≡◌, ◌≤◌, ◌⊎◌, ℕ, Bool, true, false, List, [], ◌∷◌, ◌++◌, length, take, Option, Some, None, unwrap_or, Vec}
 use Rattle.std.specs.Global.{Global}
 use Rattle.device.specs.declared.file_call.Deed.{Deed}
-use Rattle.device.specs.declared.file_call.Deed.TheVariants.{Read, Missing, Removed}
+use Rattle.device.specs.declared.file_call.Deed.TheVariants.{Read, Missing, Removed, Renamed, Synced}
 use Rattle.device.specs.FileEvents.{FileEvent, World, Contents, IsHonest, files_after}
 use Rattle.device.specs.Recorded.{Recorded}
 
@@ -78,3 +78,26 @@ Either name other n = (n ≡ name) ⊎ (n ≡ other)
 
 abbrev pub NoFile : List ℕ → Type 0
 NoFile n = ⊥
+
+-- ---- what outlives a loss of power
+
+-- a call that was done
+abbrev pub did : Deed → List ℕ → List ℕ → FileEvent
+did deed name bytes = record { call = record { deed = deed; is_ok = true }; name = name; bytes = bytes }
+
+-- these calls were made last, the last one first
+pub record EndsWith (calls : List FileEvent) (f : FilesParts) : Type 0 where
+  pub earlier : List FileEvent
+  pub events : f.events ≡ calls ++ earlier
+
+-- the last call has synced the bytes of this file
+abbrev pub IsSynced : List ℕ → FilesParts → Type 0
+IsSynced name f = EndsWith (did Synced name [] ∷ []) f
+
+-- the last call has synced the names, after that file was synced
+abbrev pub IsNamed : List ℕ → FilesParts → Type 0
+IsNamed name f = EndsWith (did Synced [] [] ∷ did Synced name [] ∷ []) f
+
+-- a file was synced under the other name, then it got this one, and then the names were synced
+abbrev pub IsReplaced : (name other : List ℕ) → FilesParts → Type 0
+IsReplaced name other f = EndsWith (did Synced [] [] ∷ did Renamed other name ∷ did Synced other [] ∷ []) f

@@ -3,6 +3,7 @@
 ghost use Rattle.std.specs.Prelude.{◌≡◌, ◌+◌, ◌<◌, ◌^◌, ◌≤◌, ◌≢◌, [], true, false, None, Ok, Some, is_ok, MatchResult, OnOk, OnErr, IfOk, IfErr};
 ghost use Rattle.device.specs.Conditions.{disk_at};
 ghost use Rattle.device.specs.OwnFiles.{Either, GrewOrNot, Grew, HoldsAt, HoldsOrNot, NoFile, Same, Touches, bytes_of, held, KeptWord, noted, noted_read, noted_removal};
+ghost use Rattle.device.specs.OwnFiles.{IsNamed, IsReplaced, IsSynced};
 ghost use Rattle.device.specs.Recorded.{Unnoted};
 
 use crate::DeviceFault;
@@ -175,6 +176,7 @@ impl<R: Files + AllocGlobal + Clone + Drop> OwnFiles<R> {
     /// Syncs the bytes of a file that is there.
     pub fn sync_file(&mut self, name: &str) -> io::Result<()>
         ensures touches { Touches NoFile self.old self.new }
+        ensures noted { self.new ≡ noted Deed.Synced (is_ok result) name.now [] self.old }
     {
         let answer = match &self.open {
             Some(open) if open.name == name => OpenFile::sync_all(&open.file),
@@ -187,6 +189,7 @@ impl<R: Files + AllocGlobal + Clone + Drop> OwnFiles<R> {
     /// Syncs the names of the files.
     pub fn sync_names(&mut self) -> io::Result<()>
         ensures touches { Touches NoFile self.old self.new }
+        ensures noted { self.new ≡ noted Deed.Synced (is_ok result) [] [] self.old }
     {
         let answer = self.disk.sync_names();
         self.note(Deed::Synced, answer.is_ok(), "", &[]);
@@ -242,6 +245,7 @@ impl<R: Files + AllocGlobal + Clone + Drop> OwnFiles<R> {
     fn write_anew(&mut self, name: &'static str, bytes: &[u8]) -> io::Result<()>
         ensures touches { Touches (Same name.now) self.old self.new }
         ensures ok { OnOk result (KeptWord self.new → HoldsAt name.now (Some bytes.now) self.new) }
+        ensures synced { OnOk result (IsSynced name.now self.new) }
     {
         self.make_anew(name)?;
         self.grow(name, bytes)?;
@@ -260,14 +264,15 @@ impl<R: Files + AllocGlobal + Clone + Drop> OwnFiles<R> {
         ensures touches { Touches (Either name.now other.now) self.old self.new }
         ensures ok { OnOk result (KeptWord self.new → HoldsAt name.now (Some bytes.now) self.new) }
         ensures err { OnErr result (KeptWord self.new → HoldsOrNot name.now (Some bytes.now) self.old self.new) }
+        ensures synced { OnOk result (IsReplaced name.now other.now self.new) }
     {
         self.write_anew(other, bytes)?;
         self.rename(other, name)?;
         self.sync_names()
     }
 
-    /// Appends bytes to a file. Where it is made for them, they and its name are synced. It stays open for further bytes.
-    pub fn append(&mut self, name: &'static str, bytes: &[u8]) -> io::Result<()>
+    /// Appends bytes to a file. Where it is made for them and is to last, they and its name are synced. It stays open for further bytes.
+    pub fn append(&mut self, name: &'static str, bytes: &[u8], lasts: bool) -> io::Result<()>
         ensures touches { Touches (Same name.now) self.old self.new }
         ensures ok { OnOk result (Grew name.now bytes.now self.old self.new) }
         ensures err { OnErr result (GrewOrNot name.now bytes.now self.old self.new) }
@@ -276,7 +281,7 @@ impl<R: Files + AllocGlobal + Clone + Drop> OwnFiles<R> {
             return self.append_to(name, bytes);
         }
         match self.make(name) {
-            Ok(()) => self.append_made(name, bytes),
+            Ok(()) => self.append_made(name, bytes, lasts),
             Err(error) if error.kind() == ErrorKind::AlreadyExists => self.append_to(name, bytes),
             Err(error) => Err(error),
         }
@@ -290,13 +295,22 @@ impl<R: Files + AllocGlobal + Clone + Drop> OwnFiles<R> {
         }
     }
 
-    // Appends bytes to a file that was made for them, and syncs them and its name.
-    fn append_made(&mut self, name: &'static str, bytes: &[u8]) -> io::Result<()>
+    // Appends bytes to a file that was made for them, and syncs them and its name where it is to last.
+    fn append_made(&mut self, name: &'static str, bytes: &[u8], lasts: bool) -> io::Result<()>
         ensures touches { Touches (Same name.now) self.old self.new }
         ensures ok { OnOk result (Grew name.now bytes.now self.old self.new) }
         ensures err { OnErr result (GrewOrNot name.now bytes.now self.old self.new) }
+        ensures synced { OnOk result (lasts ≡ true → IsNamed name.now self.new) }
     {
         self.append_to(name, bytes)?;
+        if lasts { self.sync_made(name) } else { Ok(()) }
+    }
+
+    // Syncs a file that was made, and its name.
+    fn sync_made(&mut self, name: &str) -> io::Result<()>
+        ensures touches { Touches NoFile self.old self.new }
+        ensures synced { OnOk result (IsNamed name.now self.new) }
+    {
         self.sync_file(name)?;
         self.sync_names()
     }

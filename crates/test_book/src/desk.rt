@@ -155,7 +155,7 @@ impl<S: Shelf + Drop> Desk<S> {
         let file = read_file(line);
         match word {
             "read" => print_read(reported, shelf.read(file)),
-            "append" => print_done(reported, shelf.append(file, &line.bytes(alloc)?)),
+            "append" => print_done(reported, shelf.append(file, &line.bytes(alloc)?, true)),
             "replace" => print_done(reported, shelf.replace(file, &line.bytes(alloc)?)),
             "remove" => print_done(reported, shelf.remove(file)),
             _ => Err(Failure::Script),
