@@ -1,9 +1,9 @@
 #!/usr/bin/env python3
 """Looks in which order a run of mbsync makes what it writes outlive a loss of power, as docs/DECISIONS.md says.
 
-Four runs over trial-imapd are traced by strace: one that pulls three messages and takes over a file that was left in `new`, one that
-removes a message and changes a flag, one with nothing to do, and one that resumes the plan of a run that was killed. Each order is a line
-of the output."""
+Six runs over trial-imapd are traced by strace: one that pulls three messages and takes over a file that was left in `new`, one that
+removes a message and changes a flag, one with nothing to do after each of these, one that resumes the plan of a run that was killed, and
+one that pushes a file to which a run that was killed had given its UID. Each order is a line of the output."""
 import os
 import pathlib
 import re
@@ -66,7 +66,6 @@ def is_copy(event):
 def look(tally, name, trace, copies, changes):
     plan = trace.places(lambda event: event == ("write", ".mbsyncstate.journal"))[0]
     state = trace.places(lambda event: event == ("rename", ".mbsyncstate.new", ".mbsyncstate"))[0]
-    gone = trace.places(lambda event: event == ("remove", ".mbsyncstate.journal"))[-1]
     names = trace.places(in_mailbox)
     made = trace.places(is_copy)
     tally.check(f"{name}: {copies} copies are made, and {changes} names change", (len(made), len(names)) == (copies, changes))
@@ -80,9 +79,22 @@ def look(tally, name, trace, copies, changes):
     tally.check(f"{name}: the plan is synced before its first step", trace.synced(".mbsyncstate.journal", plan, step))
     last = max([place for place in names if place < state], default=-1)
     tally.check(f"{name}: all names are synced before the state is replaced", all(trace.synced(it, last, state) for it in folders))
+    look_at_state(tally, name, trace)
+
+
+def look_at_state(tally, name, trace):
+    state = trace.places(lambda event: event == ("rename", ".mbsyncstate.new", ".mbsyncstate"))[0]
+    gone = trace.places(lambda event: event == ("remove", ".mbsyncstate.journal"))[-1]
     written = max(trace.places(lambda event: event == ("write", ".mbsyncstate.new")))
     tally.check(f"{name}: the state's bytes are synced before it gets its name", trace.synced(".mbsyncstate.new", written, state))
     tally.check(f"{name}: the state's name is synced before the journal goes", trace.synced(".", state, gone))
+
+
+def look_idle(tally, name, trace):
+    tally.check(f"{name}: no name changes", not trace.places(in_mailbox))
+    synced = [event[1] for event in trace.events if event[0] == "sync"]
+    tally.check(f"{name}: the state and its name are synced, and no more", synced == [".mbsyncstate.new", "."])
+    look_at_state(tally, name, trace)
 
 
 def look_resumed(tally, trace):
@@ -91,9 +103,9 @@ def look_resumed(tally, trace):
     tally.check("resumed: so are the names beside it", trace.synced(".", -1, first))
 
 
-def kill_at_copy(program, rc):
-    """Kills a run when the first copy gets its name."""
-    command = ["strace", "-f", "-e", f"trace={CALLS}", "-e", "inject=rename,renameat,renameat2:signal=KILL:when=1", "-o", os.devnull]
+def kill_at(calls, when, program, rc):
+    """Kills a run when it makes one of these calls for this time."""
+    command = ["strace", "-f", "-e", f"trace={CALLS}", "-e", f"inject={calls}:signal=KILL:when={when}", "-o", os.devnull]
     subprocess.run([*command, program, "-c", rc, "bench"], stdin=subprocess.DEVNULL, capture_output=True, check=False)
 
 
@@ -121,18 +133,25 @@ def scenes(tally, program, top):
             file.write(configured(server.port, os.path.dirname(box), CHANNEL))
         server.connect().logout()
         look(tally, "first run", traced(program, rc, box), copies=3, changes=4)
+        look_idle(tally, "nothing to do after it", traced(program, rc, box))
         with ImapSide(server.port) as far:
             far.ask(b"UID STORE 1 +FLAGS.SILENT (\\Seen)")
             far.ask(b"UID STORE 2 +FLAGS.SILENT (\\Deleted)")
             far.ask(b"UID EXPUNGE 2")
         look(tally, "changes", traced(program, rc, box), copies=0, changes=3)
-        look(tally, "nothing to do", traced(program, rc, box), copies=0, changes=0)
+        look_idle(tally, "nothing to do after that", traced(program, rc, box))
         with ImapSide(server.port) as far:
             for number in (4, 5):
                 far.add(None, b"Subject: %d\n\nbody\n" % number, frozenset())
-        kill_at_copy(program, rc)
+        kill_at("rename,renameat,renameat2", 1, program, rc)  # when the first copy gets its name
         tally.check("a run that is killed leaves its plan", os.path.getsize(os.path.join(box, ".mbsyncstate.journal")) > 0)
         look_resumed(tally, traced(program, rc, box))
+        with open(os.path.join(box, "new", "2.left"), "wb") as file:
+            file.write(b"Subject: also left\n\nleft\n")
+        kill_at("fsync,fdatasync", 2, program, rc)  # after the meta file, when names would be synced
+        left = [name for part in ("cur", "new") for name in os.listdir(os.path.join(box, part)) if name.startswith("2.left")]
+        tally.check("a run that is killed before its plan leaves a file with a UID", len(left) == 1 and ",U=" in left[0])
+        look(tally, "after a run that was killed before its plan", traced(program, rc, box), copies=0, changes=0)
     finally:
         server.stop()
 
@@ -142,7 +161,7 @@ def main():
     if shutil.which("strace") is None:
         sys.exit("strace is not installed")
     tally = Tally()
-    with tempfile.TemporaryDirectory() as top, tally.scene("the four runs"):
+    with tempfile.TemporaryDirectory() as top, tally.scene("the six runs"):
         scenes(tally, program, top)
     tally.end()
 

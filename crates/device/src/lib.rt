@@ -16,6 +16,7 @@ pub mod own_files;
 pub mod schedule;
 pub mod stop_count;
 pub mod trouble;
+pub mod whose;
 
 use std::alloc::{AllocError, AllocFailed};
 use thiserror::Error;

@@ -17,6 +17,7 @@ use crate::entering::log_in;
 use crate::far_reported::reported_by;
 use crate::logged_in::LoggedIn;
 use crate::stage::Stage;
+use device::whose::Whose;
 use imap_client::far_box::FarBox;
 use imap_client::session::Session;
 use imap_link::fault::FarFault;
@@ -275,6 +276,8 @@ impl<L: Link + Drop> Mailbox for FarSide<L> {
     // the server's affair
     ghost is_synced = { λ _. true };
 
+    ghost is_settled = { λ _. true };
+
     fn open(&mut self) -> Result<u32, BoxFault> {
         reported_by(self.reach())
     }
@@ -321,7 +324,7 @@ impl<L: Link + Drop> Mailbox for FarSide<L> {
         Ok(())
     }
 
-    fn sync(&mut self) -> Result<(), BoxFault> {
+    fn sync(&mut self, _whose: Whose) -> Result<(), BoxFault> {
         Ok(())
     }
 

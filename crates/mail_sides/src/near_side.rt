@@ -6,6 +6,7 @@ ghost use Rattle.std.specs.Int.NonZero.{non_zero_u32_get};
 ghost use Rattle.outside.specs.FaultNumbers.{NEAR_UIDS_EXHAUSTED};
 
 use crate::near_reported::{reported, reported_by};
+use device::whose::Whose;
 use mailcore::copy_pieces::CopyPieces;
 use mailcore::flags::Flags;
 use mailcore::keywords::Keywords;
@@ -126,6 +127,8 @@ impl<F: Folder + Drop> Mailbox for NearSide<F> {
 
     ghost is_synced = { λ side. F.is_synced side.near.folder };
 
+    ghost is_settled = { λ side. F.is_settled side.near.folder };
+
     fn open(&mut self) -> Result<u32, BoxFault>
         requires whole { (seen_of self.old).is_broken ≡ false }
         ensures was_honest { F.honest self.new.near.folder → F.honest self.old.near.folder }
@@ -217,12 +220,13 @@ impl<F: Folder + Drop> Mailbox for NearSide<F> {
         reported_by(self.near.admit())
     }
 
-    fn sync(&mut self) -> Result<(), BoxFault>
+    fn sync(&mut self, whose: Whose) -> Result<(), BoxFault>
         requires whole { (seen_of self.old).is_broken ≡ false }
         ensures was_honest { F.honest self.new.near.folder → F.honest self.old.near.folder }
         ensures keywords { self.new.near.keywords ≡ self.old.near.keywords }
         ensures open { self.new.is_open ≡ self.old.is_open }
         ensures synced { OnOk result (self.old.is_open ≡ true → F.is_synced self.new.near.folder ≡ true) }
+        ensures settled { OnOk result (self.old.is_open ≡ true → whose ≡ Whose.All → F.is_settled self.new.near.folder ≡ true) }
         ensures closed { self.old.is_open ≡ false → self.new ≡ self.old }
         ensures reported { IfErr result IsPlain }
         ensures call { Calls {T = Unit {0}} Never (λ _ b b'. b' ≡ b) Nothing self.old self.new result }
@@ -230,7 +234,7 @@ impl<F: Folder + Drop> Mailbox for NearSide<F> {
         if !self.is_open {
             return Ok(());
         }
-        reported_by(self.near.sync())
+        reported_by(self.near.sync(whose))
     }
 
     fn reopen(&mut self) {

@@ -67,14 +67,22 @@ abbrev pub syncs : NameSync → DiskDeed → Bool
 syncs names (Synced others) = is_same names others
 syncs names deed = false
 
--- these names were synced after the last change of one
-abbrev pub are_synced : NameSync → List DiskEvent → Bool
-are_synced names [] = true
-are_synced names (e ∷ earlier) =
-    if e.call.is_ok && syncs names e.call.deed then true else (if changes_names e.call.deed then false else are_synced names earlier)
+-- these names were synced after the last change of one; `first`: or, where there was no such call, they were when the folder was opened
+abbrev pub are_synced : (first : Bool) → NameSync → List DiskEvent → Bool
+are_synced first names [] = first
+are_synced first names (e ∷ earlier) =
+    if e.call.is_ok && syncs names e.call.deed then true else (if changes_names e.call.deed then false else are_synced first names earlier)
 
+abbrev pub are_all_synced : (first : Bool) → List DiskEvent → Bool
+are_all_synced first events = are_synced first (In Cur) events && (are_synced first (In New) events && are_synced first Whole events)
+
+-- what was changed since the folder was opened is synced
 abbrev pub is_synced_on_disk : FolderParts → Bool
-is_synced_on_disk f = are_synced (In Cur) f.events && (are_synced (In New) f.events && are_synced Whole f.events)
+is_synced_on_disk f = are_all_synced true f.events
+
+-- all names were synced since the folder was opened, and none was changed after that: then what was changed before it was opened is synced, too
+abbrev pub is_settled_on_disk : FolderParts → Bool
+is_settled_on_disk f = are_all_synced false f.events
 
 -- ---- how many files were asked for
 

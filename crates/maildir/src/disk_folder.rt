@@ -4,7 +4,7 @@ ghost use Rattle.std.specs.Prelude.{◌≡◌, ◌<◌, ◌^◌, ◌⊎◌, [], 
 ghost use Rattle.device.specs.Conditions.{disk_at};
 ghost use Rattle.mailcore.specs.CopyPieces.{text_left};
 ghost use Rattle.maildir.specs.DiskEvents.{Standing, with_copied};
-ghost use Rattle.maildir.specs.DiskFolders.{CopyBegins, Gained, KeptWord, asked_on_disk, is_synced_on_disk, standing};
+ghost use Rattle.maildir.specs.DiskFolders.{CopyBegins, Gained, KeptWord, asked_on_disk, is_settled_on_disk, is_synced_on_disk, standing};
 ghost use Rattle.maildir.specs.Folders.{Lists, Renames, bytes_of, listed, text_of, with_meta};
 
 use crate::disk_call::NameSync;
@@ -15,6 +15,7 @@ use crate::recorded_disk::{COPY, META, NEXT_META, RecordedDisk};
 use crate::sure_names::sure_names;
 use device::DeviceFault;
 use device::trouble::Trouble;
+use device::whose::Whose;
 use mailcore::copy_pieces::CopyPieces;
 use std::alloc::AllocError;
 use std::io;
@@ -224,16 +225,33 @@ impl<R: Files + AllocGlobal + Clone + Drop> DiskFolder<R> {
         }
     }
 
-    // Syncs the names of messages and of the meta file.
-    fn sync_names(&mut self) -> io::Result<()>
+    // Syncs the names of messages and of the meta file, where they are not synced.
+    fn sync_names(&mut self, whose: Whose) -> io::Result<()>
         ensures disk { self.new.disk ≡ self.old.disk }
         ensures was_honest { KeptWord self.new → KeptWord self.old }
         ensures same { standing self.new ≡ standing self.old }
         ensures synced { OnOk result (is_synced_on_disk self.new ≡ true) }
+        ensures settled { OnOk result (whose ≡ Whose.All → is_settled_on_disk self.new ≡ true) }
+    {
+        if self.disk.is_synced(whose) {
+            return Ok(());
+        }
+        self.sync_all_names()
+    }
+
+    // Syncs the names of messages and of the meta file.
+    fn sync_all_names(&mut self) -> io::Result<()>
+        ensures disk { self.new.disk ≡ self.old.disk }
+        ensures was_honest { KeptWord self.new → KeptWord self.old }
+        ensures same { standing self.new ≡ standing self.old }
+        ensures synced { OnOk result (is_synced_on_disk self.new ≡ true) }
+        ensures settled { OnOk result (is_settled_on_disk self.new ≡ true) }
     {
         self.disk.sync_names(NameSync::In(Place::Cur))?;
         self.disk.sync_names(NameSync::In(Place::New))?;
-        self.disk.sync_names(NameSync::Whole)
+        self.disk.sync_names(NameSync::Whole)?;
+        self.disk.keep_synced();
+        Ok(())
     }
 }
 
@@ -253,7 +271,7 @@ impl<R: Files + Clock + AllocGlobal + Clone + Drop> DiskFolder<R> {
 }
 
 impl<R: Files + Clock + AllocGlobal + Clone + Drop> Folder for DiskFolder<R> {
-    ghost use Rattle.maildir.specs.DiskFolders.{KeptWord, asked_on_disk, is_synced_on_disk, seen_on_disk};
+    ghost use Rattle.maildir.specs.DiskFolders.{KeptWord, asked_on_disk, is_settled_on_disk, is_synced_on_disk, seen_on_disk};
     ghost use Rattle.maildir.specs.Gains.{others};
 
     ghost honest = { KeptWord };
@@ -263,6 +281,8 @@ impl<R: Files + Clock + AllocGlobal + Clone + Drop> Folder for DiskFolder<R> {
     ghost seen = { seen_on_disk };
 
     ghost is_synced = { is_synced_on_disk };
+
+    ghost is_settled = { is_settled_on_disk };
 
     ghost reads = { asked_on_disk };
 
@@ -322,9 +342,9 @@ impl<R: Files + Clock + AllocGlobal + Clone + Drop> Folder for DiskFolder<R> {
         answer
     }
 
-    fn sync(&mut self) -> Result<(), DeviceFault> {
+    fn sync(&mut self, whose: Whose) -> Result<(), DeviceFault> {
         self.disk.check()?;
-        let answer = self.sync_names();
+        let answer = self.sync_names(whose);
         let answer = self.disk.report(answer);
         self.note(Part::Whole);
         answer

@@ -3,6 +3,7 @@
 ghost use Rattle.std.specs.Prelude.{◌≡◌, ◌+◌, ℕ, Bool, false, true, OnOk};
 
 use device::DeviceFault;
+use device::whose::Whose;
 use mailcore::copy_pieces::CopyPieces;
 use mailcore::octets::Octets;
 
@@ -97,8 +98,11 @@ pub trait Folder {
     /// calls have stopped.
     ghost seen: { Self → Seen Stored };
 
-    /// What was renamed, removed and replaced so far outlives a loss of power.
+    /// What was renamed, removed and replaced since the folder was opened outlives a loss of power.
     ghost is_synced: { Self → Bool };
+
+    /// So does what an earlier process had renamed, removed and replaced.
+    ghost is_settled: { Self → Bool };
 
     /// How many files were asked for so far.
     ghost reads: { Self → ℕ };
@@ -139,10 +143,11 @@ pub trait Folder {
         ensures synced { honest self.new → OnOk result (is_synced self.new ≡ false) }
         ensures call { Call (honest self.new) (λ s s'. s' ≡ with_meta text.now s) Nothing (seen self.old) (seen self.new) result };
 
-    /// Makes what was renamed, removed and replaced so far outlive a loss of power.
-    fn sync(&mut self) -> Result<(), DeviceFault>
+    /// Makes what was renamed, removed and replaced outlive a loss of power. Nothing is done where that is so already.
+    fn sync(&mut self, whose: Whose) -> Result<(), DeviceFault>
         ensures was_honest { honest self.new → honest self.old }
         ensures synced { OnOk result (is_synced self.new ≡ true) }
+        ensures settled { OnOk result (whose ≡ Whose.All → is_settled self.new ≡ true) }
         ensures call { Rest (honest self.new) (seen self.old) (seen self.new) result };
 
     /// Opens the folder again, so that calls are answered again.

@@ -13,6 +13,7 @@ use crate::mem_files::MemFiles;
 use device::DeviceFault;
 use device::history::History;
 use device::schedule::{CallStop, Moment, Scheduled};
+use device::whose::Whose;
 use mailcore::copy_pieces::CopyPieces;
 use mailcore::octets::Octets;
 use std::alloc::{AllocError, Global};
@@ -264,6 +265,8 @@ impl Folder for MemFolder {
 
     ghost is_synced = { λ folder. folder.is_synced };
 
+    ghost is_settled = { λ folder. folder.is_synced };
+
     ghost reads = { λ folder. length folder.reads.items };
 
     fn names(&mut self) -> Result<Option<Vec<FileName>>, DeviceFault> {
@@ -343,7 +346,7 @@ impl Folder for MemFolder {
         Ok(())
     }
 
-    fn sync(&mut self) -> Result<(), DeviceFault> {
+    fn sync(&mut self, _whose: Whose) -> Result<(), DeviceFault> {
         if self.stopping.begin(FolderCall::Sync)?.is_some() {
             return Err(self.stopping.stop());
         }

@@ -3,6 +3,7 @@
 ghost use Rattle.std.specs.Prelude.{◌≡◌, ◌+◌, ◌<◌, ◌^◌, ◌≤◌, [], ◌∷◌, true, false, is_ok, is_none, Ok, MatchResult, OnOk, OnErr, IfOk, IfErr};
 ghost use Rattle.device.specs.Conditions.{disk_at};
 ghost use Rattle.device.specs.Recorded.{Unnoted};
+ghost use Rattle.maildir.specs.DiskFolders.{are_all_synced, changes_names as changes_names_of, is_settled_on_disk, is_synced_on_disk};
 ghost use Rattle.maildir.specs.DiskFolders.{noted, noted_mail, noted_meta, looked};
 
 use crate::changes::Changes;
@@ -14,6 +15,7 @@ use crate::kinds::{file_size, is_something};
 use device::DeviceFault;
 use device::disk::Disk;
 use device::trouble::Trouble;
+use device::whose::Whose;
 use std::alloc::{AllocError, Global};
 use std::fs::{OpenFile, OpenOptions};
 use std::io;
@@ -47,7 +49,13 @@ pub(crate) struct RecordedDisk<R: Files + AllocGlobal + Clone + Drop> {
     disk: Disk<R>,
     /// Whether something that is no file was to be read under the name of a message.
     has_odd: bool,
+    /// Whether no name was changed since the folder was opened or all names were synced last.
+    is_kept: bool,
+    /// Whether all names were synced since the folder was opened, and none was changed after that.
+    is_settled: bool,
     calls: DiskRecord,
+    pub ghost kept: { is_kept ≡ true → are_all_synced true calls.events ≡ true },
+    pub ghost settled: { is_settled ≡ true → are_all_synced false calls.events ≡ true },
 }
 
 impl<R: Files + AllocGlobal + Clone + Drop> Model for RecordedDisk<R> {
@@ -67,6 +75,8 @@ impl<R: Files + AllocGlobal + Clone + Drop> RecordedDisk<R> {
         Ok(RecordedDisk {
             disk: Disk::new(rt, path)?,
             has_odd: false,
+            is_kept: true,
+            is_settled: false,
             calls: DiskRecord::new(),
         })
     }
@@ -125,6 +135,10 @@ impl<R: Files + AllocGlobal + Clone + Drop> RecordedDisk<R> {
     fn note(&mut self, deed: DiskDeed, is_ok: bool, name: &[u8], bytes: &[u8], names: &[FileName])
         ensures { self.new ≡ noted deed is_ok name.now bytes.now names.now self.old }
     {
+        if changes_names(deed) {
+            self.is_kept = false;
+            self.is_settled = false;
+        }
         self.calls
             .note(&DiskCall { deed, is_ok }, name, bytes, names);
     }
@@ -173,7 +187,7 @@ impl<R: Files + AllocGlobal + Clone + Drop> RecordedDisk<R> {
             (λ found. self.new ≡ noted (DiskDeed.Listed place) (is_none found.unreached) [] [] found.names.items self.old)
             (λ _. self.new ≡ noted (DiskDeed.Listed place) false [] [] [] self.old) }
     {
-        let answer = FoundNames::read(&self.disk, self.has_odd, place);
+        let answer = self.found(place);
         let deed = DiskDeed::Listed(place);
         match &answer {
             Ok(found) => {
@@ -183,6 +197,10 @@ impl<R: Files + AllocGlobal + Clone + Drop> RecordedDisk<R> {
             Err(_) => self.note(deed, false, &[], &[], &[]),
         }
         answer
+    }
+
+    fn found(&self, place: Place) -> io::Result<FoundNames> {
+        FoundNames::read(&self.disk, self.has_odd, place)
     }
 
     /// The bytes of the meta file, or none where it is missing. No link is followed, and nothing but a file is opened.
@@ -412,6 +430,27 @@ impl<R: Files + AllocGlobal + Clone + Drop> RecordedDisk<R> {
         answer
     }
 
+    /// Whether names that were changed, by whom it may be, are synced.
+    pub(crate) fn is_synced(&self, whose: Whose) -> bool
+        ensures own { result ≡ true → is_synced_on_disk self.now ≡ true }
+        ensures all { result ≡ true → whose ≡ Whose.All → is_settled_on_disk self.now ≡ true }
+    {
+        match whose {
+            Whose::Own => self.is_kept,
+            Whose::All => self.is_kept && self.is_settled,
+        }
+    }
+
+    /// All names are synced, so they need not be until one is changed.
+    pub(crate) fn keep_synced(&mut self)
+        requires synced { is_synced_on_disk self.old ≡ true }
+        requires settled { is_settled_on_disk self.old ≡ true }
+        ensures { self.new ≡ self.old }
+    {
+        self.is_kept = true;
+        self.is_settled = true;
+    }
+
     /// Syncs the names of messages in one of the folders, or that of the meta file.
     pub(crate) fn sync_names(&mut self, names: NameSync) -> io::Result<()>
         ensures { self.new ≡ noted (DiskDeed.Synced names) (is_ok result) [] [] [] self.old }
@@ -430,6 +469,19 @@ impl<R: Files + Clock + AllocGlobal + Clone + Drop> RecordedDisk<R> {
     pub(crate) fn changes(&self) -> io::Result<Changes> {
         Changes::of(&self.disk)
     }
+}
+
+/// Whether a call of the system changes a name that is synced later.
+fn changes_names(deed: DiskDeed) -> bool
+    ensures { result ≡ changes_names_of deed }
+{
+    matches!(
+        deed,
+        DiskDeed::Placed(_)
+            | DiskDeed::Renamed(_, _)
+            | DiskDeed::Removed(_)
+            | DiskDeed::MetaReplaced
+    )
 }
 
 /// Writes what is left in the buffer of a file, and syncs its bytes.

@@ -9,6 +9,7 @@ use crate::folder::{FileName, Folder, Location, Origin, Source};
 use crate::found_names::is_waiting;
 use crate::mem_folder::{FolderCall, MemFolder};
 use device::DeviceFault;
+use device::whose::Whose;
 use mailcore::copy_pieces::CopyPieces;
 use mailcore::octets::Octets;
 use mailcore::others::Others;
@@ -156,6 +157,8 @@ impl<O: Others> Folder for VisitedFolder<O> {
 
     ghost is_synced = { λ visited. visited.folder.is_synced };
 
+    ghost is_settled = { λ visited. visited.folder.is_synced };
+
     ghost reads = { λ visited. length visited.folder.reads.items };
 
     fn names(&mut self) -> Result<Option<Vec<FileName>>, DeviceFault> {
@@ -201,9 +204,9 @@ impl<O: Others> Folder for VisitedFolder<O> {
         answer
     }
 
-    fn sync(&mut self) -> Result<(), DeviceFault> {
+    fn sync(&mut self, whose: Whose) -> Result<(), DeviceFault> {
         self.count(FolderCall::Sync);
-        let answer = self.folder.sync();
+        let answer = self.folder.sync(whose);
         self.is_broken = answer.is_err();
         answer
     }

@@ -9,6 +9,7 @@ use crate::admission::{above, admit};
 use crate::box_condition::{BoxCall, BoxCondition};
 use crate::kind::{BoxKind, OfFar, OfNear};
 use crate::mem_store::{MemStore, name_flags};
+use device::whose::Whose;
 use mailcore::copy_pieces::CopyPieces;
 use mailcore::flags::Flags;
 use mailcore::keywords::Keywords;
@@ -194,6 +195,8 @@ impl<K: BoxKind + Drop> Mailbox for MemMailbox<K> {
 
     ghost is_synced = { λ m. m.store.is_synced };
 
+    ghost is_settled = { λ m. m.store.is_synced };
+
     fn open(&mut self) -> Result<u32, BoxFault> {
         let stops = self.condition.begin(BoxCall::Open)?;
         self.is_open = true;
@@ -268,7 +271,7 @@ impl<K: BoxKind + Drop> Mailbox for MemMailbox<K> {
         self.condition.end(stops, ())
     }
 
-    fn sync(&mut self) -> Result<(), BoxFault> {
+    fn sync(&mut self, _whose: Whose) -> Result<(), BoxFault> {
         if !self.is_open {
             return Ok(());
         }

@@ -28,6 +28,7 @@ use crate::near_fault::NearFault;
 use crate::reading::{find_mark, find_message, listed};
 use crate::survey::{Survey, SurveyEntry};
 use device::history::History;
+use device::whose::Whose;
 use mailcore::copy_pieces::CopyPieces;
 use mailcore::flags::Flags;
 use mailcore::keywords::Keywords;
@@ -311,16 +312,17 @@ impl<F: Folder> NearBox<F> {
         Ok(uid)
     }
 
-    /// Makes what was renamed, removed and replaced so far outlive a loss of power: one `sync` of the folder.
-    pub fn sync(&mut self) -> Result<(), NearFault>
+    /// Makes what was renamed, removed and replaced outlive a loss of power: one `sync` of the folder.
+    pub fn sync(&mut self, whose: Whose) -> Result<(), NearFault>
         ensures was_honest { F.honest self.new.folder → F.honest self.old.folder }
         ensures synced { OnOk result (F.is_synced self.new.folder ≡ true) }
+        ensures settled { OnOk result (whose ≡ Whose.All → F.is_settled self.new.folder ≡ true) }
         ensures keeps { F.honest self.new.folder
             → (stored_in self.new ≡ stored_in self.old) × (length self.new.missed.items ≡ length self.old.missed.items) }
         ensures ends { Ends false (box_of self.old) (box_of self.new) result }
     {
         self.begin()?;
-        self.folder.sync()?;
+        self.folder.sync(whose)?;
         self.is_ready = true;
         Ok(())
     }

@@ -3,6 +3,7 @@
 ghost use Rattle.std.specs.Prelude.{◌≡◌, ℕ, List, Bool, OnOk, IfOk, IfErr, true, false, length};
 
 use crate::box_fault::BoxFault;
+use device::whose::Whose;
 use mailcore::copy_pieces::CopyPieces;
 use mailcore::flags::Flags;
 use mailcore::listing::Listing;
@@ -58,8 +59,11 @@ pub trait Mailbox {
     /// It cannot be opened, for this reason.
     ghost unfit: { Self → BoxFault → Type 0 };
 
-    /// All that was changed so far outlives a loss of power, or that is the other end's affair.
+    /// All that was changed since the device below was opened outlives a loss of power, or that is the other end's affair.
     ghost is_synced: { Self → Bool };
+
+    /// So does what an earlier process had changed.
+    ghost is_settled: { Self → Bool };
 
     /// Opens the mailbox, anew where it is open, and returns its UIDVALIDITY.
     fn open(&mut self) -> Result<u32, BoxFault>
@@ -161,14 +165,14 @@ pub trait Mailbox {
             (NoRoom side (λ b. length b.waiting)) (λ _. Admits alone (seen self.old).stored.waiting) (AdmitsPart alone) (seen self.old)
             (seen self.new) result };
 
-    /// Makes what was changed since the mailbox was opened outlive a loss of power, where that is not the other end's affair. Nothing is
-    /// done where it is closed.
-    fn sync(&mut self) -> Result<(), BoxFault>
+    /// Makes what was changed outlive a loss of power, where that is not the other end's affair. Nothing is done where it is closed.
+    fn sync(&mut self, whose: Whose) -> Result<(), BoxFault>
         requires whole { (seen self.old).is_broken ≡ false }
         ensures was_honest { honest self.new → honest self.old }
         ensures keywords { keywords self.new ≡ keywords self.old }
         ensures open { is_open self.new ≡ is_open self.old }
         ensures synced { OnOk result (is_open self.old ≡ true → is_synced self.new ≡ true) }
+        ensures settled { OnOk result (is_open self.old ≡ true → whose ≡ Whose.All → is_settled self.new ≡ true) }
         ensures reported { IfErr result IsPlain }
         ensures call { Call {T = Unit {0}} (honest self.new) (ended self.old self.new) (Arrives side ours alone) Never
             (λ _ b b'. b' ≡ b) Nothing (seen self.old) (seen self.new) result };

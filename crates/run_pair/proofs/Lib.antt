@@ -10,3 +10,4 @@ pub mod BookCalls
 pub mod Carrying
 pub mod CarryCalls
 pub mod BeforeSteps
+pub mod NamingLemmas

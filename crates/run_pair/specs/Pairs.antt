@@ -128,9 +128,11 @@ module _ {F N S : Type 0} {fars : mailbox.Ghosts F} {nears : mailbox.Ghosts N} {
 
   -- ---- a sync before the book, and what is whole
 
-  -- the book is as it was, or what was open of the near mailbox is synced
-  abbrev pub IsSyncedFirst : (old new : Pair F N S fars nears shelves) → Type 0
-  IsSyncedFirst old new = nears.is_open old.near ≡ true → (new.book ≡ old.book) ⊎ (nears.is_synced new.near ≡ true)
+  -- The book is as it was, or what was open of the near mailbox is synced: what was changed since it was opened, and, if the book names
+  -- something of that, what an earlier process had changed.
+  abbrev pub IsSyncedFirst : (names_nothing : Type 0) → (old new : Pair F N S fars nears shelves) → Type 0
+  IsSyncedFirst names_nothing old new = nears.is_open old.near ≡ true
+      → (new.book ≡ old.book) ⊎ ((nears.is_synced new.near ≡ true) × (names_nothing ⊎ (nears.is_settled new.near ≡ true)))
 
   -- no call has failed, of a mailbox or of the book
   pub record IsWhole (p : Pair F N S fars nears shelves) : Type 0 where

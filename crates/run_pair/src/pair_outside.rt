@@ -1,7 +1,8 @@
 //! The calls of a run over any two mailboxes and any shelf: each goes to the part that it concerns.
 
 ghost use Rattle.std.specs.Prelude.{◌≡◌, false, true, Ok, IfErr, IfOk, OnErr, OnOk, IsErrOf, length};
-ghost use Rattle.run_pair.specs.BookParts.{standing_of};
+ghost use Rattle.run_pair.specs.BookParts.{kept_of, standing_of};
+ghost use Rattle.run_pair.specs.Naming.{PendingNamesNothing, PlanNamesNothing};
 
 use crate::copying::copy;
 use crate::listings::note_opened;
@@ -43,8 +44,7 @@ impl<F: Mailbox + Drop, N: Mailbox + Drop, S: Shelf + Drop> Outside for Pair<F, 
     ghost use Rattle.outside.specs.Opened.{TakesCommit, TakesDiscard, TakesGivingUp, TakesLog, TakesPlan};
     ghost use Rattle.outside.specs.BookCalls.{FromLog, LeavesUnread, ReadsBook};
     ghost use Rattle.outside.specs.MailboxOperations.{HasNumbers, ListsWithin, removed, NoRoom};
-    ghost use Rattle.outside.specs.BoxCalls.{Admits, AdmitsPart, Carry, ListsFar, ListsNear, Names, SetsAside, Turns};
-    ghost use Rattle.outside.specs.BoxCalls.{copies_made};
+    ghost use Rattle.outside.specs.BoxCalls.{Admits, AdmitsPart, Carry, ListsFar, ListsNear, Names, SetsAside, Turns, copies_made};
     ghost use Rattle.outside.specs.MailboxCalls.{Never};
     ghost use Rattle.run_pair.specs.Faults.{OrRefusal};
     ghost use Rattle.run_pair.specs.Parts.{both};
@@ -128,7 +128,7 @@ impl<F: Mailbox + Drop, N: Mailbox + Drop, S: Shelf + Drop> Outside for Pair<F, 
             self.old self.new result }
         ensures why { IsErrOf result OutsideFault.Stopped → BySyncedBook self.old self.new }
         ensures tallied { Tallied (ended no_copies) result self.old.tally self.new.tally }
-        ensures synced { IsSyncedFirst self.old self.new }
+        ensures synced { IsSyncedFirst (PlanNamesNothing (kept_of self.old.book) plan) self.old self.new }
     {
         if self.tally.is_broken() {
             return Err(OutsideFault::Stopped);
@@ -179,7 +179,7 @@ impl<F: Mailbox + Drop, N: Mailbox + Drop, S: Shelf + Drop> Outside for Pair<F, 
         ensures call { BookCall FromBook CommitsTo CommitsHalf self.old self.new result }
         ensures why { IsErrOf result OutsideFault.Stopped → BySyncedBook self.old self.new }
         ensures tallied { Tallied (ended no_copies) result self.old.tally self.new.tally }
-        ensures synced { IsSyncedFirst self.old self.new }
+        ensures synced { IsSyncedFirst (PendingNamesNothing (kept_of self.old.book)) self.old self.new }
     {
         if self.tally.is_broken() {
             return Err(OutsideFault::Stopped);
@@ -198,7 +198,7 @@ impl<F: Mailbox + Drop, N: Mailbox + Drop, S: Shelf + Drop> Outside for Pair<F, 
         ensures call { BookCall FromBook (GivesUpTo lost.now) (GivesUpHalf lost.now) self.old self.new result }
         ensures why { IsErrOf result OutsideFault.Stopped → BySyncedBook self.old self.new }
         ensures tallied { Tallied (ended no_copies) result self.old.tally self.new.tally }
-        ensures synced { IsSyncedFirst self.old self.new }
+        ensures synced { IsSyncedFirst ⊥ self.old self.new }
     {
         if self.tally.is_broken() {
             return Err(OutsideFault::Stopped);

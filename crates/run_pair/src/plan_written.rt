@@ -11,8 +11,10 @@ ghost use Rattle.outside.specs.Calls.{FromBook};
 ghost use Rattle.run_pair.specs.PartCalls.{PartChanges};
 ghost use Rattle.run_pair.specs.BookParts.{files_of, honest_in, kept_of, standing_of};
 ghost use Rattle.run_pair.specs.Kept.{OfKept, TakesPlan, turned};
+ghost use Rattle.run_pair.specs.Naming.{PlanNamesNothing};
 
 use crate::book_part::BookPart;
+use crate::naming::whose_of;
 use crate::tally::reported;
 use book::shelf::Shelf;
 use mailcore::side::Side;
@@ -20,7 +22,8 @@ use outside::fault::OutsideFault;
 use outside::mailbox::Mailbox;
 use rules::plan::Plan;
 
-/// Writes the plan, after a sync of the near mailbox: it names UIDs that files there were given just before.
+/// Writes the plan, after a sync of the near mailbox: it names UIDs that files there were given just before, by this process or by one that
+/// was killed.
 pub(crate) fn begin_synced<N: Mailbox, S: Shelf + Drop>(
     near: &mut N,
     book: &mut BookPart<S>,
@@ -34,7 +37,8 @@ pub(crate) fn begin_synced<N: Mailbox, S: Shelf + Drop>(
     ensures book_was_honest { honest_in book.new → honest_in book.old }
     ensures keywords { N.keywords near.new ≡ N.keywords near.old }
     ensures open { N.is_open near.new ≡ N.is_open near.old }
-    ensures synced { N.is_open near.old ≡ true → (book.new ≡ book.old) ⊎ (N.is_synced near.new ≡ true) }
+    ensures synced { N.is_open near.old ≡ true → (book.new ≡ book.old)
+        ⊎ ((N.is_synced near.new ≡ true) × (PlanNamesNothing (kept_of book.old) plan ⊎ (N.is_settled near.new ≡ true))) }
     ensures whole { OnOk result ((N.seen near.new).is_broken ≡ false) }
     ensures ready { OnOk result ((standing_of book.new).is_ready ≡ true) }
     ensures kept { OnOk result (kept_of book.new ≡ turned (λ _. begun plan) (kept_of book.old)) }
@@ -45,7 +49,7 @@ pub(crate) fn begin_synced<N: Mailbox, S: Shelf + Drop>(
     ensures part { N.honest near.new → PartChanges (honest_in book.new) (λ _. OfKept (λ _. Turns Missing (begun plan)) (kept_of book.old))
         (OfKept (λ _. TurnsHalf Missing Useless) (kept_of book.old)) (files_of book.old) (files_of book.new) result }
 {
-    match near.sync() {
+    match near.sync(whose_of(&plan, book.state())) {
         Ok(()) => book.begin(plan),
         Err(fault) => Err(reported(Side::Near, fault)),
     }

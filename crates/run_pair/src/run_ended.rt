@@ -8,11 +8,14 @@ ghost use Rattle.outside.specs.MailboxCalls.{HasCause};
 ghost use Rattle.outside.specs.Calls.{FromBook};
 ghost use Rattle.run_pair.specs.PartCalls.{PartChanges};
 ghost use Rattle.run_pair.specs.BookParts.{files_of, honest_in, kept_of, standing_of};
-ghost use Rattle.run_pair.specs.Kept.{AreCommitted, IsHeld, OfKept, TakesCommit};
+ghost use Rattle.run_pair.specs.Kept.{AreCommitted, IsHeld, IsRead, OfKept, TakesCommit};
+ghost use Rattle.run_pair.specs.Naming.{PendingNamesNothing};
 
 use crate::book_part::BookPart;
+use crate::naming::whose_of;
 use crate::tally::reported;
 use book::shelf::Shelf;
+use device::whose::Whose;
 use mailcore::side::Side;
 use outside::fault::OutsideFault;
 use outside::mailbox::Mailbox;
@@ -30,7 +33,8 @@ pub(crate) fn commit_synced<N: Mailbox, S: Shelf + Drop>(
     ensures book_was_honest { honest_in book.new → honest_in book.old }
     ensures keywords { N.keywords near.new ≡ N.keywords near.old }
     ensures open { N.is_open near.new ≡ N.is_open near.old }
-    ensures synced { N.is_open near.old ≡ true → (book.new ≡ book.old) ⊎ (N.is_synced near.new ≡ true) }
+    ensures synced { N.is_open near.old ≡ true → (book.new ≡ book.old)
+        ⊎ ((N.is_synced near.new ≡ true) × (PendingNamesNothing (kept_of book.old) ⊎ (N.is_settled near.new ≡ true))) }
     ensures whole { OnOk result ((N.seen near.new).is_broken ≡ false) }
     ensures ready { OnOk result ((standing_of book.new).is_ready ≡ true) }
     ensures kept { OnOk result (AreCommitted (kept_of book.old) (kept_of book.new)) }
@@ -42,8 +46,19 @@ pub(crate) fn commit_synced<N: Mailbox, S: Shelf + Drop>(
     ensures part { N.honest near.new → PartChanges (honest_in book.new) (λ _. OfKept CommitsTo (kept_of book.old))
         (OfKept CommitsHalf (kept_of book.old)) (files_of book.old) (files_of book.new) result }
 {
-    match near.sync() {
+    match near.sync(whose_of_pending(book)) {
         Ok(()) => book.commit(),
         Err(fault) => Err(reported(Side::Near, fault)),
+    }
+}
+
+/// Whose changes of the near mailbox are synced before the state that the pending plan makes.
+fn whose_of_pending<S: Shelf + Drop>(book: &BookPart<S>) -> Whose
+    requires read { IsRead (kept_of book.now) }
+    ensures { result ≡ Whose.Own → PendingNamesNothing (kept_of book.now) }
+{
+    match book.pending() {
+        Some(journal) => whose_of(&journal.plan, book.state()),
+        None => Whose::All,
     }
 }

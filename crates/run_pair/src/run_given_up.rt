@@ -15,6 +15,7 @@ use crate::book_part::BookPart;
 use crate::tally::reported;
 use book::lost_sides::LostSides;
 use book::shelf::Shelf;
+use device::whose::Whose;
 use mailcore::side::Side;
 use outside::fault::OutsideFault;
 use outside::mailbox::Mailbox;
@@ -34,7 +35,8 @@ pub(crate) fn give_up_synced<N: Mailbox, S: Shelf + Drop>(
     ensures book_was_honest { honest_in book.new → honest_in book.old }
     ensures keywords { N.keywords near.new ≡ N.keywords near.old }
     ensures open { N.is_open near.new ≡ N.is_open near.old }
-    ensures synced { N.is_open near.old ≡ true → (book.new ≡ book.old) ⊎ (N.is_synced near.new ≡ true) }
+    ensures synced { N.is_open near.old ≡ true → (book.new ≡ book.old)
+        ⊎ ((N.is_synced near.new ≡ true) × (⊥ ⊎ (N.is_settled near.new ≡ true))) }
     ensures whole { OnOk result ((N.seen near.new).is_broken ≡ false) }
     ensures ready { OnOk result ((standing_of book.new).is_ready ≡ true) }
     ensures kept { OnOk result (AreGivenUp lost.now (kept_of book.old) (kept_of book.new)) }
@@ -46,7 +48,7 @@ pub(crate) fn give_up_synced<N: Mailbox, S: Shelf + Drop>(
     ensures part { N.honest near.new → PartChanges (honest_in book.new) (λ _. OfKept (GivesUpTo lost.now) (kept_of book.old))
         (OfKept (GivesUpHalf lost.now) (kept_of book.old)) (files_of book.old) (files_of book.new) result }
 {
-    match near.sync() {
+    match near.sync(Whose::All) {
         Ok(()) => book.give_up(lost),
         Err(fault) => Err(reported(Side::Near, fault)),
     }

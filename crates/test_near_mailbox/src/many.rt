@@ -1,6 +1,7 @@
 //! Operations on many messages, of which the answer is short.
 
 use crate::operation::{print_done, read_uids, report_fault};
+use device::whose::Whose;
 use mailcore::copy_pieces::{CopyHead, CopyPieces};
 use mailcore::flags::Flags;
 use mailcore::side::LineEnd;
@@ -91,7 +92,7 @@ pub fn append_copies<F: Folder>(
             return report_fault(reported, fault);
         }
     }
-    print_done(reported, near.sync())
+    print_done(reported, near.sync(Whose::All))
 }
 
 /// Prints how many of so many marks are found, as a pull that was stopped seeks its copies.

@@ -3,6 +3,7 @@
 ghost use Rattle.std.specs.Prelude.{◌≡◌};
 
 use device::DeviceFault;
+use device::whose::Whose;
 use mailcore::copy_pieces::CopyPieces;
 use maildir::folder::{FileName, Folder, Location, Origin, Source};
 use maildir::mem_folder::FolderCall;
@@ -70,6 +71,8 @@ impl<F: Folder> Folder for NotedFolder<F> {
 
     ghost is_synced = { λ noted. F.is_synced noted.folder };
 
+    ghost is_settled = { λ noted. F.is_settled noted.folder };
+
     ghost reads = { λ noted. F.reads noted.folder };
 
     fn names(&mut self) -> Result<Option<Vec<FileName>>, DeviceFault> {
@@ -102,9 +105,9 @@ impl<F: Folder> Folder for NotedFolder<F> {
         self.folder.replace_meta(text)
     }
 
-    fn sync(&mut self) -> Result<(), DeviceFault> {
+    fn sync(&mut self, whose: Whose) -> Result<(), DeviceFault> {
         self.note(FolderCall::Sync);
-        self.folder.sync()
+        self.folder.sync(whose)
     }
 
     fn reopen(&mut self) {

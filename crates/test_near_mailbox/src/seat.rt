@@ -4,6 +4,7 @@ use crate::files::{OpenFolder, gather, print_files};
 use crate::noted_folder::NotedFolder;
 use crate::operation::{perform, print_done, print_numbers};
 use crate::stop::word_of;
+use device::whose::Whose;
 use mailcore::keywords::Keywords;
 use maildir::folder::Folder;
 use near_box::{NearBox, NearFault};
@@ -144,7 +145,7 @@ impl<F: OpenFolder> Seat<F> {
             }
             "sync" => {
                 let folder = self.close()?;
-                print_done(reported, folder.sync().map_err(NearFault::from))
+                print_done(reported, folder.sync(Whose::All).map_err(NearFault::from))
             }
             _ => self.perform(alloc, word, line, reported),
         }
