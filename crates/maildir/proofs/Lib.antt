@@ -12,4 +12,5 @@ pub mod PermutedLemmas
 pub mod PlaceLemmas
 pub mod SearchedLemmas
 pub mod SlotLemmas
+pub mod StandingLemmas
 pub mod ReportedLemmas

@@ -1,9 +1,18 @@
--- What the name of a file says of the messages of a look.
-use Rattle.std.specs.Prelude.{ℕ, Bool, false, not, ◌==◌, nat_eq, List, drop, take, length, position, codes, Option, None, Some, is_some, unwrap_or, if◌then◌else◌}
+-- What the names in a folder say of the messages of a look.
+use Rattle.std.specs.Prelude.{◌≡◌, ℕ, Bool, false, not, ◌&&◌, ◌==◌, nat_eq, List, [], ◌∷◌, ◌++◌, drop, find, map, take, length, position, codes, Option, None, Some, is_some, unwrap_or, if◌then◌else◌}
 use Rattle.std.specs.Char.{is_ascii_digit}
-use Rattle.std.specs.List.{list_any, starts_with}
+use Rattle.std.specs.List.{filter_map, list_any, slice_split, starts_with}
+use Rattle.std.specs.Option.{option_map, option_or}
 use Rattle.texts.specs.Cut.{Sides, cut_first}
+use Rattle.maildir.specs.declared.folder.FileName.{FileName}
+use Rattle.maildir.specs.declared.folder.Place.{Place}
+use Rattle.maildir.specs.declared.folder.Place.TheVariants.{Cur, New}
+use Rattle.maildir.specs.declared.standing.Reading.{Reading}
+use Rattle.maildir.specs.declared.standing.Stale.{Stale}
+use Rattle.maildir.specs.declared.standing.Stale.TheVariants.{There, Unmarked}
 use Rattle.maildir.specs.Names.{COLON, uid_in, uid_of}
+
+-- ---- one name
 
 -- the digits at the head of a text
 abbrev pub digits_ahead : List ℕ → List ℕ
@@ -30,3 +39,68 @@ has_mark (Some (front, flags)) = list_any (λ b. b == LETTER_T) flags
 -- the letter of a message that is marked as deleted stands after the first colon
 abbrev pub is_marked : List ℕ → Bool
 is_marked name = has_mark (cut_first COLON name)
+
+abbrev pub COMMA : ℕ
+COMMA = 44
+
+-- the first UID in a name that is one of these: each stands at the head of a piece that follows a comma
+abbrev pub reported_among : (uids name : List ℕ) → Option ℕ
+reported_among uids name = find (is_among uids) (filter_map uid_ahead (drop 1 (slice_split (λ b. b == COMMA) name)))
+
+-- ---- what names show of messages that count as removed, or as marked as deleted
+
+-- the name reports a message that counts as removed
+abbrev pub there : (gone : List ℕ) → FileName → Option Stale
+there gone file = option_map (λ uid. There uid file) (reported_among gone file.name)
+
+-- it is the whole name of a message that counts as marked as deleted, and has not the letter
+abbrev pub unmarked : (marked : List ℕ) → FileName → Option Stale
+unmarked marked file =
+    if is_spelled file.name && not (is_marked file.name) then option_map (λ uid. Unmarked uid file) (reported_among marked file.name) else None
+
+-- what a name shows by itself
+abbrev pub shown : (gone marked : List ℕ) → FileName → Option Stale
+shown gone marked file = option_or (there gone file) (unmarked marked file)
+
+abbrev pub shown_by : (gone marked : List ℕ) → List FileName → List Stale
+shown_by gone marked files = filter_map (shown gone marked) files
+
+-- it is the whole name of a message that counts as marked as deleted, with the letter
+abbrev pub as_marked : (marked : List ℕ) → FileName → Option ℕ
+as_marked marked file = if is_spelled file.name && is_marked file.name then reported_among marked file.name else None
+
+-- it only begins as the name of such a message, and has not the letter
+abbrev pub odd : (marked : List ℕ) → FileName → Option (ℕ × FileName)
+odd marked file =
+    if not (is_spelled file.name) && not (is_marked file.name) then option_map (λ uid. (uid, file)) (reported_among marked file.name) else None
+
+-- the first odd name whose message was not met, marked as deleted
+abbrev pub odd_shown : (met : List ℕ) → List (ℕ × FileName) → Option Stale
+odd_shown met odds = option_map (λ one. Unmarked one.0 one.1) (find (λ one. not (is_among met one.0)) odds)
+
+abbrev pub first : {T : Type 0} → List T → Option T
+first [] = None
+first (x ∷ xs) = Some x
+
+-- The first message that is not as it was counted, by these names: what a name shows by itself, or else an odd name of a message that no
+-- whole one shows to be marked as deleted.
+abbrev pub first_stale : (gone marked : List ℕ) → List FileName → Option Stale
+first_stale gone marked files = option_or (first (shown_by gone marked files)) (odd_shown (filter_map (as_marked marked) files) (filter_map (odd marked) files))
+
+-- ---- names that were read
+
+abbrev pub files_in : Place → List (List ℕ) → List FileName
+files_in place names = map (λ name. record { place = place; name = name }) names
+
+-- a look has met these names more, which show nothing by themselves
+pub record HasMet (sought : List ℕ) (files : List FileName) (met met_now : List ℕ) (odds odds_now : List (ℕ × FileName)) : Type 0 where
+  pub marked : met_now ≡ met ++ filter_map (as_marked sought) files
+  pub odd_names : odds_now ≡ odds ++ filter_map (odd sought) files
+
+-- `new` was read and then `cur`, both readings were noted, and this is what the names show
+pub record HasLooked (gone marked : List ℕ) (found : Option Stale) (old now : List Reading) : Type 0 where
+  pub fresh : Reading
+  pub current : Reading
+  pub places : (fresh.place ≡ New) × (current.place ≡ Cur)
+  pub noted : now ≡ current ∷ (fresh ∷ old)
+  pub finds : found ≡ first_stale gone marked (files_in New fresh.names.items ++ files_in Cur current.names.items)

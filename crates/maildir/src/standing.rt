@@ -4,13 +4,16 @@
 //! What is a message, and which, the whole spelling of a name says. Here a name that only begins as that of a message counts as well, so
 //! that a file which got an odd tail, as `NAME,U=5:2,SF` or `NAME,U=5~`, is not taken for one that was removed.
 
-ghost use Rattle.std.specs.Prelude.{◌≡◌};
+ghost use Rattle.std.specs.Prelude.{◌≡◌, ◌++◌, [], ◌∷◌, None, IfOk, OnErr};
 ghost use Rattle.std.specs.List.Sorted.{IsNonDecreasingBy};
-ghost use Rattle.maildir.specs.Standings.{is_among, is_marked, is_spelled, uid_ahead};
+ghost use Rattle.maildir.specs.Standings.{HasLooked, HasMet, files_in, first, first_stale, is_among, is_marked, is_spelled};
+ghost use Rattle.maildir.specs.Standings.{odd_shown, reported_among, shown, shown_by, uid_ahead};
 
 use crate::entries::entries_in;
 use crate::folder::{FileName, Place};
 use crate::name::{read_name, read_uid};
+use device::history::History;
+use mailcore::octets::Octets;
 use mailcore::uid::Uid;
 use std::alloc::{AllocError, Global};
 use std::io;
@@ -24,6 +27,8 @@ pub struct Sought<'a> {
     pub gone: &'a [Uid],
     /// Those that count as marked as deleted.
     pub marked: &'a [Uid],
+    ghost gone_rise: { IsNonDecreasingBy (λ uid. uid) gone.now },
+    ghost marked_rise: { IsNonDecreasingBy (λ uid. uid) marked.now },
 }
 
 /// A message that is not as it was counted.
@@ -35,21 +40,68 @@ pub enum Stale {
     Unmarked(Uid, FileName),
 }
 
+/// The names that stood in `new` or `cur` when they were read.
+#[derive(Drop)]
+pub struct Reading {
+    /// In which of the two.
+    pub place: Place,
+    /// The names, whatever bears them.
+    pub names: Vec<Octets>,
+}
+
 /// The first of these messages that is not as it was counted, by one reading of the names in `new` and `cur` of the folder at this path.
+/// Both readings are noted.
 pub fn first_stale<R: Files + AllocGlobal>(
     rt: &R,
     folder: &str,
+    readings: &mut History<Reading>,
     sought: Sought<'_>,
-) -> io::Result<Option<Stale>> {
-    let mut look = Look::new(rt.alloc(), sought);
-    for place in [Place::New, Place::Cur] {
-        let part = place.folder();
-        let path = format!(in rt.alloc(); "{folder}/{part}/")?;
-        for name in entries_in(rt, path.as_str())? {
-            if let Some(stale) = look.meet(FileName { place, name })? {
-                return Ok(Some(stale));
-            }
-        }
+) -> io::Result<Option<Stale>>
+    ensures { IfOk result (λ found. HasLooked sought.entry.gone.now sought.entry.marked.now found readings.old.items readings.new.items) }
+{
+    let new = read_names(rt, folder, Place::New, readings)?;
+    let cur = read_names(rt, folder, Place::Cur, readings)?;
+    let found = stale_among(rt.alloc(), new, cur, sought)?;
+    Ok(found)
+}
+
+/// Reads the names in `new` or `cur` of the folder at this path, and notes them. That it reads what it notes is to be read.
+fn read_names<R: Files + AllocGlobal>(
+    rt: &R,
+    folder: &str,
+    place: Place,
+    readings: &mut History<Reading>,
+) -> io::Result<Vec<Octets>>
+    ensures ok { IfOk result (λ names. readings.new.items ≡ record { place = place; names = names } ∷ readings.old.items) }
+    ensures err { OnErr result (readings.new.items ≡ readings.old.items) }
+{
+    let part = place.folder();
+    let path = format!(in rt.alloc(); "{folder}/{part}/")?;
+    let reading = Reading {
+        place,
+        names: entries_in(rt, path.as_str())?,
+    };
+    *readings = readings.and(&reading);
+    let Reading { names, .. } = reading;
+    Ok(names)
+}
+
+/// The first of these messages that is not as it was counted, by these names in `new` and `cur`.
+fn stale_among(
+    alloc: Global,
+    new: Vec<Octets>,
+    cur: Vec<Octets>,
+    sought: Sought<'_>,
+) -> Result<Option<Stale>, AllocError>
+    ensures { IfOk result (λ found. found
+        ≡ first_stale sought.entry.gone.now sought.entry.marked.now (files_in Place.New new.items ++ files_in Place.Cur cur.items)) }
+{
+    let mut look = Look::new(alloc, sought);
+    if let Some(stale) = look.meet_all(Place::New, new)? {
+        return Ok(Some(stale));
+    }
+    if let Some(stale) = look.meet_all(Place::Cur, cur)? {
+        return Ok(Some(stale));
     }
     Ok(look.odd_one())
 }
@@ -65,7 +117,12 @@ struct Look<'a> {
 }
 
 impl<'a> Look<'a> {
-    fn new(alloc: Global, sought: Sought<'a>) -> Self {
+    /// No name was met.
+    fn new(alloc: Global, sought: Sought<'a>) -> Self
+        ensures sought { result.sought ≡ sought.entry }
+        ensures marked { result.marked.items ≡ [] }
+        ensures odd { result.odd.items ≡ [] }
+    {
         Look {
             sought,
             marked: Vec::new(alloc),
@@ -73,8 +130,29 @@ impl<'a> Look<'a> {
         }
     }
 
-    /// Takes one name more. Some: it shows that a message is not as it was counted.
-    fn meet(&mut self, file: FileName) -> Result<Option<Stale>, AllocError> {
+    /// Takes the names in this folder. Some: the first that shows by itself that a message is not as it was counted.
+    fn meet_all(&mut self, place: Place, names: Vec<Octets>) -> Result<Option<Stale>, AllocError>
+        ensures found { IfOk result (λ found. found
+            ≡ first (shown_by self.old.sought.gone.now self.old.sought.marked.now (files_in place names.items))) }
+        ensures met { IfOk result (λ found. found ≡ None → HasMet self.old.sought.marked.now (files_in place names.items)
+            self.old.marked.items self.new.marked.items self.old.odd.items self.new.odd.items) }
+        ensures sought { self.new.sought ≡ self.old.sought }
+    {
+        for name in names {
+            if let Some(stale) = self.meet(FileName { place, name })? {
+                return Ok(Some(stale));
+            }
+        }
+        Ok(None)
+    }
+
+    /// Takes one name more. Some: it shows by itself that a message is not as it was counted.
+    fn meet(&mut self, file: FileName) -> Result<Option<Stale>, AllocError>
+        ensures found { IfOk result (λ found. found ≡ shown self.old.sought.gone.now self.old.sought.marked.now file) }
+        ensures met { IfOk result (λ found. found ≡ None → HasMet self.old.sought.marked.now (file ∷ [])
+            self.old.marked.items self.new.marked.items self.old.odd.items self.new.odd.items) }
+        ensures sought { self.new.sought ≡ self.old.sought }
+    {
         let name = file.name.as_slice();
         if let Some(uid) = reported_among(name, self.sought.gone) {
             return Ok(Some(Stale::There(uid, file)));
@@ -91,36 +169,35 @@ impl<'a> Look<'a> {
         Ok(None)
     }
 
-    /// A message that is there under an odd name alone, which does not say that it is marked as deleted.
-    fn odd_one(self) -> Option<Stale> {
+    /// The first message that is there under an odd name alone, which does not say that it is marked as deleted.
+    fn odd_one(self) -> Option<Stale>
+        ensures { result ≡ odd_shown self.entry.marked.items self.entry.odd.items }
+    {
         let Look {
             mut marked,
             odd,
             ..
         } = self;
         marked.sort_unstable_by_key(|uid| uid.get());
-        for (uid, file) in odd {
-            if !is_among(uid, &marked) {
-                return Some(Stale::Unmarked(uid, file));
-            }
-        }
-        None
+        let met = marked.as_slice();
+        odd.into_iter()
+            .find(|(uid, _)| !is_among(*uid, met))
+            .map(|(uid, file)| Stale::Unmarked(uid, file))
     }
 }
 
 /// The first UID in a name that is one of these, which rise.
-fn reported_among(name: &[u8], uids: &[Uid]) -> Option<Uid> {
+fn reported_among(name: &[u8], uids: &[Uid]) -> Option<Uid>
+    requires { IsNonDecreasingBy (λ uid. uid) uids.now }
+    ensures { result ≡ reported_among uids.now name.now }
+{
     if uids.is_empty() {
         return None;
     }
-    for piece in name.split(|byte| *byte == b',').skip(1) {
-        if let Some(uid) = reported_uid(piece) {
-            if is_among(uid, uids) {
-                return Some(uid);
-            }
-        }
-    }
-    None
+    name.split(|byte| *byte == b',')
+        .skip(1)
+        .filter_map(|piece| reported_uid(piece))
+        .find(|uid| is_among(*uid, uids))
 }
 
 /// The UID after `U=` at the head of this piece of a name, whatever comes after its digits.
