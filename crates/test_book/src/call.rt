@@ -87,9 +87,7 @@ fn commit<S: Shelf>(book: &mut Book<S>) -> Result<Answer, Failure> {
 
 /// `all`: each step that is not logged is logged as done, up to one that cannot be, which is answered.
 fn log_all<S: Shelf>(book: &mut Book<S>, line: &mut Words<'_>) -> Result<Answer, Failure> {
-    if line.word() != "all" {
-        line.refuse();
-    }
+    line.expect("all");
     let Some(journal) = book.pending() else {
         return Ok(Answer::MayNot);
     };

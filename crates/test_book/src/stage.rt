@@ -55,10 +55,6 @@ impl Player for Stage<'_> {
             word => self.ask(word, line, &mut script.reported),
         }
     }
-
-    fn finish(&mut self) -> Result<(), Failure> {
-        Ok(folder::clear(self.rt)?)
-    }
 }
 
 impl<'a> Stage<'a> {

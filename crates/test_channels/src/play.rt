@@ -55,10 +55,6 @@ impl Player for CommandLines {
             word => self.facts.add(word, line),
         }
     }
-
-    fn finish(&mut self) -> Result<(), Failure> {
-        Ok(())
-    }
 }
 
 impl CommandLines {

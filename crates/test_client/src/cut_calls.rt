@@ -47,8 +47,4 @@ impl Player for CutCalls {
         }
         Ok(())
     }
-
-    fn finish(&mut self) -> Result<(), Failure> {
-        Ok(())
-    }
 }

@@ -83,10 +83,6 @@ impl Player for Calls<'_, '_> {
             }
         }
     }
-
-    fn finish(&mut self) -> Result<(), Failure> {
-        Ok(())
-    }
 }
 
 impl Calls<'_, '_> {

@@ -32,10 +32,6 @@ impl Player for Shell {
             None => print_line(self.0, &mut script.reported, text, false),
         }
     }
-
-    fn finish(&mut self) -> Result<(), Failure> {
-        Ok(())
-    }
 }
 
 /// Prints what a command line asks for, or why it asks for nothing. Where all is closed nothing can be written of it.

@@ -78,10 +78,6 @@ impl Player for Scene<'_> {
             None => self.ask(word, line, &mut script.reported),
         }
     }
-
-    fn finish(&mut self) -> Result<(), Failure> {
-        Ok(())
-    }
 }
 
 impl Scene<'_> {

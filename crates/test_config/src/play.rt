@@ -57,10 +57,6 @@ impl Player for Shorts {
             _ => Err(Failure::Script),
         }
     }
-
-    fn finish(&mut self) -> Result<(), Failure> {
-        Ok(())
-    }
 }
 
 impl Shorts {

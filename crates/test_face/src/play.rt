@@ -71,10 +71,6 @@ impl Player for Faces {
         };
         print_heard(self.alloc, &bytes, &mut script.reported)
     }
-
-    fn finish(&mut self) -> Result<(), Failure> {
-        Ok(())
-    }
 }
 
 /// Reports what the server gets.

@@ -54,10 +54,6 @@ impl Player for Runs<'_> {
             }
         }
     }
-
-    fn finish(&mut self) -> Result<(), Failure> {
-        Ok(())
-    }
 }
 
 impl Runs<'_> {

@@ -55,10 +55,6 @@ impl Player for Desk<'_> {
             word => self.play_in_folder(word, line, script),
         }
     }
-
-    fn finish(&mut self) -> Result<(), Failure> {
-        Ok(())
-    }
 }
 
 impl Desk<'_> {

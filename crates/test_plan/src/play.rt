@@ -54,10 +54,6 @@ impl Player for LastWorld {
             _ => self.ask(word, line, &mut script.reported),
         }
     }
-
-    fn finish(&mut self) -> Result<(), Failure> {
-        Ok(())
-    }
 }
 
 impl LastWorld {

@@ -57,10 +57,6 @@ impl Player for Runs {
             _ => Err(Failure::Script),
         }
     }
-
-    fn finish(&mut self) -> Result<(), Failure> {
-        Ok(())
-    }
 }
 
 impl Runs {

@@ -16,6 +16,15 @@ pub fn read_mailbox(alloc: Global, line: &mut Words<'_>) -> Result<StoredMailbox
     Ok(StoredMailbox::new(alloc, name, validity, next))
 }
 
+/// The same, which is added to others.
+pub fn add_mailbox(
+    alloc: Global,
+    mailboxes: &mut Vec<StoredMailbox>,
+    line: &mut Words<'_>,
+) -> Result<(), Failure> {
+    Ok(mailboxes.push(read_mailbox(alloc, line)?)?)
+}
+
 /// `UID FLAGS "BYTES"`: a message.
 pub fn read_message(alloc: Global, line: &mut Words<'_>) -> Result<Message, Failure> {
     let uid = line.uid();
@@ -28,10 +37,33 @@ pub fn read_message(alloc: Global, line: &mut Words<'_>) -> Result<Message, Fail
     })
 }
 
+/// The same, which is added to the last mailbox.
+pub fn add_message(
+    alloc: Global,
+    mailboxes: &mut [StoredMailbox],
+    line: &mut Words<'_>,
+) -> Result<(), Failure> {
+    push_message(mailboxes, read_message(alloc, line)?)
+}
+
+/// Adds a message to the last mailbox. `Script`: there is none, or the UID is not above the others and below the next one.
+pub fn push_message(mailboxes: &mut [StoredMailbox], message: Message) -> Result<(), Failure> {
+    match mailboxes.last_mut() {
+        Some(mailbox) => Ok(mailbox.push(message)?),
+        None => Err(Failure::Script),
+    }
+}
+
 /// An answer for each line of what a server said. A line that does not end with CR LF is marked so.
 pub fn print_replies(reported: &mut Reported, replies: &[u8]) {
-    for line in replies.split_inclusive(|byte| *byte == b'\n') {
+    print_lines(reported, "", replies);
+}
+
+/// The same of any lines, after these words.
+pub fn print_lines(reported: &mut Reported, words: &str, lines: &[u8]) {
+    for line in lines.split_inclusive(|byte| *byte == b'\n') {
         reported.begin();
+        reported.text(words);
         match line.strip_suffix(b"\r\n") {
             Some(text) => reported.bytes(text),
             None => {

@@ -1,7 +1,7 @@
 //! How the lines of a script are played.
 
 use crate::failure::Failure;
-use crate::script::Script;
+use crate::script::{CASE, Script};
 use crate::words::Words;
 use std::io::Write;
 use std::time::Instant;
@@ -13,9 +13,6 @@ pub trait Player {
 
     /// Plays a line: what it answers is printed in the transcript. `Script`: it has no meaning here.
     fn play(&mut self, line: &mut Words<'_>, script: &mut Script<'_>) -> Result<(), Failure>;
-
-    /// Ends the script.
-    fn finish(&mut self) -> Result<(), Failure>;
 }
 
 /// Plays the lines of a script, up to the next one that says who plays. Empty lines and those that begin with `#` are comments.
@@ -27,18 +24,44 @@ pub fn play_all<P: Player>(
     player: &mut P,
     script: &mut Script<'_>,
 ) -> Result<(), Failure> {
-    let mut is_timed = false;
+    script.is_timed = false;
     for _ in 0..=script.len() {
-        let Some(line) = script.next_line() else {
+        play_lines(rt, player, script, CASE)?;
+        if script.next_line().is_none() {
             break;
-        };
-        match line {
-            b"clock" => is_timed = true,
-            line if is_timed => play_timed(rt, player, line, script)?,
-            line => play_line(player, line, script)?,
+        }
+        player.begin()?;
+    }
+    Ok(())
+}
+
+/// Plays the lines that are left of a case, up to the next one that begins with this word, by a player of their own.
+pub fn play_part<P: Player + Drop>(
+    rt: &HostRuntime,
+    player: P,
+    script: &mut Script<'_>,
+    word: &[u8],
+) -> Result<(), Failure> {
+    let mut player = player;
+    play_lines(rt, &mut player, script, word)
+}
+
+fn play_lines<P: Player>(
+    rt: &HostRuntime,
+    player: &mut P,
+    script: &mut Script<'_>,
+    word: &[u8],
+) -> Result<(), Failure> {
+    for _ in 0..=script.len() {
+        match script.next_line_before(word) {
+            Some(b"clock") => script.is_timed = true,
+            Some([] | [b'#', ..]) => {}
+            Some(line) if script.is_timed => play_timed(rt, player, line, script)?,
+            Some(line) => play_line(player, line, script)?,
+            None => break,
         }
     }
-    player.finish()
+    Ok(())
 }
 
 fn play_timed<P: Player>(
@@ -47,10 +70,10 @@ fn play_timed<P: Player>(
     line: &[u8],
     script: &mut Script<'_>,
 ) -> Result<(), Failure> {
+    let number = script.number();
     let start = Instant::now(rt)?;
     play_line(player, line, script)?;
     let microseconds = start.elapsed(rt)?.as_micros();
-    let number = script.number();
     Ok(writeln!(rt.stderr(), "line {number}: {microseconds}")?)
 }
 
@@ -59,25 +82,14 @@ fn play_line<P: Player>(
     line: &[u8],
     script: &mut Script<'_>,
 ) -> Result<(), Failure> {
-    if line.is_empty() || line.starts_with(b"#") {
-        return Ok(());
-    }
     let number = script.number();
-    match play_words(player, line, script) {
+    let mut words = Words::new(line);
+    let played = match player.play(&mut words, script) {
+        Ok(()) => words.end(),
+        failed => failed,
+    };
+    match played {
         Ok(()) => Ok(()),
         Err(failure) => Err(failure.at(number)),
     }
-}
-
-fn play_words<P: Player>(
-    player: &mut P,
-    line: &[u8],
-    script: &mut Script<'_>,
-) -> Result<(), Failure> {
-    if line.starts_with(b"case ") {
-        return player.begin();
-    }
-    let mut words = Words::new(line);
-    player.play(&mut words, script)?;
-    words.end()
 }

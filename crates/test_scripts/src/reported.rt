@@ -37,10 +37,15 @@ impl Reported {
         self.is_lost
     }
 
+    /// Notes that something was lost because memory ran out.
+    pub fn lose(&mut self) {
+        self.is_lost = true;
+    }
+
     /// Adds a text as it stands.
     pub fn text(&mut self, text: &str) {
         if self.text.push_str(text).is_err() {
-            self.is_lost = true;
+            self.lose();
         }
     }
 
@@ -52,7 +57,7 @@ impl Reported {
     /// Adds a value as it shows itself.
     pub fn shown<T: fmt::Display>(&mut self, value: &T) {
         if write!(self.text, "{value}").is_err() {
-            self.is_lost = true;
+            self.lose();
         }
     }
 
@@ -60,7 +65,7 @@ impl Reported {
     pub fn quoted(&mut self, bytes: &[u8]) {
         self.text("\"");
         if push_escaped(&mut self.text, bytes).is_err() {
-            self.is_lost = true;
+            self.lose();
         }
         self.text("\"");
     }
@@ -119,8 +124,16 @@ impl Reported {
 
     /// Adds an answer for each line of a text.
     pub fn lines(&mut self, text: &str) {
-        for line in text.lines() {
-            self.answer(line);
+        self.lines_after("", text.as_bytes());
+    }
+
+    /// The same, each after these words.
+    pub fn lines_after(&mut self, words: &str, text: &[u8]) {
+        for line in str::from_utf8(text).unwrap_or("(no text)").lines() {
+            self.begin();
+            self.text(words);
+            self.text(line);
+            self.end();
         }
     }
 
@@ -130,7 +143,7 @@ impl Reported {
             _ => write!(self.text, "<{byte:02x}>"),
         };
         if added.is_err() {
-            self.is_lost = true;
+            self.lose();
         }
     }
 }

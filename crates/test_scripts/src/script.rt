@@ -8,11 +8,16 @@ use texts::cut::cut;
 /// The word with which the line begins that says who plays the lines after it.
 const HEAD: &[u8] = b"script ";
 
+/// The word with which a line begins that begins a case.
+pub const CASE: &[u8] = b"case ";
+
 /// A script from its next line on. Lines that were taken stand in the transcript.
 #[derive(Drop)]
 pub struct Script<'a> {
     rest: &'a [u8],
     number: usize,
+    /// Whether standard error gets how long each line takes.
+    pub is_timed: bool,
     /// The transcript.
     pub reported: Reported,
 }
@@ -23,6 +28,7 @@ impl<'a> Script<'a> {
         Script {
             rest: bytes,
             number: 0,
+            is_timed: false,
             reported: Reported::new(alloc),
         }
     }
@@ -56,6 +62,14 @@ impl<'a> Script<'a> {
             return None;
         }
         Some(self.take_line())
+    }
+
+    /// The same within a case: nothing where the next line begins another one, or begins with this word.
+    pub fn next_line_before(&mut self, word: &[u8]) -> Option<&'a [u8]> {
+        if self.rest.starts_with(CASE) || self.rest.starts_with(word) {
+            return None;
+        }
+        self.next_line()
     }
 
     /// Takes all lines up to one that is this one, and gives those before it, with their line ends. `Script`: there is none.

@@ -18,7 +18,7 @@ use texts::number::{read_number, read_u32};
 #[derive(Clone, Copy)]
 pub struct Words<'a> {
     rest: Option<&'a [u8]>,
-    is_bad: bool,
+    failure: Option<Failure>,
 }
 
 impl<'a> Words<'a> {
@@ -26,7 +26,7 @@ impl<'a> Words<'a> {
     pub fn new(line: &'a [u8]) -> Words<'a> {
         Words {
             rest: Some(line),
-            is_bad: false,
+            failure: None,
         }
     }
 
@@ -37,7 +37,14 @@ impl<'a> Words<'a> {
 
     /// Notes that the line is bad.
     pub fn refuse(&mut self) {
-        self.is_bad = true;
+        self.fail(Failure::Script);
+    }
+
+    /// Notes why the script is not played on after the line.
+    pub fn fail(&mut self, failure: Failure) {
+        if self.failure.is_none() {
+            self.failure = Some(failure);
+        }
     }
 
     /// The next word; an empty one, and the line is bad, where there is none.
@@ -51,12 +58,21 @@ impl<'a> Words<'a> {
         self.text_of(word)
     }
 
+    /// Takes these words, which have to come next.
+    pub fn expect(&mut self, words: &str) {
+        for word in words.split(' ') {
+            if self.word() != word {
+                self.refuse();
+            }
+        }
+    }
+
     /// All that is left of the line, as it stands.
     pub fn rest(&mut self) -> &'a [u8] {
         match self.rest.take() {
             Some(text) => text,
             None => {
-                self.is_bad = true;
+                self.refuse();
                 &[]
             }
         }
@@ -73,7 +89,7 @@ impl<'a> Words<'a> {
         match read_u32(self.word().as_bytes(), u32::MAX) {
             Some(number) => number,
             None => {
-                self.is_bad = true;
+                self.refuse();
                 0
             }
         }
@@ -83,7 +99,7 @@ impl<'a> Words<'a> {
     pub fn uid(&mut self) -> Uid {
         let mut number = self.number();
         if number == 0 || number == u32::MAX {
-            self.is_bad = true;
+            self.refuse();
             number = 1;
         }
         Uid::new(number).unwrap()
@@ -94,7 +110,7 @@ impl<'a> Words<'a> {
         match read_number(self.word().as_bytes(), u64::MAX) {
             Some(number) => number,
             None => {
-                self.is_bad = true;
+                self.refuse();
                 0
             }
         }
@@ -110,7 +126,7 @@ impl<'a> Words<'a> {
         match Side::from_word(self.word().as_bytes()) {
             Some(side) => side,
             None => {
-                self.is_bad = true;
+                self.refuse();
                 Side::Far
             }
         }
@@ -123,7 +139,7 @@ impl<'a> Words<'a> {
             "after" => Moment::After,
             "behind" => Moment::Part(self.count()),
             _ => {
-                self.is_bad = true;
+                self.refuse();
                 Moment::Before
             }
         }
@@ -148,7 +164,7 @@ impl<'a> Words<'a> {
         match Flags::from_letters(word.as_bytes()) {
             Some(flags) => flags,
             None => {
-                self.is_bad = true;
+                self.refuse();
                 Flags::none()
             }
         }
@@ -163,19 +179,31 @@ impl<'a> Words<'a> {
         }
     }
 
-    /// `Script`: a word was bad, or is left.
-    pub fn end(&self) -> Result<(), Failure> {
-        if self.is_bad || self.rest.is_some() {
-            return Err(Failure::Script);
+    /// The same, where want of them is noted.
+    pub fn said(&mut self, alloc: Global) -> Vec<u8> {
+        match self.bytes(alloc) {
+            Ok(bytes) => bytes,
+            Err(failure) => {
+                self.fail(failure);
+                Vec::new(alloc)
+            }
         }
-        Ok(())
+    }
+
+    /// What was noted. `Script`: a word was bad, or is left.
+    pub fn end(&self) -> Result<(), Failure> {
+        match self.failure {
+            Some(failure) => Err(failure),
+            None if self.rest.is_some() => Err(Failure::Script),
+            None => Ok(()),
+        }
     }
 
     fn text_of(&mut self, bytes: &'a [u8]) -> &'a str {
         match str::from_utf8(bytes) {
             Ok(text) => text,
             Err(_) => {
-                self.is_bad = true;
+                self.refuse();
                 ""
             }
         }

@@ -108,8 +108,4 @@ impl Player for Links {
             _ => self.call(word, line, &mut script.reported),
         }
     }
-
-    fn finish(&mut self) -> Result<(), Failure> {
-        Ok(())
-    }
 }

@@ -117,10 +117,6 @@ impl Player for Sessions {
             word => self.ask(word, line, script),
         }
     }
-
-    fn finish(&mut self) -> Result<(), Failure> {
-        Ok(())
-    }
 }
 
 /// Feeds bytes in pieces, and answers the replies. After a fault nothing more is fed.

@@ -17,7 +17,7 @@ use worlds::world::{WaitingFile, World};
 const MARK_END: usize = 8 + TUID_LENGTH;
 
 /// The first respect in which an end is not alike to the outcome.
-#[derive(Clone, Copy, PartialEq, Eq)]
+#[derive(Clone, Copy)]
 pub(crate) enum Unlike {
     /// More or fewer UIDs of this side were given.
     Given(Side),

@@ -50,10 +50,6 @@ impl Player for Trials<'_> {
             _ => Err(Failure::Script),
         }
     }
-
-    fn finish(&mut self) -> Result<(), Failure> {
-        Ok(())
-    }
 }
 
 impl Trials<'_> {

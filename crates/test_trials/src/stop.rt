@@ -28,7 +28,7 @@ pub(crate) const CALLS: [&str; 18] = [
 pub(crate) const APPEND: &str = "shelf.append";
 
 /// Where a call stops.
-#[derive(Clone, Copy, PartialEq, Eq)]
+#[derive(Clone, Copy)]
 pub(crate) enum Moment {
     /// Without its effect.
     Before,
@@ -39,7 +39,7 @@ pub(crate) enum Moment {
 }
 
 /// A stop of a trial.
-#[derive(Clone, Copy, PartialEq, Eq)]
+#[derive(Clone, Copy)]
 pub(crate) struct Halt {
     /// The name of the call.
     pub(crate) call: &'static str,

@@ -73,10 +73,6 @@ impl Player for Stops<'_> {
             _ => Err(Failure::Script),
         }
     }
-
-    fn finish(&mut self) -> Result<(), Failure> {
-        Ok(())
-    }
 }
 
 fn set(place: &mut Option<World>, world: World) -> Result<(), Failure> {

@@ -54,10 +54,6 @@ impl Player for Trials {
             _ => Err(Failure::Script),
         }
     }
-
-    fn finish(&mut self) -> Result<(), Failure> {
-        Ok(())
-    }
 }
 
 impl Trials {

@@ -183,10 +183,6 @@ impl Player for Tokens {
         }
         Ok(())
     }
-
-    fn finish(&mut self) -> Result<(), Failure> {
-        Ok(())
-    }
 }
 
 /// Reports where a reader of tokens stopped in so many bytes, in the words for lines.

@@ -123,10 +123,6 @@ impl Player for Wire {
         }
         Ok(())
     }
-
-    fn finish(&mut self) -> Result<(), Failure> {
-        Ok(())
-    }
 }
 
 fn print_replies(reported: &mut Reported, replies: usize, used: usize) {
