@@ -4,6 +4,7 @@ use imap_link::fault::FarFault;
 use mailcore::listing::{Item, Listing};
 use mailcore::uid::Uid;
 use test_scripts::reported::Reported;
+use test_scripts::words::Words;
 
 /// Texts with more bytes are shown by their beginning.
 const SHOWN_MAX: usize = 200;
@@ -23,6 +24,14 @@ pub fn report_fault(reported: &mut Reported, fault: FarFault) {
         FarFault::NoMemory => "NoMemory",
     };
     reported.text(name);
+}
+
+/// The call cannot be made; the rest of its line is skipped.
+pub fn print_not_made(line: &mut Words<'_>, reported: &mut Reported) {
+    if !line.is_over() {
+        let _ = line.rest();
+    }
+    reported.text("not made");
 }
 
 /// The answer of a call that gives nothing.

@@ -1,6 +1,6 @@
 //! A client, and its calls.
 
-use crate::answers::{print_done, report_fault};
+use crate::answers::{print_done, print_not_made, report_fault};
 use crate::mailbox_calls::ask_mailbox;
 use crate::session_calls::{ask_session, is_word};
 use imap_client::far_box::FarBox;
@@ -9,198 +9,188 @@ use imap_link::link::Link;
 use mailcore::keywords::Keywords;
 use std::alloc::Global;
 use std::mem;
-use test_scripts::failure::Failure;
 use test_scripts::reported::Reported;
 use test_scripts::words::Words;
 
-/// What a client has.
+/// The words of the calls.
+const CALLS: [&str; 17] = [
+    "open",
+    "reconnect",
+    "login",
+    "names",
+    "create",
+    "select",
+    "logout",
+    "list",
+    "count",
+    "fetch",
+    "find_mark",
+    "append",
+    "add_flags",
+    "remove_flags",
+    "expunge",
+    "into_session",
+    "into_link",
+];
+
+/// A client over a link: what it has.
 #[derive(Drop)]
-enum Stand<L: Link> {
+pub enum Client<L: Link> {
+    /// Nothing, while a call is made.
     Nothing,
+    /// The link, and no session.
     Link(L),
+    /// A session.
     Session(Session<L>),
+    /// A mailbox that is selected.
     Mailbox(FarBox<L>),
 }
 
-/// A client over a link.
-#[derive(Drop)]
-pub struct Client<L: Link> {
-    alloc: Global,
-    stand: Stand<L>,
-}
-
 impl<L: Link + Drop> Client<L> {
-    /// One that has this link, and no session.
-    pub fn new(alloc: Global, link: L) -> Client<L> {
-        Client {
-            alloc,
-            stand: Stand::Link(link),
-        }
-    }
-
     /// The link, over which nothing more is sent.
     pub fn into_link(self) -> Option<L> {
-        let Client { stand, .. } = self;
-        match stand {
-            Stand::Nothing => None,
-            Stand::Link(link) => Some(link),
-            Stand::Session(session) => Some(session.into_link()),
-            Stand::Mailbox(mailbox) => Some(mailbox.into_session().into_link()),
+        match self {
+            Client::Nothing => None,
+            Client::Link(link) => Some(link),
+            Client::Session(session) => Some(session.into_link()),
+            Client::Mailbox(mailbox) => Some(mailbox.into_session().into_link()),
         }
     }
 
     /// Makes the call of this word, of whose line the other words are read, and adds its answer.
     pub fn make(
         &mut self,
+        alloc: Global,
         word: &str,
         line: &mut Words<'_>,
         reported: &mut Reported,
-    ) -> Result<(), Failure> {
-        match word {
-            "open" => self.open(line, reported),
-            "select" => self.select(line, reported),
-            "logout" => self.logout(line, reported),
-            "into_session" => self.into_session(line, reported),
-            "into_link" => self.leave(line, reported),
-            "reconnect" | "login" | "names" | "create" => self.ask_session(word, line, reported),
-            "list"
-            | "count"
-            | "fetch"
-            | "find_mark"
-            | "append"
-            | "add_flags"
-            | "remove_flags"
-            | "expunge" => return self.ask_mailbox(word, line, reported),
-            _ => line.refuse(),
+    ) {
+        if !is_call(word) {
+            line.refuse();
         }
-        Ok(())
+        let client = mem::replace(self, Client::Nothing);
+        *self = client.after(alloc, word, line, reported);
     }
 
-    fn ask_session(&mut self, word: &str, line: &mut Words<'_>, reported: &mut Reported) {
-        match &mut self.stand {
-            Stand::Session(session) => ask_session(session, word, line, reported),
-            _ => print_not_made(line, reported),
-        }
-    }
-
-    fn ask_mailbox(
-        &mut self,
+    /// What the client has after a call.
+    fn after(
+        self,
+        alloc: Global,
         word: &str,
         line: &mut Words<'_>,
         reported: &mut Reported,
-    ) -> Result<(), Failure> {
-        match &mut self.stand {
-            Stand::Mailbox(mailbox) => ask_mailbox(self.alloc, mailbox, word, line, reported),
-            _ => {
-                print_not_made(line, reported);
-                Ok(())
-            }
-        }
-    }
-
-    fn take(&mut self) -> Stand<L> {
-        mem::replace(&mut self.stand, Stand::Nothing)
-    }
-
-    fn keep(&mut self, stand: Stand<L>) {
-        self.stand = stand;
-    }
-
-    /// Puts back what the call cannot take.
-    fn keep_other(&mut self, stand: Stand<L>, line: &mut Words<'_>, reported: &mut Reported) {
-        self.stand = stand;
-        print_not_made(line, reported);
-    }
-
-    fn open(&mut self, line: &mut Words<'_>, reported: &mut Reported) {
-        match self.take() {
-            Stand::Link(link) => match Session::open(self.alloc, link) {
-                Ok(session) => {
-                    reported.text("done");
-                    self.keep(Stand::Session(session));
-                }
-                Err((fault, link)) => {
-                    report_fault(reported, fault);
-                    self.keep(Stand::Link(link));
-                }
-            },
-            other => self.keep_other(other, line, reported),
-        }
-    }
-
-    fn select(&mut self, line: &mut Words<'_>, reported: &mut Reported) {
-        match self.take() {
-            Stand::Session(session) => {
-                let stand = selected(self.alloc, session, line, reported);
-                self.keep(stand);
-            }
-            other => self.keep_other(other, line, reported),
-        }
-    }
-
-    fn logout(&mut self, line: &mut Words<'_>, reported: &mut Reported) {
-        match self.take() {
-            Stand::Session(session) => {
-                let (answered, link) = match session.logout() {
-                    Ok(link) => (Ok(()), link),
-                    Err((fault, link)) => (Err(fault), link),
-                };
-                print_done(reported, answered);
-                self.keep(Stand::Link(link));
-            }
-            other => self.keep_other(other, line, reported),
-        }
-    }
-
-    fn into_session(&mut self, line: &mut Words<'_>, reported: &mut Reported) {
-        match self.take() {
-            Stand::Mailbox(mailbox) => {
-                reported.text("done");
-                self.keep(Stand::Session(mailbox.into_session()));
-            }
-            other => self.keep_other(other, line, reported),
-        }
-    }
-
-    fn leave(&mut self, line: &mut Words<'_>, reported: &mut Reported) {
-        match self.take() {
-            Stand::Session(session) => {
-                reported.text("done");
-                self.keep(Stand::Link(session.into_link()));
-            }
-            other => self.keep_other(other, line, reported),
+    ) -> Client<L> {
+        match self {
+            Client::Link(link) => open(alloc, link, word, line, reported),
+            Client::Session(session) => after_session(alloc, session, word, line, reported),
+            Client::Mailbox(mailbox) => after_mailbox(alloc, mailbox, word, line, reported),
+            Client::Nothing => Client::Nothing,
         }
     }
 }
 
-/// What the client has once it has selected the mailbox of this name. Only the six flags have a name.
-fn selected<L: Link + Drop>(
+fn is_call(word: &str) -> bool {
+    for call in CALLS {
+        if call == word {
+            return true;
+        }
+    }
+    false
+}
+
+/// A call of a client that has only a link: `open`.
+fn open<L: Link + Drop>(
+    alloc: Global,
+    link: L,
+    word: &str,
+    line: &mut Words<'_>,
+    reported: &mut Reported,
+) -> Client<L> {
+    if word != "open" {
+        print_not_made(line, reported);
+        return Client::Link(link);
+    }
+    match Session::open(alloc, link) {
+        Ok(session) => {
+            reported.text("done");
+            Client::Session(session)
+        }
+        Err((fault, link)) => {
+            report_fault(reported, fault);
+            Client::Link(link)
+        }
+    }
+}
+
+/// A call of a client that has a session.
+fn after_session<L: Link + Drop>(
+    alloc: Global,
+    session: Session<L>,
+    word: &str,
+    line: &mut Words<'_>,
+    reported: &mut Reported,
+) -> Client<L> {
+    match word {
+        "select" => select(alloc, session, line, reported),
+        "logout" => logout(session, reported),
+        "into_link" => {
+            reported.text("done");
+            Client::Link(session.into_link())
+        }
+        _ => {
+            let mut session = session;
+            ask_session(&mut session, word, line, reported);
+            Client::Session(session)
+        }
+    }
+}
+
+/// A call of a client that has a mailbox.
+fn after_mailbox<L: Link + Drop>(
+    alloc: Global,
+    mailbox: FarBox<L>,
+    word: &str,
+    line: &mut Words<'_>,
+    reported: &mut Reported,
+) -> Client<L> {
+    if word == "into_session" {
+        reported.text("done");
+        return Client::Session(mailbox.into_session());
+    }
+    let mut mailbox = mailbox;
+    ask_mailbox(alloc, &mut mailbox, word, line, reported);
+    Client::Mailbox(mailbox)
+}
+
+/// Selects the mailbox of this name. Only the six flags have a name.
+fn select<L: Link + Drop>(
     alloc: Global,
     session: Session<L>,
     line: &mut Words<'_>,
     reported: &mut Reported,
-) -> Stand<L> {
+) -> Client<L> {
     let name = line.text().as_bytes();
     if !is_word(name) {
         line.refuse();
-        return Stand::Session(session);
+        return Client::Session(session);
     }
     match session.select(name, Keywords::new(alloc)) {
         Ok(mailbox) => {
             reported.text("done");
-            Stand::Mailbox(mailbox)
+            Client::Mailbox(mailbox)
         }
         Err((fault, session)) => {
             report_fault(reported, fault);
-            Stand::Session(session)
+            Client::Session(session)
         }
     }
 }
 
-/// The call cannot be made; the rest of its line is skipped.
-fn print_not_made(line: &mut Words<'_>, reported: &mut Reported) {
-    if !line.is_over() {
-        let _ = line.rest();
-    }
-    reported.text("not made");
+fn logout<L: Link + Drop>(session: Session<L>, reported: &mut Reported) -> Client<L> {
+    let (answered, link) = match session.logout() {
+        Ok(link) => (Ok(()), link),
+        Err((fault, link)) => (Err(fault), link),
+    };
+    print_done(reported, answered);
+    Client::Link(link)
 }

@@ -2,7 +2,6 @@
 
 use crate::record::Record;
 use std::alloc::Global;
-use test_scripts::failure::Failure;
 use test_scripts::reported::Reported;
 
 /// What an end of the bytes does.
@@ -22,17 +21,15 @@ struct Run {
 }
 
 /// Plays these lines with each beginning of what the server says in them, and reports what comes of it.
-pub fn print_cuts(alloc: Global, lines: &str, reported: &mut Reported) -> Result<(), Failure> {
-    let whole = Record::of(alloc, lines, usize::MAX)?;
-    print_runs(alloc, lines, &whole, reported)
+pub fn print_cuts(alloc: Global, lines: &str, reported: &mut Reported) {
+    let whole = Record::of(alloc, lines, usize::MAX);
+    if whole.is_lost() {
+        reported.lose();
+    }
+    print_runs(alloc, lines, &whole, reported);
 }
 
-fn print_runs(
-    alloc: Global,
-    lines: &str,
-    whole: &Record,
-    reported: &mut Reported,
-) -> Result<(), Failure> {
+fn print_runs(alloc: Global, lines: &str, whole: &Record, reported: &mut Reported) {
     let mut run = Run {
         from: 0,
         effect: Effect {
@@ -41,22 +38,20 @@ fn print_runs(
         },
     };
     for room in 0..whole.spoken {
-        let effect = effect_at(alloc, lines, whole, room)?;
+        let cut = Record::of(alloc, lines, room);
+        if cut.is_lost() {
+            reported.lose();
+        }
+        let effect = effect_of(whole, &cut);
         if effect.place != run.effect.place || effect.stops != run.effect.stops {
             run.report(reported, whole, room);
             run = Run { from: room, effect };
         }
     }
     run.report(reported, whole, whole.spoken);
-    Ok(())
 }
 
-/// What an end of the bytes after so many does.
-fn effect_at(alloc: Global, lines: &str, whole: &Record, room: usize) -> Result<Effect, Failure> {
-    let cut = Record::of(alloc, lines, room)?;
-    Ok(effect_of(whole, &cut))
-}
-
+/// What an end of the bytes does.
 fn effect_of(whole: &Record, cut: &Record) -> Effect {
     let answers = cut.answers.as_str().lines();
     let mut pairs = whole.answers.as_str().lines().zip(answers);

@@ -1,6 +1,8 @@
 //! Calls of a mailbox.
 
-use crate::answers::{print_body, print_done, print_listing, print_uid, report_fault};
+use crate::answers::{
+    print_body, print_done, print_listing, print_not_made, print_uid, report_fault,
+};
 use imap_client::far_box::FarBox;
 use imap_commands::message::SentMessage;
 use imap_link::link::Link;
@@ -20,17 +22,24 @@ pub fn ask_mailbox<L: Link>(
     word: &str,
     line: &mut Words<'_>,
     reported: &mut Reported,
-) -> Result<(), Failure> {
+) {
     match word {
         "list" => list(mailbox, false, reported),
         "count" => list(mailbox, true, reported),
         "fetch" => print_body(reported, mailbox.fetch(line.uid())),
         "find_mark" => find_mark(mailbox, line, reported),
-        "append" => return append(alloc, mailbox, line, reported),
-        "expunge" => return expunge(alloc, mailbox, line, reported),
-        _ => change_flags(mailbox, word, line, reported),
+        "append" => append(alloc, mailbox, line, reported),
+        "expunge" => expunge(alloc, mailbox, line, reported),
+        "add_flags" => {
+            let uid = line.uid();
+            print_done(reported, mailbox.add_flags(uid, line.flags()));
+        }
+        "remove_flags" => {
+            let uid = line.uid();
+            print_done(reported, mailbox.remove_flags(uid, line.flags()));
+        }
+        _ => print_not_made(line, reported),
     }
-    Ok(())
 }
 
 /// What the mailbox lists, or how many messages that are.
@@ -57,26 +66,11 @@ fn append<L: Link>(
     mailbox: &mut FarBox<L>,
     line: &mut Words<'_>,
     reported: &mut Reported,
-) -> Result<(), Failure> {
+) {
     let flags = line.flags();
-    match SentMessage::new(line.bytes(alloc)?) {
+    match SentMessage::new(line.said(alloc)) {
         Some(message) => print_uid(reported, mailbox.append(message.octets(), flags)),
         None => line.refuse(),
-    }
-    Ok(())
-}
-
-fn change_flags<L: Link>(
-    mailbox: &mut FarBox<L>,
-    word: &str,
-    line: &mut Words<'_>,
-    reported: &mut Reported,
-) {
-    let uid = line.uid();
-    let flags = line.flags();
-    match word {
-        "add_flags" => print_done(reported, mailbox.add_flags(uid, flags)),
-        _ => print_done(reported, mailbox.remove_flags(uid, flags)),
     }
 }
 
@@ -85,16 +79,17 @@ fn expunge<L: Link>(
     mailbox: &mut FarBox<L>,
     line: &mut Words<'_>,
     reported: &mut Reported,
-) -> Result<(), Failure> {
+) {
     let mut uids = Vec::new(alloc);
     for _ in 0..MOST_REMOVED {
         if line.is_over() {
             break;
         }
-        uids.push(line.uid())?;
+        if uids.push(line.uid()).is_err() {
+            line.fail(Failure::NoMemory);
+        }
     }
     if uids.len() <= MOST_REMOVED {
         print_done(reported, mailbox.expunge(&uids));
     }
-    Ok(())
 }

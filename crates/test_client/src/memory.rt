@@ -16,8 +16,10 @@ use mem_link::schedule::{LinkStop, Schedule};
 use std::alloc::Global;
 use std::mem;
 use test_scripts::failure::Failure;
-use test_scripts::mail::{read_mailbox, read_message};
+use test_scripts::mail::{add_mailbox, add_message, push_message};
+use test_scripts::play::Player;
 use test_scripts::reported::Reported;
+use test_scripts::script::Script;
 use test_scripts::words::Words;
 
 /// The mailboxes of a server, and a client over a link to it.
@@ -46,16 +48,22 @@ impl Memory {
     }
 
     /// Plays a line: one of the server, or a call, whose answer is reported.
-    pub fn play(&mut self, line: &mut Words<'_>, reported: &mut Reported) -> Result<(), Failure> {
+    pub fn play_line(
+        &mut self,
+        line: &mut Words<'_>,
+        reported: &mut Reported,
+    ) -> Result<(), Failure> {
         match line.word() {
-            "mailbox" => self.mailboxes.push(read_mailbox(self.alloc, line)?)?,
-            "message" => self.push(read_message(self.alloc, line)?)?,
-            "messages" => self.fill(line.number())?,
-            "body" => self.push_body(line.count())?,
-            "pieces" => self.piece = line.count(),
-            word => self.call(word, line, reported)?,
+            "mailbox" => add_mailbox(self.alloc, &mut self.mailboxes, line),
+            "message" => add_message(self.alloc, &mut self.mailboxes, line),
+            "messages" => self.fill(line.number()),
+            "body" => self.push_body(line.count()),
+            "pieces" => {
+                self.piece = line.count();
+                Ok(())
+            }
+            word => self.call(word, line, reported),
         }
-        Ok(())
     }
 
     /// The link, over which nothing more is sent; none where no call was made.
@@ -63,14 +71,6 @@ impl Memory {
         match self.client.take() {
             Some(client) => client.into_link(),
             None => None,
-        }
-    }
-
-    /// Adds a message to the last mailbox. `Script`: there is none, or the UID is not above the others and below the next one.
-    fn push(&mut self, message: Message) -> Result<(), Failure> {
-        match self.mailboxes.last_mut() {
-            Some(mailbox) => Ok(mailbox.push(message)?),
-            None => Err(Failure::Script),
         }
     }
 
@@ -90,15 +90,15 @@ impl Memory {
 
     /// Adds a message without flags.
     fn push_plain(&mut self, number: u32, bytes: Vec<u8>) -> Result<(), Failure> {
-        let bytes = Octets::from_vec(bytes);
-        match Uid::new(number) {
-            Some(uid) => self.push(Message {
-                uid,
-                flags: Flags::none(),
-                bytes,
-            }),
-            None => Err(Failure::Script),
-        }
+        let Some(uid) = Uid::new(number) else {
+            return Err(Failure::Script);
+        };
+        let message = Message {
+            uid,
+            flags: Flags::none(),
+            bytes: Octets::from_vec(bytes),
+        };
+        push_message(&mut self.mailboxes, message)
     }
 
     fn call(
@@ -112,7 +112,7 @@ impl Memory {
         }
         if let Some(client) = &mut self.client {
             reported.begin();
-            client.make(word, line, reported)?;
+            client.make(self.alloc, word, line, reported);
             reported.end();
         }
         Ok(())
@@ -124,25 +124,31 @@ impl Memory {
         if let Some(stop) = self.stop {
             stops.push(stop)?;
         }
-        let mailboxes = mem::replace(&mut self.mailboxes, Vec::new(self.alloc));
-        match server_of(self.alloc, mailboxes) {
-            Ok(server) => {
-                let link = MemLink::new(self.alloc, server, Schedule::new(stops));
-                Ok(Client::new(self.alloc, link.in_pieces(self.piece)))
-            }
-            Err(failure) => Err(failure),
-        }
+        let server = server_of(self.alloc, &mut self.mailboxes)?;
+        let link = MemLink::new(self.alloc, server, Schedule::new(stops));
+        Ok(Client::Link(link.in_pieces(self.piece)))
     }
 }
 
-/// A server with these mailboxes, for the user `u` with the password `p`. `Script`: it cannot have them.
-fn server_of(alloc: Global, mailboxes: Vec<StoredMailbox>) -> Result<Server, Failure>
+impl Player for Memory {
+    fn begin(&mut self) -> Result<(), Failure> {
+        Ok(())
+    }
+
+    fn play(&mut self, line: &mut Words<'_>, script: &mut Script<'_>) -> Result<(), Failure> {
+        self.play_line(line, &mut script.reported)
+    }
+}
+
+/// A server that takes these mailboxes, for the user `u` with the password `p`. `Script`: it cannot serve them.
+fn server_of(alloc: Global, mailboxes: &mut Vec<StoredMailbox>) -> Result<Server, Failure>
     ensures { IfOk result (λ server. AreServed server.server.mailboxes) }
 {
-    if !are_served(&mailboxes) {
+    if !are_served(mailboxes) {
         return Err(Failure::Script);
     }
     let user = Vec::from_slice(alloc, b"u")?;
     let password = Vec::from_slice(alloc, b"p")?;
+    let mailboxes = mem::replace(mailboxes, Vec::new(alloc));
     Ok(Server::new(alloc, mailboxes, user, password))
 }

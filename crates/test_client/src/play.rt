@@ -7,12 +7,13 @@ use crate::record::Record;
 use crate::stage::Stage;
 use crate::tape::Tape;
 use imap_client::tcp_link::TcpLink;
+use std::alloc::Global;
 use std::cell::RefCell;
 use std::mem;
 use test_scripts::failure::Failure;
-use test_scripts::play::{Player, play_all};
+use test_scripts::play::{Player, play_all, play_part};
 use test_scripts::reported::Reported;
-use test_scripts::script::Script;
+use test_scripts::script::{CASE, Script};
 use test_scripts::words::Words;
 
 /// Plays the lines of a script.
@@ -22,22 +23,10 @@ pub fn run(rt: &HostRuntime, script: &mut Script<'_>) -> Result<(), Failure> {
         rt,
         tape: &tape,
         stage: Stage::new(rt.alloc(), &tape),
-        over: Over::Tape,
         lines: Reported::new(rt.alloc()),
         kept: Vec::new(rt.alloc()),
     };
     play_all(rt, &mut player, script)
-}
-
-/// Over which link calls are made.
-#[derive(Drop)]
-enum Over {
-    /// One whose other end says what the script says.
-    Tape,
-    /// TCP.
-    Tcp(Client<TcpLink<HostRuntime>>),
-    /// A link to a server in memory.
-    Memory(Memory),
 }
 
 /// A case that others go on from.
@@ -53,7 +42,6 @@ struct Calls<'r, 't> {
     rt: &'r HostRuntime,
     tape: &'t RefCell<Tape>,
     stage: Stage<'t>,
-    over: Over,
     // the lines of this case, with those of the one that it goes on from
     lines: Reported,
     kept: Vec<Kept>,
@@ -65,50 +53,31 @@ impl Player for Calls<'_, '_> {
             tape.begin_anew();
         }
         self.stage = Stage::new(self.rt.alloc(), self.tape);
-        self.over = Over::Tape;
         self.lines = Reported::new(self.rt.alloc());
         Ok(())
     }
 
     fn play(&mut self, line: &mut Words<'_>, script: &mut Script<'_>) -> Result<(), Failure> {
-        let reported = &mut script.reported;
-        match &mut self.over {
-            Over::Tape => self.play_line(line, reported),
-            Over::Memory(memory) => memory.play(line, reported),
-            Over::Tcp(client) => {
-                reported.begin();
-                client.make(line.word(), line, reported)?;
-                reported.end();
-                Ok(())
+        let mut whole = *line;
+        match line.word() {
+            "keep" => return self.keep(line.text()),
+            "after" => self.go_on_after(line),
+            "over" => return go_over(self.rt, line, script),
+            "cut" => self.cut(line, &mut script.reported),
+            word => {
+                self.lines.text(whole.text());
+                self.lines.end();
+                self.make(word, line, &mut script.reported);
             }
         }
+        if self.lines.is_lost() {
+            line.fail(Failure::NoMemory);
+        }
+        Ok(())
     }
 }
 
 impl Calls<'_, '_> {
-    fn play_line(&mut self, line: &mut Words<'_>, reported: &mut Reported) -> Result<(), Failure> {
-        let mut whole = *line;
-        match line.word() {
-            "keep" => self.keep(line.text()),
-            "after" => self.go_on_after(line),
-            "over" => self.go_over(line),
-            "cut" => {
-                if line.word() != "everywhere" {
-                    line.refuse();
-                }
-                print_cuts(self.rt.alloc(), self.lines.as_str(), reported)
-            }
-            word => {
-                self.lines.text(whole.text());
-                self.lines.end();
-                if self.lines.is_lost() {
-                    return Err(Failure::NoMemory);
-                }
-                self.make(word, line, reported)
-            }
-        }
-    }
-
     /// Keeps the case by this name.
     fn keep(&mut self, name: &str) -> Result<(), Failure> {
         let name = String::from_str(self.rt.alloc(), name)?;
@@ -117,44 +86,73 @@ impl Calls<'_, '_> {
     }
 
     /// Goes on from the case that was kept by this name.
-    fn go_on_after(&mut self, line: &mut Words<'_>) -> Result<(), Failure> {
+    fn go_on_after(&mut self, line: &mut Words<'_>) {
         let name = line.text();
         match self.kept.iter().find(|kept| kept.name.as_str() == name) {
             Some(kept) => {
                 self.lines.text(kept.lines.as_str());
                 let mut record = Record::new(self.rt.alloc());
-                record.play(&mut self.stage, kept.lines.as_str())
+                record.play(&mut self.stage, kept.lines.as_str());
+                if record.is_lost() {
+                    line.fail(Failure::NoMemory);
+                }
             }
-            None => Err(Failure::Script),
+            None => line.refuse(),
         }
     }
 
-    fn go_over(&mut self, line: &mut Words<'_>) -> Result<(), Failure> {
-        match line.word() {
-            "memory" => self.over = Over::Memory(Memory::new(self.rt.alloc(), None)),
-            "tcp" => {
-                let link = TcpLink::new(self.rt.clone()?, line.text())?;
-                self.over = Over::Tcp(Client::new(self.rt.alloc(), link));
-            }
-            _ => line.refuse(),
-        }
-        Ok(())
+    fn cut(&mut self, line: &mut Words<'_>, reported: &mut Reported) {
+        line.expect("everywhere");
+        print_cuts(self.rt.alloc(), self.lines.as_str(), reported);
     }
 
     /// Takes a line of what goes over the link, or makes a call.
-    fn make(
-        &mut self,
-        word: &str,
-        line: &mut Words<'_>,
-        reported: &mut Reported,
-    ) -> Result<(), Failure> {
-        if self.stage.talk(word, line)? {
-            return Ok(());
+    fn make(&mut self, word: &str, line: &mut Words<'_>, reported: &mut Reported) {
+        if self.stage.talk(word, line) {
+            return;
         }
         reported.begin();
-        self.stage.call(word, line, reported)?;
+        self.stage.call(word, line, reported);
         reported.end();
-        let _ = self.stage.end_call(reported)?;
+        let _ = self.stage.end_call(reported);
+    }
+}
+
+/// Plays the lines after this one in its case: calls over another link.
+fn go_over(rt: &HostRuntime, line: &mut Words<'_>, script: &mut Script<'_>) -> Result<(), Failure> {
+    match line.word() {
+        "memory" => play_part(rt, Memory::new(rt.alloc(), None), script, CASE),
+        "tcp" => {
+            let link = TcpLink::new(rt.clone()?, line.text())?;
+            let alloc = rt.alloc();
+            let client = Client::Link(link);
+            play_part(rt, Connected { alloc, client }, script, CASE)
+        }
+        _ => {
+            line.refuse();
+            Ok(())
+        }
+    }
+}
+
+/// A client that has a connection, or none yet.
+#[derive(Drop)]
+struct Connected {
+    alloc: Global,
+    client: Client<TcpLink<HostRuntime>>,
+}
+
+impl Player for Connected {
+    fn begin(&mut self) -> Result<(), Failure> {
+        Ok(())
+    }
+
+    fn play(&mut self, line: &mut Words<'_>, script: &mut Script<'_>) -> Result<(), Failure> {
+        script.reported.begin();
+        let word = line.word();
+        self.client
+            .make(self.alloc, word, line, &mut script.reported);
+        script.reported.end();
         Ok(())
     }
 }

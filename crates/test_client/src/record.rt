@@ -4,7 +4,6 @@ use crate::stage::Stage;
 use crate::tape::Tape;
 use std::alloc::Global;
 use std::cell::RefCell;
-use test_scripts::failure::Failure;
 use test_scripts::reported::Reported;
 use test_scripts::words::Words;
 
@@ -33,41 +32,41 @@ impl Record {
     }
 
     /// What comes of these lines where the server says so many bytes at most.
-    pub fn of(alloc: Global, lines: &str, room: usize) -> Result<Record, Failure> {
+    pub fn of(alloc: Global, lines: &str, room: usize) -> Record {
         let tape = RefCell::new(Tape::new(alloc, room));
         let mut record = Record::new(alloc);
-        let played = record.play(&mut Stage::new(alloc, &tape), lines);
+        record.play(&mut Stage::new(alloc, &tape), lines);
         record.spoken = tape.into_inner().spoken();
-        match played {
-            Ok(()) => Ok(record),
-            Err(failure) => Err(failure),
-        }
+        record
     }
 
-    /// Plays lines. `NoMemory`: not all is noted, too.
-    pub fn play(&mut self, stage: &mut Stage<'_>, lines: &str) -> Result<(), Failure> {
+    /// Plays lines, which were played before.
+    pub fn play(&mut self, stage: &mut Stage<'_>, lines: &str) {
         for line in lines.lines() {
-            self.play_line(stage, line)?;
+            let mut words = Words::new(line.as_bytes());
+            self.play_line(stage, line, &mut words);
+            if words.end().is_err() {
+                self.amiss.lose();
+            }
         }
-        if self.calls.is_lost() || self.answers.is_lost() {
-            return Err(Failure::NoMemory);
-        }
-        Ok(())
     }
 
-    fn play_line(&mut self, stage: &mut Stage<'_>, line: &str) -> Result<(), Failure> {
-        let mut words = Words::new(line.as_bytes());
+    fn play_line(&mut self, stage: &mut Stage<'_>, line: &str, words: &mut Words<'_>) {
         let word = words.word();
-        if stage.talk(word, &mut words)? {
-            return Ok(());
+        if stage.talk(word, words) {
+            return;
         }
         self.calls.text(line);
         self.calls.end();
-        stage.call(word, &mut words, &mut self.answers)?;
-        if stage.end_call(&mut self.amiss)? {
+        stage.call(word, words, &mut self.answers);
+        if stage.end_call(&mut self.amiss) {
             self.answers.text(" (sent)");
         }
         self.answers.end();
-        Ok(())
+    }
+
+    /// Whether not all is noted, since memory ran out.
+    pub fn is_lost(&self) -> bool {
+        self.calls.is_lost() || self.answers.is_lost() || self.amiss.is_lost()
     }
 }

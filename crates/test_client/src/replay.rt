@@ -3,7 +3,7 @@
 use crate::held::Held;
 use crate::memory::Memory;
 use mem_link::schedule::LinkStop;
-use std::alloc::Global;
+use std::alloc::{AllocError, Global};
 use test_scripts::failure::Failure;
 use test_scripts::reported::Reported;
 use test_scripts::words::Words;
@@ -21,29 +21,24 @@ pub struct Came {
     pub held: Held,
     /// How many calls of the link have stopped.
     pub stops: usize,
+    /// Why the lines could not be played.
+    pub failure: Option<Failure>,
 }
 
 /// What comes of the lines of a case, of its last call and of those that look, over a new link that stops there.
-pub fn replay(
-    alloc: Global,
-    lines: &str,
-    call: &str,
-    look: &str,
-    stop: Option<LinkStop>,
-) -> Result<Came, Failure> {
+pub fn replay(alloc: Global, lines: &str, call: &str, look: &str, stop: Option<LinkStop>) -> Came {
     let mut came = Came {
         earlier: Reported::new(alloc),
         last: Reported::new(alloc),
         look: Reported::new(alloc),
         held: Held::new(alloc),
         stops: 0,
+        failure: None,
     };
     let mut memory = Memory::new(alloc, stop);
-    let played = came.play(alloc, &mut memory, lines, call, look);
-    match played {
-        Ok(()) => Ok(came),
-        Err(failure) => Err(failure),
-    }
+    came.failure = came.play(alloc, &mut memory, lines, call, look).err();
+    drop(memory);
+    came
 }
 
 impl Came {
@@ -58,17 +53,22 @@ impl Came {
         play_lines(memory, lines, &mut self.earlier)?;
         play_lines(memory, call, &mut self.last)?;
         play_lines(memory, look, &mut self.look)?;
-        match memory.take_link() {
-            Some(link) => {
-                self.stops = link.stops();
-                self.held.report(alloc, link.server().mailboxes())?;
-            }
-            None => self.held.report(alloc, &memory.mailboxes)?,
-        }
+        self.hold(alloc, memory)?;
         if self.is_lost() {
             return Err(Failure::NoMemory);
         }
         Ok(())
+    }
+
+    /// Looks what the server holds.
+    fn hold(&mut self, alloc: Global, memory: &mut Memory) -> Result<(), AllocError> {
+        match memory.take_link() {
+            Some(link) => {
+                self.stops = link.stops();
+                self.held.report(alloc, link.server().mailboxes())
+            }
+            None => self.held.report(alloc, &memory.mailboxes),
+        }
     }
 
     fn is_lost(&self) -> bool {
@@ -79,7 +79,7 @@ impl Came {
 fn play_lines(memory: &mut Memory, lines: &str, reported: &mut Reported) -> Result<(), Failure> {
     for line in lines.lines() {
         let mut words = Words::new(line.as_bytes());
-        memory.play(&mut words, reported)?;
+        memory.play_line(&mut words, reported)?;
         words.end()?;
     }
     Ok(())

@@ -31,12 +31,12 @@ struct Unbroken<'a> {
 impl Scene<'_> {
     /// Reports what comes of the call, unbroken and cut.
     pub fn report(self, reported: &mut Reported) -> Result<(), Failure> {
-        let before = replay(self.alloc, self.lines, "", "", None)?;
+        let before = replay(self.alloc, self.lines, "", "", None);
         self.report_after(&before.held, reported)
     }
 
     fn report_after(self, before: &Held, reported: &mut Reported) -> Result<(), Failure> {
-        let whole = replay(self.alloc, self.lines, self.call, "", None)?;
+        let whole = replay(self.alloc, self.lines, self.call, "", None);
         let unbroken = Unbroken {
             before,
             whole: &whole,
@@ -46,19 +46,21 @@ impl Scene<'_> {
 
     /// `Script`: a call of the link stops without a cut.
     fn print_cuts(self, unbroken: Unbroken<'_>, reported: &mut Reported) -> Result<(), Failure> {
-        if unbroken.whole.stops > 0 {
-            return Err(Failure::Script);
+        match unbroken.whole.failure {
+            Some(failure) => return Err(failure),
+            None if unbroken.whole.stops > 0 => return Err(Failure::Script),
+            None => {}
         }
         reported.text(unbroken.whole.last.as_str());
         unbroken.whole.held.print_change(unbroken.before, reported);
-        self.cut_each(unbroken, true)?.report(reported, "sent: ");
-        self.cut_each(unbroken, false)?
+        self.cut_each(unbroken, true).report(reported, "sent: ");
+        self.cut_each(unbroken, false)
             .report(reported, "received: ");
         Ok(())
     }
 
     /// Cuts the call after each byte that is sent or received.
-    fn cut_each(self, unbroken: Unbroken<'_>, is_sent: bool) -> Result<Tally, Failure> {
+    fn cut_each(self, unbroken: Unbroken<'_>, is_sent: bool) -> Tally {
         let mut tally = Tally::new();
         for place in 0..usize::MAX {
             let stop = if is_sent {
@@ -66,46 +68,48 @@ impl Scene<'_> {
             } else {
                 LinkStop::Received(place)
             };
-            if tally.add(place, self.cut_at(unbroken, stop)?) {
+            if tally.add(place, self.cut_at(unbroken, stop)) {
                 break;
             }
         }
-        Ok(tally)
+        tally
     }
 
-    fn cut_at(self, unbroken: Unbroken<'_>, stop: LinkStop) -> Result<Cut, Failure> {
-        let cut = replay(self.alloc, self.lines, self.call, "", Some(stop))?;
+    fn cut_at(self, unbroken: Unbroken<'_>, stop: LinkStop) -> Cut {
+        let cut = replay(self.alloc, self.lines, self.call, "", Some(stop));
         self.judge(unbroken, &cut, stop)
     }
 
-    fn judge(self, unbroken: Unbroken<'_>, cut: &Came, stop: LinkStop) -> Result<Cut, Failure> {
+    fn judge(self, unbroken: Unbroken<'_>, cut: &Came, stop: LinkStop) -> Cut {
         let Unbroken { before, whole } = unbroken;
         let is_changed = !cut.held.is_as(before);
         let stands = cut.held.is_as(&whole.held);
         let is_earlier = cut.earlier.as_str() != whole.earlier.as_str();
         let is_as_whole = cut.last.as_str() == whole.last.as_str();
-        if cut.stops == 0 {
-            Ok(Cut::Following(stands && !is_earlier && is_as_whole))
+        if cut.failure.is_some() {
+            Cut::Lost
+        } else if cut.stops == 0 {
+            Cut::Following(stands && !is_earlier && is_as_whole)
         } else if is_earlier {
-            Ok(Cut::Earlier)
+            Cut::Earlier
         } else if cut.last.as_str() != "  Stopped\n" {
-            Ok(Cut::Wrong("it does not answer Stopped"))
+            Cut::Wrong("it does not answer Stopped")
         } else if is_changed && !stands {
-            Ok(Cut::Wrong("the server holds something else"))
-        } else if !self.is_listed(cut, stop)? {
-            Ok(Cut::Wrong("what is listed then is something else"))
+            Cut::Wrong("the server holds something else")
+        } else if !self.is_listed(cut, stop) {
+            Cut::Wrong("what is listed then is something else")
         } else if is_changed {
-            Ok(Cut::WithEffect)
+            Cut::WithEffect
         } else {
-            Ok(Cut::Without)
+            Cut::Without
         }
     }
 
     /// Whether a client that goes on lists just what stands there, which changes nothing.
-    fn is_listed(self, cut: &Came, stop: LinkStop) -> Result<bool, Failure> {
+    fn is_listed(self, cut: &Came, stop: LinkStop) -> bool {
         let look = cut.held.calls.as_str();
-        let again = replay(self.alloc, self.lines, self.call, look, Some(stop))?;
+        let again = replay(self.alloc, self.lines, self.call, look, Some(stop));
         let answers = again.look.as_str().as_bytes();
-        Ok(again.held.is_as(&cut.held) && answers.ends_with(cut.held.answers.as_str().as_bytes()))
+        again.held.is_as(&cut.held) && answers.ends_with(cut.held.answers.as_str().as_bytes())
     }
 }

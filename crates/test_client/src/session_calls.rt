@@ -3,7 +3,7 @@
 ghost use Rattle.std.specs.Prelude.{◌≡◌, IsTrue};
 ghost use Rattle.imap_client.specs.Requests.{IsWord};
 
-use crate::answers::{print_done, print_name, report_fault};
+use crate::answers::{print_done, print_name, print_not_made, report_fault};
 use imap_client::session::Session;
 use imap_link::link::Link;
 use mailcore::mailbox_name::MailboxName;
@@ -22,10 +22,11 @@ pub fn ask_session<L: Link>(
         "reconnect" => print_done(reported, session.reconnect()),
         "login" => login(session, line, reported),
         "create" => create(session, line, reported),
-        _ => match session.list() {
+        "names" => match session.list() {
             Ok(names) => print_names(reported, &names),
             Err(fault) => report_fault(reported, fault),
         },
+        _ => print_not_made(line, reported),
     }
 }
 

@@ -13,6 +13,8 @@ pub enum Cut {
     Without,
     /// Something is not as it must be; this text says what.
     Wrong(&'static str),
+    /// Memory ran out.
+    Lost,
     /// The call needs no more bytes, and comes to what it does without a cut, or does not.
     Following(bool),
 }
@@ -24,6 +26,7 @@ pub struct Tally {
     without: usize,
     wrong: usize,
     first: Option<(usize, &'static str)>,
+    is_lost: bool,
 }
 
 impl Tally {
@@ -34,21 +37,23 @@ impl Tally {
             without: 0,
             wrong: 0,
             first: None,
+            is_lost: false,
         }
     }
 
-    /// Counts a cut after so many bytes; returns whether it is after the last of them.
+    /// Counts a cut after so many bytes; returns whether it is the last one.
     pub fn add(&mut self, place: usize, cut: Cut) -> bool {
         match cut {
             Cut::Earlier | Cut::Following(true) => {}
             Cut::WithEffect => self.with_effect = self.with_effect.saturating_add(1),
             Cut::Without => self.without = self.without.saturating_add(1),
             Cut::Wrong(wrong) => self.add_wrong(place, wrong),
+            Cut::Lost => self.is_lost = true,
             Cut::Following(false) => {
                 self.add_wrong(place, "it is not cut, and answers something else")
             }
         }
-        matches!(cut, Cut::Following(_))
+        matches!(cut, Cut::Following(_) | Cut::Lost)
     }
 
     fn add_wrong(&mut self, place: usize, wrong: &'static str) {
@@ -60,6 +65,9 @@ impl Tally {
 
     /// Reports what came of the cuts in this direction.
     pub fn report(&self, reported: &mut Reported, direction: &str) {
+        if self.is_lost {
+            reported.lose();
+        }
         let cuts = self.with_effect.saturating_add(self.without);
         reported.begin();
         reported.text(direction);

@@ -2,9 +2,10 @@
 
 ghost use Rattle.std.specs.Prelude.{◌≤◌, length};
 
-use std::alloc::{AllocError, Global};
+use std::alloc::Global;
 use std::mem;
 use test_scripts::failure::Failure;
+use test_scripts::mail::print_lines;
 use test_scripts::reported::Reported;
 use test_scripts::words::Words;
 
@@ -68,41 +69,46 @@ impl Tape {
         *self = Tape::new(self.alloc, usize::MAX);
     }
 
-    /// Takes a line of what goes over the link in the next call; returns whether it is one.
+    /// Takes a line of what goes over the link in the next call; returns whether it is one. `Script`: it is bad.
     pub fn talk(&mut self, word: &str, line: &mut Words<'_>) -> Result<bool, Failure> {
+        let is_talk = self.take(word, line);
+        if is_talk {
+            line.end()?;
+        }
+        Ok(is_talk)
+    }
+
+    /// The same, where it is noted that the line is bad.
+    pub fn take(&mut self, word: &str, line: &mut Words<'_>) -> bool {
         match word {
-            "S:" => self.add(true, line.rest(), b"\r\n")?,
-            "C:" => self.add(false, line.rest(), b"\r\n")?,
-            "says" => self.repeat(true, 1, line)?,
-            "sends" => self.repeat(false, 1, line)?,
-            "repeats" => self.repeat(true, line.number(), line)?,
+            "S:" => self.add(true, line.rest(), b"\r\n"),
+            "C:" => self.add(false, line.rest(), b"\r\n"),
+            "says" => self.repeat(true, 1, line),
+            "sends" => self.repeat(false, 1, line),
+            "repeats" => self.repeat(true, line.number(), line),
             "pieces" => self.piece = line.count().max(1),
             "breaks" => self.sendable = line.count(),
             "unreachable" => self.is_reachable = false,
-            _ => return Ok(false),
+            _ => return false,
         }
-        Ok(true)
+        true
     }
 
-    fn repeat(&mut self, is_said: bool, times: u32, line: &mut Words<'_>) -> Result<(), Failure> {
-        let bytes = line.bytes(self.alloc)?;
+    fn repeat(&mut self, is_said: bool, times: u32, line: &mut Words<'_>) {
+        let bytes = line.said(self.alloc);
         for _ in 0..times {
-            self.add(is_said, &bytes, b"")?;
+            self.add(is_said, &bytes, b"");
         }
-        Ok(())
     }
 
     /// Adds to what the server says, or waits for. What it waits for after what it says begins a turn.
-    fn add(&mut self, is_said: bool, bytes: &[u8], end: &[u8]) -> Result<(), AllocError> {
+    fn add(&mut self, is_said: bool, bytes: &[u8], end: &[u8]) {
         let begins = match self.turns.last() {
             Some(turn) => !is_said && !turn.said.is_empty(),
             None => true,
         };
         if begins {
-            self.turns.push(Turn {
-                awaited: Vec::new(self.alloc),
-                said: Vec::new(self.alloc),
-            })?;
+            self.begin_turn();
         }
         if let Some(turn) = self.turns.last_mut() {
             let text = if is_said {
@@ -110,10 +116,20 @@ impl Tape {
             } else {
                 &mut turn.awaited
             };
-            text.extend_from_slice(bytes)?;
-            text.extend_from_slice(end)?;
+            if text.extend_from_slice(bytes).is_err() || text.extend_from_slice(end).is_err() {
+                self.is_lost = true;
+            }
         }
-        Ok(())
+    }
+
+    fn begin_turn(&mut self) {
+        let turn = Turn {
+            awaited: Vec::new(self.alloc),
+            said: Vec::new(self.alloc),
+        };
+        if self.turns.push(turn).is_err() {
+            self.is_lost = true;
+        }
     }
 
     /// Begins a new connection; what was said on an earlier one is lost. Returns whether the server can be reached.
@@ -178,6 +194,9 @@ impl Tape {
         self.sent.clear();
         self.sendable = usize::MAX;
         self.is_reachable = true;
+        if self.is_lost {
+            reported.lose();
+        }
         mem::replace(&mut self.has_sent, false)
     }
 
@@ -189,21 +208,5 @@ impl Tape {
     /// Whether something did not go over the link since memory ran out.
     pub fn is_lost(&self) -> bool {
         self.is_lost
-    }
-}
-
-/// An answer for each line in these bytes, after these words.
-fn print_lines(reported: &mut Reported, words: &str, bytes: &[u8]) {
-    for line in bytes.split_inclusive(|byte| *byte == b'\n') {
-        reported.begin();
-        reported.text(words);
-        match line.strip_suffix(b"\r\n") {
-            Some(text) => reported.bytes(text),
-            None => {
-                reported.bytes(line);
-                reported.text(" (no CR LF)");
-            }
-        }
-        reported.end();
     }
 }
