@@ -2,6 +2,7 @@ pub mod AdmissionLemmas
 pub mod KeywordLines
 pub mod NamedLemmas
 pub mod TextLemmas
+pub mod ListedLemmas
 pub mod WordLemmas
 pub mod CountedMarks
 pub mod FileTexts

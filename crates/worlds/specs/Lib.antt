@@ -5,5 +5,6 @@ pub mod Trial
 pub mod WorldText
 pub mod Worlds
 pub mod Written
+pub mod ListedWorlds
 pub mod OptionsText
 pub mod PlanLines

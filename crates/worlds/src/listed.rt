@@ -1,11 +1,14 @@
 //! Worlds of whose mailboxes only the listings are kept: all that a plan is made of. So no message takes memory for its bytes.
 
 ghost use Rattle.std.specs.Prelude.{◌≡◌, ◌+◌, ◌<◌, ◌≤◌, ◌++◌, ℕ, List, [], ◌∷◌, IfErr, IfOk, OnOk};
+ghost use Rattle.std.specs.List.{join_with_byte};
 ghost use Rattle.mailcore.specs.Content.{fit};
 ghost use Rattle.mailcore.specs.KeywordNames.{IsWithin};
 ghost use Rattle.worlds.specs.Admission.{item_under};
 ghost use Rattle.worlds.specs.Keywords.{IsHead};
 ghost use Rattle.worlds.specs.Lines.{IsOf, IsUpTo};
+ghost use Rattle.worlds.specs.ListedWorlds.{ListsFiles, ListsMailbox, ListsMailboxes, ListsWorld};
+ghost use Rattle.worlds.specs.WorldText.{message_words};
 ghost use Rattle.texts.specs.Lines.{line_count, line_ends};
 ghost use Rattle.worlds.specs.Worlds.{AreListedNamed};
 
@@ -44,6 +47,7 @@ pub struct ListedWorld {
 
 /// The world that a text gives. Nothing may follow its line `end`.
 pub fn read_listed_world(alloc: Global, text: &[u8]) -> Result<ListedWorld, WorldFault>
+    ensures text { IfOk result (λ w. ListsWorld w text.now) }
     ensures head { IfOk result (λ w. (following : List ℕ) × IsHead w.options.keywords following text.now) }
     ensures far { IfOk result (λ w. AreListedNamed w.options.keywords w.far.items) }
     ensures near { IfOk result (λ w. AreListedNamed w.options.keywords w.near.items) }
@@ -69,6 +73,7 @@ fn read_listings(
     keywords: &Keywords,
     lines: &mut Lines<'_>,
 ) -> Result<(Listing, Listing), WorldFault>
+    ensures text { IfOk result (λ listings. ListsMailboxes lines.old.rest.now lines.new.rest.now listings.0 listings.1) }
     ensures far { IfOk result (λ listings. AreListedNamed keywords.now listings.0.items) }
     ensures near { IfOk result (λ listings. AreListedNamed keywords.now listings.1.items) }
     ensures count { line_count lines.new ≤ line_count lines.old }
@@ -89,6 +94,7 @@ fn read_listing(
     bytes: &mut Vec<u8>,
     lines: &mut Lines<'_>,
 ) -> Result<Listing, WorldFault>
+    ensures text { IfOk result (ListsMailbox side lines.old.rest.now lines.new.rest.now) }
     ensures named { IfOk result (λ listing. AreListedNamed keywords.now listing.items) }
     ensures count { line_count lines.new ≤ line_count lines.old }
     ensures fault { IfErr result (IsUpTo (line_count lines.old + 1)) }
@@ -118,6 +124,8 @@ fn read_item(
     bytes: &mut Vec<u8>,
     line: Line<'_>,
 ) -> Result<Item, WorldFault>
+    ensures words { IfOk result (λ item.
+        line.entry.text.now ≡ join_with_byte 32 (message_words (record { uid = item.uid; flags = item.flags; bytes = bytes.new.items }))) }
     ensures item { IfOk result (λ item. item.fit ≡ fit side bytes.new.items) }
     ensures named { IfOk result (λ item. IsWithin keywords.now item.flags) }
     ensures fault { IfErr result (IsOf line.entry.number) }
@@ -143,6 +151,7 @@ fn admit_waiting(
     bytes: &mut Vec<u8>,
     lines: &mut Lines<'_>,
 ) -> Result<(), WorldFault>
+    ensures text { OnOk result (ListsFiles lines.old.rest.now lines.new.rest.now near.old near.new) }
     ensures named { OnOk result (AreListedNamed keywords.now near.old.items → AreListedNamed keywords.now near.new.items) }
     ensures count { line_count lines.new ≤ line_count lines.old }
     ensures fault { IfErr result (IsUpTo (line_count lines.old + 1)) }
@@ -161,6 +170,7 @@ fn admit_waiting(
 fn admit(near: &mut Listing, flags: Flags, fit: bool) -> Result<(), PushFault>
     ensures last { OnOk result (near.new.items ≡ near.old.items ++ item_under near.old.next flags fit ∷ []) }
     ensures next { OnOk result (near.new.next ≡ near.old.next + 1) }
+    ensures validity { OnOk result (near.new.validity ≡ near.old.validity) }
 {
     let uid = Uid::new(near.next).ok_or(PushFault::OutOfOrder)?;
     near.next = uid.get() + 1;
