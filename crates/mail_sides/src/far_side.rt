@@ -106,15 +106,16 @@ impl<L: Link + Drop> FarSide<L> {
         }
     }
 
-    /// Gives the link back, and the map by which flags have names: where the link has behaved as specified, the server's.
-    pub fn into_parts(self) -> (L, Keywords)
-        ensures link { result.0 ≡ self.far.session.wire.link }
-        ensures keywords { result.1 ≡ self.far.keywords }
-        ensures letters { L.honest result.0 → HasMap result.1 (L.line result.0).end.server }
+    /// Gives the account back, the link, and the map by which flags have names: where the link has behaved as specified, the server's.
+    pub fn into_parts(self) -> (Account, L, Keywords)
+        ensures account { result.0 ≡ self.account }
+        ensures link { result.1 ≡ self.far.session.wire.link }
+        ensures keywords { result.2 ≡ self.far.keywords }
+        ensures letters { L.honest result.1 → HasMap result.2 (L.line result.1).end.server }
     {
-        let FarSide { far, .. } = self;
+        let FarSide { account, far, .. } = self;
         let (session, keywords) = far.into_parts();
-        (session.into_link(), keywords)
+        (account, session.into_link(), keywords)
     }
 
     /// Gives the session back, if its user has logged in and it goes on.

@@ -82,6 +82,13 @@ impl<F: Folder> NearSide<F> {
         self.near.body()
     }
 
+    /// Its UIDVALIDITY where its folder has no meta file.
+    pub fn fresh(&self) -> NonZeroU32
+        ensures { result ≡ self.now.fresh }
+    {
+        self.fresh
+    }
+
     /// Gives the folder back, without taking memory.
     pub fn into_folder(self) -> F
         ensures { result ≡ self.near.folder }

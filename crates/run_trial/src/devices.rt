@@ -203,7 +203,7 @@ impl<L: TrialLink + Drop> Devices<L> {
         ensures shelf { result.shelf ≡ shelf }
         ensures map { result.keywords ≡ far.far.keywords }
     {
-        let (link, keywords) = far.into_parts();
+        let (_, link, keywords) = far.into_parts();
         Devices {
             link,
             folder,
