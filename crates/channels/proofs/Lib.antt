@@ -6,3 +6,4 @@ pub mod CourseLemmas
 pub mod OrderLemmas
 pub mod ChannelLemmas
 pub mod SearchLemmas
+pub mod LendingLemmas

@@ -19,10 +19,7 @@ use Rattle.channels.specs.Asked.{Asked, Done, Ended, FarListed, FoundNew, IsJoin
 use Rattle.channels.specs.declared.verdict.Verdict.{Verdict}
 use Rattle.channels.specs.declared.verdict.Verdict.TheVariants.{Clean}
 use Rattle.channels.specs.Founds.{absent_in}
-
--- how many attempts a run has
-abbrev pub run_attempts : ℕ
-run_attempts = 3
+pub use Rattle.channels.specs.Lendings.{run_attempts}
 
 -- ---- what is asked
 

@@ -15,4 +15,5 @@ pub mod Outcomes
 pub mod Explanations
 pub mod Courses
 pub mod Answered
+pub mod Lendings
 pub mod Causes

@@ -1,11 +1,6 @@
 //! The unfinished run over a mailbox that was lent is given up.
 
 ghost use Rattle.std.specs.Prelude.{◌≡◌};
-ghost use Rattle.rules.specs.declared.state.SyncState.{SyncState as State};
-ghost use Rattle.sync_state.specs.declared.journal.WrittenJournal.{WrittenJournal};
-ghost use Rattle.book.specs.declared.book.Pending.TheVariants.{Planned};
-ghost use Rattle.book.specs.Books.{Holds};
-ghost use Rattle.runner.specs.GivingUp.{GivesUpSo, KeepsBoxes};
 
 use crate::stores::Work;
 use mailcore::keywords::Keywords;
@@ -27,6 +22,7 @@ pub(crate) struct GiveUp<'a> {
 
 impl Work for GiveUp<'_> {
     ghost use Rattle.channels.specs.Asked.{GaveUp};
+    ghost use Rattle.channels.specs.Lendings.{HasGivenUp};
     ghost use Rattle.channels.specs.Outcomes.{outcome_of_giving_up};
 
     ghost options = { λ work. work.options.now };
@@ -35,18 +31,19 @@ impl Work for GiveUp<'_> {
 
     ghost ends = { λ answer. outcome_of_giving_up answer };
 
+    ghost did = { λ _ lent answer. HasGivenUp lent answer };
+
     type Answer = Result<bool, RunFault>;
 
     fn keywords(&self) -> &Keywords {
         &self.options.keywords
     }
 
-    fn over<O: Outside, P: Progress>(self, outside: &mut O, _progress: &P) -> Result<bool, RunFault>
-        requires map { O.keywords outside.old ≡ self.options.now.keywords }
-        ensures boxes { O.honest outside.new → KeepsBoxes O.ours O.alone (O.seen outside.old).device (O.seen outside.new).device }
-        ensures gives_up { O.honest outside.new → (s : State) (w : WrittenJournal) → Holds (O.seen outside.old).device.files s (Planned w)
-            → GivesUpSo O.ours O.alone s w.journal (O.seen outside.old).device (O.seen outside.new).device result }
-    {
+    fn over<O: Outside, P: Progress>(
+        self,
+        outside: &mut O,
+        _progress: &P,
+    ) -> Result<bool, RunFault> {
         outside.reopen();
         give_up(self.alloc, outside)
     }

@@ -1,13 +1,11 @@
 //! One run over a mailbox that was lent.
 
-ghost use Rattle.std.specs.Prelude.{◌≡◌, ◌+◌, Err, IfErr, IfSome, OnOk, Some};
+ghost use Rattle.std.specs.Prelude.{◌≡◌, ◌+◌, Err, IfErr, IfSome, Some};
+ghost use Rattle.outside.specs.GoingOn.{GoesOn};
 ghost use Rattle.outside.specs.Opened.{IsRead, journal_of};
-ghost use Rattle.run_states.specs.Conditions.{IsOver};
 ghost use Rattle.run_states.specs.Openings.{Opening};
-ghost use Rattle.runner.specs.Answers.{Inputs};
-ghost use Rattle.runner.specs.Attempts.{AtOpening, FromOpening, MetStops};
-ghost use Rattle.channels.specs.Asks.{run_attempts};
-ghost use Rattle.channels.specs.Openings.{first_on};
+ghost use Rattle.runner.specs.Attempts.{MetStops};
+ghost use Rattle.channels.specs.Lendings.{HasRun, Reports, lent_by, run_attempts};
 ghost use Rattle.channels.specs.Steps.{NamesItsStep, NamesNext, NamesRefused, logged_in, step_at};
 
 use crate::fault::BoxFailure;
@@ -39,7 +37,8 @@ pub(crate) struct RunOnce<'a, R> {
 
 impl<R: Rng> Work for RunOnce<'_, R> {
     ghost use Rattle.channels.specs.Asked.{Ran};
-    ghost use Rattle.channels.specs.Asks.{run_attempts};
+    ghost use Rattle.channels.specs.Lendings.{HasRun, lent_by, run_attempts};
+    ghost use Rattle.channels.specs.Openings.{first_on};
     ghost use Rattle.channels.specs.Outcomes.{outcome_of_run};
 
     ghost options = { λ run. run.options.now };
@@ -47,6 +46,9 @@ impl<R: Rng> Work for RunOnce<'_, R> {
     ghost asking = { λ run place outcome. Ran place run.options.now run_attempts outcome };
 
     ghost ends = { λ answer. outcome_of_run answer };
+
+    ghost did = { λ run lent answer. HasRun lent (first_on lent.ours lent.alone lent.old.device run.options.now) run.options.now
+        (R.stream run.rng.now) answer };
 
     type Answer = Result<Pass, BoxFailure>;
 
@@ -60,18 +62,17 @@ impl<R: Rng> Work for RunOnce<'_, R> {
         progress: &P,
     ) -> Result<Pass, BoxFailure>
         requires map { O.keywords outside.old ≡ self.options.now.keywords }
-        ensures done { OnOk result (FromOpening (O.honest outside.new)
-            (first_on O.ours O.alone (O.seen outside.old).device self.entry.options.now) self.entry.options.now (R.stream self.entry.rng.now)
-            (O.seen outside.old).device
-            (IsOver (first_on O.ours O.alone (O.seen outside.old).device self.entry.options.now) (O.seen outside.new).device)) }
+        ensures did { O.honest outside.new → HasRun (lent_by O.Outside outside.old outside.new)
+            (first_on O.ours O.alone (O.seen outside.old).device self.entry.options.now) self.entry.options.now
+            (R.stream self.entry.rng.now) result }
         ensures stopped { result ≡ Err (BoxFailure.Run RunFault.Stopped) → MetStops run_attempts (O.seen outside.old) (O.seen outside.new) }
     {
         settle_lent(self.alloc, outside, self.options, self.rng, progress)
     }
 }
 
-/// Makes one run over an outside. From an opening, the run is over where it answers. It is reported as stopped only where each attempt met
-/// a stop.
+/// Makes one run over an outside. From an opening, the run is settled where it answers, and underway still after a fault. It is reported
+/// as stopped only where each attempt met a stop.
 fn settle_lent<O: Outside, R: Rng, P: Progress>(
     alloc: Global,
     outside: &mut O,
@@ -81,8 +82,7 @@ fn settle_lent<O: Outside, R: Rng, P: Progress>(
 ) -> Result<Pass, BoxFailure>
     ghost opening: { Opening O.ours O.alone }
     requires map { O.keywords outside.old ≡ options.now.keywords }
-    ensures done { OnOk result (O.honest outside.new → Inputs opening options.now (R.stream rng.old)
-        → AtOpening opening (O.seen outside.old).device → IsOver opening (O.seen outside.new).device) }
+    ensures did { O.honest outside.new → HasRun (lent_by O.Outside outside.old outside.new) opening options.now (R.stream rng.old) result }
     ensures names { IfErr result (NamesItsStep (journal_of (O.opened outside.new))) }
     ensures refused { IfErr result (NamesRefused (O.seen outside.new).is_broken (O.opened outside.new)) }
     ensures stopped { result ≡ Err (BoxFailure.Run RunFault.Stopped) → MetStops run_attempts (O.seen outside.old) (O.seen outside.new) }
@@ -105,6 +105,9 @@ fn settle_lent<O: Outside, R: Rng, P: Progress>(
 fn at_step<O: Outside>(outside: &mut O, fault: RunFault) -> BoxFailure
     ensures stopped { result ≡ BoxFailure.Run RunFault.Stopped → fault ≡ RunFault.Stopped }
     ensures names { NamesNext (journal_of (O.opened outside.new)) fault result }
+    ensures reports { Reports result fault }
+    ensures was_honest { O.honest outside.new → O.honest outside.old }
+    ensures goes_on { O.honest outside.new → GoesOn (O.seen outside.old).device (O.seen outside.new).device }
 {
     match next_step(outside) {
         Some((number, step)) => BoxFailure::AtStep(fault, number, step),
@@ -113,9 +116,12 @@ fn at_step<O: Outside>(outside: &mut O, fault: RunFault) -> BoxFailure
 }
 
 /// The first step that is not logged of the plan that is pending: its number, counted from 1, and the step.
+#[tactic(auto, using(crate::proofs::LendingLemmas::goes_on_again))]
 fn next_step<O: Outside>(outside: &mut O) -> Option<(usize, Step)>
     ensures step { IfSome result (λ next. step_at next.0 (journal_of (O.opened outside.new)) ≡ Some next.1) }
     ensures first { IfSome result (λ next. next.0 ≡ logged_in (journal_of (O.opened outside.new)) + 1) }
+    ensures was_honest { O.honest outside.new → O.honest outside.old }
+    ensures goes_on { O.honest outside.new → GoesOn (O.seen outside.old).device (O.seen outside.new).device }
 {
     outside.reopen();
     outside.open_book().ok()?;
@@ -126,9 +132,12 @@ fn next_step<O: Outside>(outside: &mut O) -> Option<(usize, Step)>
 }
 
 /// The step of this number, counted from 1, of the plan that is pending, if the book can be read.
+#[tactic(auto, using(crate::proofs::LendingLemmas::goes_on_again))]
 fn step_of<O: Outside>(outside: &mut O, number: usize) -> Option<Step>
     ensures step { IfSome result (λ step. step_at number (journal_of (O.opened outside.new)) ≡ Some step) }
     ensures refused { NamesRefused (O.seen outside.new).is_broken (O.opened outside.new) (BoxFailure.Refused number result) }
+    ensures was_honest { O.honest outside.new → O.honest outside.old }
+    ensures goes_on { O.honest outside.new → GoesOn (O.seen outside.old).device (O.seen outside.new).device }
 {
     outside.reopen();
     match outside.open_book() {

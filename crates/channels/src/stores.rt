@@ -6,6 +6,7 @@ ghost use Rattle.channels.specs.Boxes.{Rises};
 ghost use Rattle.rules.specs.declared.options.Options.{Options};
 ghost use Rattle.channels.specs.Answered.{Answered, CauseAnswered, PathsAnswered, with_answer};
 ghost use Rattle.channels.specs.Asked.{Asked, Ended, FarListed, FoundNew, Made, NearListed, Outcome, Place, names_of, outcome_by, outcome_of_making, outcome_of_state, place_of};
+ghost use Rattle.channels.specs.Lendings.{Lent, lent_by};
 
 use crate::channel_box::{ChannelBox, ChannelStores};
 use crate::notice::Notice;
@@ -79,13 +80,17 @@ pub trait Work {
     /// How it ended.
     ghost ends: { Self.Answer → Outcome };
 
+    /// What it does to a mailbox that is lent, where server, folder and shelf have behaved as specified, and what it comes to.
+    ghost did: { Self → Lent → Self.Answer → Type 0 };
+
     /// The map by which keywords have a letter in it.
     fn keywords(&self) -> &Keywords
         ensures { result.now ≡ (options self.now).keywords };
 
     /// Does it, over both sides of the mailbox and its state, and reports how far it is. Both sides go by its map of keywords.
     fn over<O: Outside, P: Progress>(self, outside: &mut O, progress: &P) -> Self::Answer
-        requires map { O.keywords outside.old ≡ (options self).keywords };
+        requires map { O.keywords outside.old ≡ (options self).keywords }
+        ensures did { O.honest outside.new → did self (lent_by O.Outside outside.old outside.new) result };
 }
 
 /// Stores whose mailboxes can be synchronised.

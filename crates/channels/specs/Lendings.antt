@@ -1,0 +1,93 @@
+-- What is done over a mailbox that was lent.
+use Rattle.std.specs.Prelude.{◌≡◌, ◌⊎◌, ℕ, Bool, List, Option, Result, Ok, Err}
+use Rattle.rand_core.specs.Stream.{Stream}
+use Rattle.rules.specs.declared.options.Options.{Options}
+use Rattle.rules.specs.declared.state.SyncState.{SyncState}
+use Rattle.sync_state.specs.declared.journal.WrittenJournal.{WrittenJournal}
+use Rattle.book.specs.declared.book.Pending.TheVariants.{Planned}
+use Rattle.book.specs.Books.{Holds}
+use Rattle.outside.specs.declared.outside.Outside.{Ghosts}
+use Rattle.outside.specs.Calls.{Seen}
+use Rattle.outside.specs.GoingOn.{GoesOn}
+use Rattle.outside.specs.Opened.{Opened}
+use Rattle.run_states.specs.Openings.{Opening}
+use Rattle.runner.specs.declared.fault.RunFault.{RunFault}
+use Rattle.runner.specs.declared.fault.RunFault.TheVariants as fault
+use Rattle.runner.specs.declared.pass.Pass.{Pass}
+use Rattle.runner.specs.declared.pass.Settled.{Settled}
+use Rattle.runner.specs.Answers.{Inputs}
+use Rattle.runner.specs.Attempts.{AtOpening}
+use Rattle.runner.specs.GivingUp.{GivesUpSo, KeepsBoxes}
+use Rattle.runner.specs.Settled.{CountsFailed, IsSettled, IsUnsettled}
+use Rattle.channels.specs.declared.fault.BoxFailure.{BoxFailure}
+use Rattle.channels.specs.declared.fault.BoxFailure.TheVariants.{AtStep, Refused, Run}
+
+-- A mailbox that was lent: which marks nobody else writes, whether nobody else adds messages, how its outside was seen when it was lent
+-- and when it was given back, and what was read of its shelf by then.
+pub record Lent : Type 0 where
+  pub ours : List ℕ → Bool
+  pub alone : Bool
+  pub old : Seen
+  pub new : Seen
+  pub opened : Option Opened
+
+-- an outside that was lent, and how it was given back
+abbrev pub lent_by : {O : Type 0} → Ghosts O → (old new : O) → Lent
+lent_by o old new = record { ours = o.ours; alone = o.alone; old = o.seen old; new = o.seen new; opened = o.opened new }
+
+-- how many attempts a run has
+abbrev pub run_attempts : ℕ
+run_attempts = 3
+
+-- ---- of a run
+
+-- It succeeded with this answer. So from the opening it is settled: it is over, and both mailboxes and the state are what the rules
+-- prescribe for it.
+pub record IsRunSettled (lent : Lent) (opening : Opening lent.ours lent.alone) (options : Options) (stream : Stream) (pass : Pass) : Type 0 where
+  pub settled : Settled
+  pub answered : settled.last ≡ pass
+  pub is : IsSettled opening lent.opened options stream settled lent.old lent.new
+
+-- the fault is reported as it is, and beside it may stand the step that it is of
+abbrev pub Reports : BoxFailure → RunFault → Type 0
+Reports (Run reported) why = reported ≡ why
+Reports (AtStep reported number step) why = reported ≡ why
+Reports (Refused number step) why = why ≡ fault.Refused number
+Reports _ why = ⊥
+
+-- It failed, and this is reported. So from the opening it is underway still, after up to three attempts. Then its book may have been read
+-- once more, to name a step.
+pub record IsRunUnsettled (lent : Lent) (opening : Opening lent.ours lent.alone) (stream : Stream) (failure : BoxFailure) : Type 0 where
+  pub why : RunFault
+  pub reported : Reports failure why
+  pub left : Seen
+  pub unsettled : IsUnsettled opening run_attempts stream why lent.old left
+  pub counts : CountsFailed run_attempts why lent.old left
+  pub after : (lent.new.device ≡ left.device) ⊎ GoesOn left.device lent.new.device
+
+abbrev pub EndsRun : (lent : Lent) → Opening lent.ours lent.alone → Options → Stream → Result Pass BoxFailure → Type 0
+EndsRun lent opening options stream (Ok pass) = IsRunSettled lent opening options stream pass
+EndsRun lent opening options stream (Err failure) = IsRunUnsettled lent opening stream failure
+
+-- A run under these options was made over it. It is said for an opening at which the mailbox stood when it was lent, and for marks that
+-- nobody else writes.
+abbrev pub HasRun : (lent : Lent) → Opening lent.ours lent.alone → Options → Stream → Result Pass BoxFailure → Type 0
+HasRun lent opening options stream result =
+    Inputs opening options stream → AtOpening opening lent.old.device → EndsRun lent opening options stream result
+
+-- ---- of giving up
+
+-- The run over it was given up, if it was unfinished: both mailboxes are as they were, and the files hold what is left of its plan.
+pub record HasGivenUp (lent : Lent) (result : Result Bool RunFault) : Type 0 where
+  pub boxes : KeepsBoxes lent.ours lent.alone lent.old.device lent.new.device
+  pub gives_up : (s : SyncState) (w : WrittenJournal) → Holds lent.old.device.files s (Planned w)
+      → GivesUpSo lent.ours lent.alone s w.journal lent.old.device lent.new.device result
+
+-- ---- of an outside
+
+-- Over some outside, as it was when it was lent and when it was given back, so much was done, with this answer, if server, folder and shelf
+-- have behaved as specified.
+pub record Works {O A : Type 0} (o : Ghosts O) (does : Lent → A → Type 0) (answer : A) : Type 0 where
+  pub before : O
+  pub after : O
+  pub did : o.honest after → does (lent_by o before after) answer
