@@ -7,7 +7,7 @@ use Rattle.texts.specs.Cut.{Sides, cut_first}
 use Rattle.maildir.specs.declared.folder.FileName.{FileName}
 use Rattle.maildir.specs.declared.folder.Place.{Place}
 use Rattle.maildir.specs.declared.folder.Place.TheVariants.{Cur, New}
-use Rattle.maildir.specs.declared.standing.Reading.{Reading}
+use Rattle.maildir.specs.declared.standing.NameReading.{NameReading}
 use Rattle.maildir.specs.declared.standing.Stale.{Stale}
 use Rattle.maildir.specs.declared.standing.Stale.TheVariants.{There, Unmarked}
 use Rattle.maildir.specs.Names.{COLON, uid_in, uid_of}
@@ -98,9 +98,9 @@ pub record HasMet (sought : List ℕ) (files : List FileName) (met met_now : Lis
   pub odd_names : odds_now ≡ odds ++ filter_map (odd sought) files
 
 -- `new` was read and then `cur`, both readings were noted, and this is what the names show
-pub record HasLooked (gone marked : List ℕ) (found : Option Stale) (old now : List Reading) : Type 0 where
-  pub fresh : Reading
-  pub current : Reading
+pub record HasLooked (gone marked : List ℕ) (found : Option Stale) (old now : List NameReading) : Type 0 where
+  pub fresh : NameReading
+  pub current : NameReading
   pub places : (fresh.place ≡ New) × (current.place ≡ Cur)
   pub noted : now ≡ current ∷ (fresh ∷ old)
   pub finds : found ≡ first_stale gone marked (files_in New fresh.names.items ++ files_in Cur current.names.items)

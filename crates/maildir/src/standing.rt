@@ -42,7 +42,7 @@ pub enum Stale {
 
 /// The names that stood in `new` or `cur` when they were read.
 #[derive(Drop)]
-pub struct Reading {
+pub struct NameReading {
     /// In which of the two.
     pub place: Place,
     /// The names, whatever bears them.
@@ -54,7 +54,7 @@ pub struct Reading {
 pub fn first_stale<R: Files + AllocGlobal>(
     rt: &R,
     folder: &str,
-    readings: &mut History<Reading>,
+    readings: &mut History<NameReading>,
     sought: Sought<'_>,
 ) -> io::Result<Option<Stale>>
     ensures { IfOk result (λ found. HasLooked sought.entry.gone.now sought.entry.marked.now found readings.old.items readings.new.items) }
@@ -70,19 +70,19 @@ fn read_names<R: Files + AllocGlobal>(
     rt: &R,
     folder: &str,
     place: Place,
-    readings: &mut History<Reading>,
+    readings: &mut History<NameReading>,
 ) -> io::Result<Vec<Octets>>
     ensures ok { IfOk result (λ names. readings.new.items ≡ record { place = place; names = names } ∷ readings.old.items) }
     ensures err { OnErr result (readings.new.items ≡ readings.old.items) }
 {
     let part = place.folder();
     let path = format!(in rt.alloc(); "{folder}/{part}/")?;
-    let reading = Reading {
+    let reading = NameReading {
         place,
         names: entries_in(rt, path.as_str())?,
     };
     *readings = readings.and(&reading);
-    let Reading { names, .. } = reading;
+    let NameReading { names, .. } = reading;
     Ok(names)
 }
 
