@@ -12,3 +12,5 @@ pub mod Utf16Back
 pub mod RunsBack
 pub mod NamesBack
 pub mod ChunkLemmas
+pub mod Cutting
+pub mod Passing
