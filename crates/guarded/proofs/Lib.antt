@@ -1,9 +1,12 @@
 mod Again
 mod Arrivals
+mod Asking
 mod Following
 mod Dropped
 mod Fails
 mod LookedUp
+mod Looking
 pub mod PlanReads
 mod Rests
+mod Rising
 mod Stops

@@ -1,5 +1,6 @@
 pub mod Dues
 pub mod Given
 pub mod Listed
+pub mod Questions
 pub mod Removals
 pub mod Watches

@@ -1,8 +1,11 @@
 -- What is watched of a plan that is pending, and when a look finds nothing.
-use Rattle.std.specs.Prelude.{◌≡◌, Bool, true, false, not, ◌&&◌, List, [], ◌∷◌, length, Option, None, Some, Result, Ok, Err, map, filter, ℕ}
+use Rattle.std.specs.Prelude.{◌⊎◌, ◌≡◌, Bool, true, false, not, ◌&&◌, List, [], ◌∷◌, length, Option, None, Some, is_none, Result, Ok, Err, map, filter, ℕ}
 use Rattle.mailcore.specs.declared.side.Side.TheVariants.{Near}
+use Rattle.maildir.specs.declared.standing.NameReading.{NameReading}
 use Rattle.maildir.specs.declared.standing.Stale.{Stale}
 use Rattle.maildir.specs.declared.standing.Stale.TheVariants.{There, Unmarked}
+use Rattle.std.specs.Option.{option_map}
+use Rattle.maildir.specs.Standings.{HasLooked}
 use Rattle.sync_state.specs.declared.journal.Journal.{Journal}
 use Rattle.guarded.specs.declared.guard.Change.{Change}
 use Rattle.guarded.specs.declared.guard.Change.TheVariants.{Expunge}
@@ -10,7 +13,12 @@ use Rattle.guarded.specs.declared.near_look.Watch.{Watch}
 use Rattle.guarded.specs.declared.due.Due.{Due}
 use Rattle.guarded.specs.declared.objection.Objection.{Objection}
 use Rattle.guarded.specs.declared.objection.Objection.TheVariants.{Kept, Standing}
+use Rattle.rules.specs.declared.plan.Plan.{Plan}
+use Rattle.guarded.specs.declared.given.FarGiven.{FarGiven}
 use Rattle.guarded.specs.Dues.{is_due}
+use Rattle.guarded.specs.Given.{is_again}
+use Rattle.guarded.specs.Listed.{still_listed}
+use Rattle.guarded.specs.Questions.{MayBegin, MayChange, MayOpen, MayRemove, Question}
 use Rattle.guarded.specs.declared.removals.Removals.{Removals}
 use Rattle.guarded.specs.Removals.{AreRemovals}
 
@@ -46,3 +54,46 @@ uids_due logged dues = map (λ due. due.uid) (filter (is_due logged) dues)
 abbrev pub objection_to : Stale → Objection
 objection_to (There uid file) = Standing uid file
 objection_to (Unmarked uid file) = Kept uid file
+
+-- ---- looks
+
+-- the names in `new` and `cur` were read once more, and this is what they show
+pub record HasFound (gone marked : List ℕ) (found : Option Objection) (old now : List NameReading) : Type 0 where
+  pub stale : Option Stale
+  pub looked : HasLooked gone marked stale old now
+  pub objection : found ≡ option_map objection_to stale
+
+-- what a look finds for these messages: nothing, if there is none, and then it reads nothing
+abbrev pub FindsOf : (gone marked : List ℕ) → Option Objection → List NameReading → List NameReading → Type 0
+FindsOf [] [] found old now = (found ≡ None) × (now ≡ old)
+FindsOf [] (uid ∷ marked) found old now = HasFound [] (uid ∷ marked) found old now
+FindsOf (uid ∷ gone) marked found old now = HasFound (uid ∷ gone) marked found old now
+
+-- what it finds for those that are due
+abbrev pub Finds : Watch → Option Objection → List NameReading → List NameReading → Type 0
+Finds watch found old now = FindsOf (uids_due watch.logged watch.removals.gone) (uids_due watch.logged watch.removals.marked) found old now
+
+-- ---- questions
+
+-- what is known, what is watched, whether the run is to go on, and what was read
+pub record Sight : Type 0 where
+  pub given : FarGiven
+  pub watch : Watch
+  pub goes_on : Bool
+  pub readings : List NameReading
+
+abbrev pub sight : FarGiven → Watch → Bool → List NameReading → Sight
+sight given watch goes_on readings = record { given = given; watch = watch; goes_on = goes_on; readings = readings }
+
+-- this plan is watched from its first step on
+abbrev pub IsWatchOf : Plan → Watch → Type 0
+IsWatchOf plan watch = AreRemovals plan.steps plan.notes watch.removals × (watch.logged ≡ 0)
+
+-- A mailbox is refused exactly if it is to give UIDs again, and removals exactly if a message that was expunged is listed. A plan or a call
+-- is let on only after a look that found nothing: the one that was made now, or for a call the last one of this plan.
+abbrev pub Answers : Question → Sight → Sight → Type 0
+Answers (MayOpen validity next) old new = new.goes_on ≡ (old.goes_on && is_none (is_again old.given validity next))
+Answers (MayBegin plan) old new = new.goes_on ≡ true → IsWatchOf plan new.watch × Finds new.watch None old.readings new.readings
+Answers (MayChange change uid) old new =
+    new.goes_on ≡ true → (old.goes_on ≡ true) × (Finds new.watch None old.readings new.readings ⊎ ((old.watch.is_clear ≡ true) × (new.readings ≡ old.readings)))
+Answers (MayRemove far) old new = new.goes_on ≡ (old.goes_on && is_none (still_listed old.watch.removals.expunged old.watch.logged far))

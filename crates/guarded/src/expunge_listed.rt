@@ -8,8 +8,10 @@ ghost use Rattle.outside.specs.Arrivals.{Arrives};
 ghost use Rattle.outside.specs.BoxCalls.{Names, Turns};
 ghost use Rattle.outside.specs.Calls.{Changes};
 ghost use Rattle.outside.specs.Opened.{IsOpen};
+ghost use Rattle.guarded.specs.Questions.{HasListed};
 
 use crate::guard::Guard;
+use crate::stop_refused::stop_refused;
 use mailcore::side::Side;
 use mailcore::uid::Uid;
 use outside::fault::OutsideFault;
@@ -26,6 +28,7 @@ pub(crate) fn expunge_listed<O: Outside, G: Guard>(
     requires far_open { IsOpen Far (O.opened outside.old) }
     requires is_open { IsOpen side (O.opened outside.old) }
     ensures let_on { OnOk result (G.goes_on guard.new ≡ true) }
+    ensures listed { OnOk result (HasListed G.asked guard.old guard.new) }
     ensures was_honest { O.honest outside.new → O.honest outside.old }
     ensures keywords { O.keywords outside.new ≡ O.keywords outside.old }
     ensures opened { O.opened outside.new ≡ O.opened outside.old }
@@ -36,6 +39,6 @@ pub(crate) fn expunge_listed<O: Outside, G: Guard>(
     if guard.may_remove(&listing) {
         outside.expunge(side, uid)
     } else {
-        Err(outside.stop())
+        Err(stop_refused(outside, guard))
     }
 }

@@ -1,11 +1,12 @@
 //! An outside whose calls stop where a guard says that the run is not to go on.
 
-ghost use Rattle.std.specs.Prelude.{◌≡◌};
+ghost use Rattle.std.specs.Prelude.{◌≡◌, false};
 
 use crate::begin_if::begin_if;
 use crate::expunge_listed::expunge_listed;
 use crate::guard::{Change, Guard};
 use crate::still_listed::is_listed;
+use crate::stop_refused::stop_refused;
 use book::lost_sides::LostSides;
 use mailcore::flags::Flags;
 use mailcore::listing::Listing;
@@ -64,7 +65,8 @@ impl<O: Outside, G: Guard> GuardedOutside<O, G> {
 impl<O: Outside + FarNext, G: Guard> GuardedOutside<O, G> {
     /// Whether the mailbox of this side, which was opened and has this UIDVALIDITY, may be worked on.
     fn may_open(&mut self, side: Side, validity: u32) -> bool
-        ensures { self.new.outside ≡ self.old.outside }
+        ensures outside { self.new.outside ≡ self.old.outside }
+        ensures refused { result ≡ false → G.goes_on self.new.guard ≡ false }
     {
         match (side, self.outside.far_next()) {
             (Side::Far, Some(next)) => self.guard.may_open(validity, next),
@@ -88,17 +90,20 @@ fn note_logged<G: Guard>(
 }
 
 impl<O: Outside + FarNext, G: Guard> Outside for GuardedOutside<O, G> {
-    ghost use Rattle.std.specs.Prelude.{true, false, OnOk};
+    ghost use Rattle.std.specs.Prelude.{true, OnOk};
     ghost use Rattle.mailcore.specs.KeywordNames.{kept};
-    ghost use Rattle.mailcore.specs.Operations.{flags_added};
+    ghost use Rattle.mailcore.specs.Operations.{flags_added, flags_removed};
+    ghost use Rattle.mailcore.specs.Sides.{target};
     ghost use Rattle.book.specs.declared.book.Pending.TheVariants.{Missing, Useless};
     ghost use Rattle.book.specs.Books.{Turns, TurnsHalf};
     ghost use Rattle.book.specs.BookLogs.{begun};
     ghost use Rattle.outside.specs.Arrivals.{Arrives};
     ghost use Rattle.outside.specs.BookCalls.{OfBook};
-    ghost use Rattle.outside.specs.BoxCalls.{Names, Turns as TurnsBox};
-    ghost use Rattle.outside.specs.Calls.{Changes, FromBook, Writes, stopped};
+    ghost use Rattle.outside.specs.BoxCalls.{Carry, Names, SetsAside, Turns as TurnsBox, copies_made};
+    ghost use Rattle.outside.specs.Calls.{Call, Changes, FromBook, FromBox, LeavesBy, Writes, stopped};
+    ghost use Rattle.outside.specs.MailboxOperations.{removed};
     ghost use Rattle.outside.specs.Opened.{IsOpen, TakesPlan, turned};
+    ghost use Rattle.guarded.specs.Questions.{AsksFirst, AsksToRemove, MayBegin, MayChange};
 
     ghost honest = { λ guarded. O.honest guarded.outside };
 
@@ -138,6 +143,7 @@ impl<O: Outside + FarNext, G: Guard> Outside for GuardedOutside<O, G> {
 
     fn begin(&mut self, plan: Plan) -> Result<(), OutsideFault>
         requires takes { TakesPlan (O.opened self.old.outside) plan }
+        ensures asked { G.asked (MayBegin plan) self.old.guard self.new.guard }
         ensures refused { G.goes_on self.new.guard ≡ false → O.seen self.new.outside ≡ stopped (O.seen self.old.outside) }
         ensures was_honest { O.honest self.new.outside → O.honest self.old.outside }
         ensures keywords { O.keywords self.new.outside ≡ O.keywords self.old.outside }
@@ -175,7 +181,7 @@ impl<O: Outside + FarNext, G: Guard> Outside for GuardedOutside<O, G> {
     fn open_box(&mut self, side: Side) -> Result<u32, OutsideFault> {
         let validity = self.outside.open_box(side)?;
         if !self.may_open(side, validity) {
-            return Err(self.outside.stop());
+            return Err(stop_refused(&mut self.outside, &self.guard));
         }
         Ok(validity)
     }
@@ -216,9 +222,22 @@ impl<O: Outside + FarNext, G: Guard> Outside for GuardedOutside<O, G> {
         uid: Uid,
         mark: Tuid,
         flags: Flags,
-    ) -> Result<Carried, OutsideFault> {
+    ) -> Result<Carried, OutsideFault>
+        requires far_open { IsOpen Side.Far (O.opened self.old.outside) }
+        requires near_open { IsOpen Side.Near (O.opened self.old.outside) }
+        ensures asked { AsksFirst G.asked G.goes_on (MayChange Change.Copy uid) self.old.guard self.new.guard (O.seen self.old.outside)
+            (O.seen self.new.outside) }
+        ensures let_on { OnOk result (G.goes_on self.new.guard ≡ true) }
+        ensures was_honest { O.honest self.new.outside → O.honest self.old.outside }
+        ensures keywords { O.keywords self.new.outside ≡ O.keywords self.old.outside }
+        ensures opened { O.opened self.new.outside ≡ O.opened self.old.outside }
+        ensures call { Call (O.honest self.new.outside) (Arrives O.ours O.alone) copies_made FromBox
+            (Carry direction uid (kept (O.keywords self.old.outside) flags) mark)
+            (LeavesBy (Carry direction uid (kept (O.keywords self.old.outside) flags) mark) (SetsAside (target direction)))
+            (O.seen self.old.outside) (O.seen self.new.outside) result }
+    {
         if !self.guard.may_change(Change::Copy, uid) {
-            return Err(self.outside.stop());
+            return Err(stop_refused(&mut self.outside, &self.guard));
         }
         match (self.outside.carry(direction, uid, mark, flags)?, direction) {
             (Carried::Absent, Direction::Pull) if !self.is_gone(uid) => {}
@@ -228,7 +247,7 @@ impl<O: Outside + FarNext, G: Guard> Outside for GuardedOutside<O, G> {
         let carried = self.outside.carry(direction, uid, mark, flags)?;
         if carried == Carried::Absent && is_listed(&listing, uid) {
             self.guard.withheld(uid);
-            return Err(self.outside.stop());
+            return Err(stop_refused(&mut self.outside, &self.guard));
         }
         self.listed = Some(listing);
         Ok(carried)
@@ -236,7 +255,9 @@ impl<O: Outside + FarNext, G: Guard> Outside for GuardedOutside<O, G> {
 
     fn add_flags(&mut self, side: Side, uid: Uid, flags: Flags) -> Result<(), OutsideFault>
         requires is_open { IsOpen side (O.opened self.old.outside) }
+        ensures asked { G.asked (MayChange (Change.AddFlags side) uid) self.old.guard self.new.guard }
         ensures let_on { OnOk result (G.goes_on self.new.guard ≡ true) }
+        ensures refused { G.goes_on self.new.guard ≡ false → O.seen self.new.outside ≡ stopped (O.seen self.old.outside) }
         ensures was_honest { O.honest self.new.outside → O.honest self.old.outside }
         ensures keywords { O.keywords self.new.outside ≡ O.keywords self.old.outside }
         ensures opened { O.opened self.new.outside ≡ O.opened self.old.outside }
@@ -245,21 +266,43 @@ impl<O: Outside + FarNext, G: Guard> Outside for GuardedOutside<O, G> {
             (O.seen self.old.outside) (O.seen self.new.outside) result }
     {
         if !self.guard.may_change(Change::AddFlags(side), uid) {
-            return Err(self.outside.stop());
+            return Err(stop_refused(&mut self.outside, &self.guard));
         }
         self.outside.add_flags(side, uid, flags)
     }
 
-    fn remove_flags(&mut self, side: Side, uid: Uid, flags: Flags) -> Result<(), OutsideFault> {
+    fn remove_flags(&mut self, side: Side, uid: Uid, flags: Flags) -> Result<(), OutsideFault>
+        requires is_open { IsOpen side (O.opened self.old.outside) }
+        ensures asked { G.asked (MayChange (Change.RemoveFlags side) uid) self.old.guard self.new.guard }
+        ensures let_on { OnOk result (G.goes_on self.new.guard ≡ true) }
+        ensures refused { G.goes_on self.new.guard ≡ false → O.seen self.new.outside ≡ stopped (O.seen self.old.outside) }
+        ensures was_honest { O.honest self.new.outside → O.honest self.old.outside }
+        ensures keywords { O.keywords self.new.outside ≡ O.keywords self.old.outside }
+        ensures opened { O.opened self.new.outside ≡ O.opened self.old.outside }
+        ensures call { Changes {T = Unit {0}} (O.honest self.new.outside) (Arrives O.ours O.alone)
+            (λ _. TurnsBox side uid (flags_removed uid (kept (O.keywords self.old.outside) flags))) (Names side uid)
+            (O.seen self.old.outside) (O.seen self.new.outside) result }
+    {
         if !self.guard.may_change(Change::RemoveFlags(side), uid) {
-            return Err(self.outside.stop());
+            return Err(stop_refused(&mut self.outside, &self.guard));
         }
         self.outside.remove_flags(side, uid, flags)
     }
 
-    fn expunge(&mut self, side: Side, uid: Uid) -> Result<(), OutsideFault> {
+    fn expunge(&mut self, side: Side, uid: Uid) -> Result<(), OutsideFault>
+        requires far_open { IsOpen Side.Far (O.opened self.old.outside) }
+        requires is_open { IsOpen side (O.opened self.old.outside) }
+        ensures asked { AsksToRemove G.asked G.goes_on (λ guard. G.lists guard (Change.Expunge side)) (MayChange (Change.Expunge side) uid)
+            self.old.guard self.new.guard (O.seen self.old.outside) (O.seen self.new.outside) result }
+        ensures let_on { OnOk result (G.goes_on self.new.guard ≡ true) }
+        ensures was_honest { O.honest self.new.outside → O.honest self.old.outside }
+        ensures keywords { O.keywords self.new.outside ≡ O.keywords self.old.outside }
+        ensures opened { O.opened self.new.outside ≡ O.opened self.old.outside }
+        ensures call { Changes {T = Unit {0}} (O.honest self.new.outside) (Arrives O.ours O.alone) (λ _. TurnsBox side uid (removed uid))
+            (Names side uid) (O.seen self.old.outside) (O.seen self.new.outside) result }
+    {
         if !self.guard.may_change(Change::Expunge(side), uid) {
-            return Err(self.outside.stop());
+            return Err(stop_refused(&mut self.outside, &self.guard));
         }
         if self.guard.asks_far(Change::Expunge(side)) {
             return expunge_listed(&mut self.outside, &mut self.guard, side, uid);

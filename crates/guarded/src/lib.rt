@@ -14,3 +14,4 @@ pub mod objection;
 mod removals;
 mod sorted;
 mod still_listed;
+mod stop_refused;

@@ -2,7 +2,8 @@
 //! and the far mailbox may not give UIDs a second time.
 
 ghost use Rattle.std.specs.Prelude.{◌≡◌, ◌&&◌, true, false, IfOk, IsErr, IsOk};
-ghost use Rattle.guarded.specs.Watches.{finds_nothing, objection_to, uids_due};
+ghost use Rattle.std.specs.List.Sorted.{IsNonDecreasingBy};
+ghost use Rattle.guarded.specs.Watches.{Finds, finds_nothing, objection_to, uids_due};
 
 use crate::due::due_of;
 use crate::given::FarGiven;
@@ -10,11 +11,12 @@ use crate::guard::{Change, Guard};
 use crate::objection::Objection;
 use crate::removals::Removals;
 use crate::still_listed::still_listed;
+use device::history::History;
 use device::trouble::Trouble;
 use mailcore::listing::Listing;
 use mailcore::side::Side;
 use mailcore::uid::Uid;
-use maildir::standing::{Sought, Stale, first_stale};
+use maildir::standing::{NameReading, Sought, Stale, first_stale};
 use rules::plan::Plan;
 use rules::state::SyncState;
 use std::alloc::{AllocError, Global};
@@ -55,14 +57,16 @@ impl Watch {
 
     /// The near messages that the steps which are left take to be removed.
     fn gone_now(&self, alloc: Global) -> Result<Vec<Uid>, AllocError>
-        ensures { IfOk result (λ uids. uids.items ≡ uids_due self.now.logged self.now.removals.gone) }
+        ensures due { IfOk result (λ uids. uids.items ≡ uids_due self.now.logged self.now.removals.gone) }
+        ensures rises { IsNonDecreasingBy (λ due. due.uid) self.now.removals.gone }
     {
         due_of(alloc, self.removals.gone.as_slice(), self.logged)
     }
 
     /// The near messages that the steps which are left take to be marked as deleted.
     fn marked_now(&self, alloc: Global) -> Result<Vec<Uid>, AllocError>
-        ensures { IfOk result (λ uids. uids.items ≡ uids_due self.now.logged self.now.removals.marked) }
+        ensures due { IfOk result (λ uids. uids.items ≡ uids_due self.now.logged self.now.removals.marked) }
+        ensures rises { IsNonDecreasingBy (λ due. due.uid) self.now.removals.marked }
     {
         due_of(alloc, self.removals.marked.as_slice(), self.logged)
     }
@@ -81,6 +85,8 @@ pub struct NearLook<R: Files + AllocGlobal + Clone + Drop> {
     watch: Watch,
     /// When the last look was made before a message was marked or removed.
     looked_at: Option<SystemTime>,
+    /// The names that were read in the folder.
+    readings: History<NameReading>,
     /// What was found first since all was opened.
     objection: Cell<Option<Objection>>,
     /// Whether nothing was.
@@ -99,6 +105,7 @@ impl<R: Files + AllocGlobal + Clone + Drop> NearLook<R> {
             given: FarGiven::nothing(),
             watch,
             looked_at: None,
+            readings: History::new(),
             objection: Cell::new(None),
             goes_on: true,
         }
@@ -114,6 +121,7 @@ impl<R: Files + AllocGlobal + Clone + Drop> NearLook<R> {
         ensures goes_on { self.new.goes_on ≡ false }
         ensures given { self.new.given ≡ self.old.given }
         ensures watch { self.new.watch ≡ self.old.watch }
+        ensures readings { self.new.readings ≡ self.old.readings }
     {
         let noted = self.objection.take();
         self.objection.set(Some(noted.unwrap_or(objection)));
@@ -126,6 +134,7 @@ impl<R: Files + AllocGlobal + Clone + Drop> NearLook<R> {
         ensures goes_on { IsOk removals → self.new.goes_on ≡ self.old.goes_on }
         ensures refused { IsErr removals → self.new.goes_on ≡ false }
         ensures given { self.new.given ≡ self.old.given }
+        ensures readings { self.new.readings ≡ self.old.readings }
     {
         self.looked_at = None;
         match removals {
@@ -139,6 +148,7 @@ impl<R: Files + AllocGlobal + Clone + Drop> NearLook<R> {
         ensures goes_on { self.new.goes_on ≡ (self.old.goes_on && self.new.watch.is_clear) }
         ensures watch { self.new.watch ≡ record self.old.watch { is_clear = self.new.watch.is_clear } }
         ensures given { self.new.given ≡ self.old.given }
+        ensures clear { self.new.watch.is_clear ≡ true → Finds self.old.watch None self.old.readings.items self.new.readings.items }
     {
         let found = self.stale();
         self.heed(found);
@@ -149,6 +159,7 @@ impl<R: Files + AllocGlobal + Clone + Drop> NearLook<R> {
         ensures goes_on { self.new.goes_on ≡ (self.old.goes_on && finds_nothing found) }
         ensures watch { self.new.watch ≡ record self.old.watch { is_clear = finds_nothing found } }
         ensures given { self.new.given ≡ self.old.given }
+        ensures readings { self.new.readings ≡ self.old.readings }
     {
         self.watch.is_clear = matches!(found, Ok(None));
         match found {
@@ -159,18 +170,22 @@ impl<R: Files + AllocGlobal + Clone + Drop> NearLook<R> {
     }
 
     /// The first near message that is not as the steps that are left take it to be. Where they remove nothing, the folder is not read.
-    fn stale(&self) -> io::Result<Option<Objection>> {
+    fn stale(&mut self) -> io::Result<Option<Objection>>
+        ensures found { IfOk result (λ found. Finds self.old.watch found self.old.readings.items self.new.readings.items) }
+        ensures watch { self.new.watch ≡ self.old.watch }
+        ensures goes_on { self.new.goes_on ≡ self.old.goes_on }
+        ensures given { self.new.given ≡ self.old.given }
+    {
         let alloc = self.rt.alloc();
-        let gone = self.watch.gone_now(alloc)?;
-        let marked = self.watch.marked_now(alloc)?;
+        let removed = self.watch.gone_now(alloc)?;
+        let kept = self.watch.marked_now(alloc)?;
+        let gone = removed.as_slice();
+        let marked = kept.as_slice();
         if gone.is_empty() && marked.is_empty() {
             return Ok(None);
         }
-        let sought = Sought {
-            gone: &gone,
-            marked: &marked,
-        };
-        let found = first_stale(&self.rt, self.folder.as_str(), sought)?;
+        let sought = Sought { gone, marked };
+        let found = first_stale(&self.rt, self.folder.as_str(), &mut self.readings, sought)?;
         Ok(found.map(|stale| objection_to(stale)))
     }
 }
@@ -193,6 +208,18 @@ impl<R: Files + Clock + AllocGlobal + Clone + Drop> NearLook<R> {
         !self.watch.is_clear || removes && !self.is_fresh()
     }
 
+    /// Notes when a look was made, if it was before a removal.
+    fn looked(&mut self, removes: bool)
+        ensures goes_on { self.new.goes_on ≡ self.old.goes_on }
+        ensures watch { self.new.watch ≡ self.old.watch }
+        ensures given { self.new.given ≡ self.old.given }
+        ensures readings { self.new.readings ≡ self.old.readings }
+    {
+        if removes {
+            self.looked_at = SystemTime::now(&self.rt).ok();
+        }
+    }
+
     /// Whether the last look before a removal was made just now.
     fn is_fresh(&self) -> bool {
         let (Some(then), Ok(now)) = (self.looked_at, SystemTime::now(&self.rt)) else {
@@ -211,9 +238,15 @@ impl<R: Files + Clock + AllocGlobal + Clone + Drop> Guard for NearLook<R> {
     ghost use Rattle.guarded.specs.Given.{given_by, is_again};
     ghost use Rattle.guarded.specs.Listed.{still_listed};
     ghost use Rattle.guarded.specs.Removals.{AreRemovals};
-    ghost use Rattle.guarded.specs.Watches.{IsWatched, asks_far};
+    ghost use Rattle.guarded.specs.Questions.{MayBegin, MayChange, MayOpen, MayRemove};
+    ghost use Rattle.guarded.specs.Watches.{Answers, IsWatched, asks_far, sight};
 
     ghost goes_on = { λ look. look.goes_on };
+
+    ghost asked = { λ question old new. Answers question (sight old.given old.watch old.goes_on old.readings.items)
+        (sight new.given new.watch new.goes_on new.readings.items) };
+
+    ghost lists = { λ look change. asks_far look.watch change };
 
     fn reads(&mut self, state: &SyncState, pending: Option<&Journal>)
         ensures given { self.new.given ≡ given_by state.now (option_copied pending.entry) }
@@ -232,6 +265,9 @@ impl<R: Files + Clock + AllocGlobal + Clone + Drop> Guard for NearLook<R> {
 
     fn may_open(&mut self, validity: u32, next: u32) -> bool
         ensures answer { result ≡ self.new.goes_on }
+        ensures asked { Answers (MayOpen validity next)
+            (sight self.old.given self.old.watch self.old.goes_on self.old.readings.items)
+            (sight self.new.given self.new.watch self.new.goes_on self.new.readings.items) }
         ensures again { result ≡ (self.old.goes_on && is_none (is_again self.old.given validity next)) }
     {
         if let Some(known) = self.given.again(validity, next) {
@@ -243,6 +279,9 @@ impl<R: Files + Clock + AllocGlobal + Clone + Drop> Guard for NearLook<R> {
     // It is begun only after a look that found nothing.
     fn may_begin(&mut self, plan: &Plan) -> bool
         ensures answer { result ≡ self.new.goes_on }
+        ensures asked { Answers (MayBegin plan.now)
+            (sight self.old.given self.old.watch self.old.goes_on self.old.readings.items)
+            (sight self.new.given self.new.watch self.new.goes_on self.new.readings.items) }
         ensures clear { result ≡ true → self.new.watch.is_clear ≡ true }
         ensures removals { result ≡ true → AreRemovals plan.now.steps plan.now.notes self.new.watch.removals }
         ensures logged { result ≡ true → self.new.watch.logged ≡ 0 }
@@ -263,16 +302,18 @@ impl<R: Files + Clock + AllocGlobal + Clone + Drop> Guard for NearLook<R> {
     // It is made only after a look that found nothing.
     fn may_change(&mut self, change: Change, uid: Uid) -> bool
         ensures answer { result ≡ self.new.goes_on }
+        ensures asked { Answers (MayChange change uid)
+            (sight self.old.given self.old.watch self.old.goes_on self.old.readings.items)
+            (sight self.new.given self.new.watch self.new.goes_on self.new.readings.items) }
         ensures clear { result ≡ true → self.new.watch.is_clear ≡ true }
         ensures went_on { result ≡ true → self.old.goes_on ≡ true }
     {
         let removes = self.watch.removals.removes_far(change, uid);
-        if self.is_due(removes) {
-            self.look();
-            if removes {
-                self.looked_at = SystemTime::now(&self.rt).ok();
-            }
+        if !self.is_due(removes) {
+            return self.goes_on;
         }
+        self.look();
+        self.looked(removes);
         self.goes_on
     }
 
@@ -286,6 +327,9 @@ impl<R: Files + Clock + AllocGlobal + Clone + Drop> Guard for NearLook<R> {
 
     fn may_remove(&mut self, far: &Listing) -> bool
         ensures answer { result ≡ self.new.goes_on }
+        ensures asked { Answers (MayRemove far.now)
+            (sight self.old.given self.old.watch self.old.goes_on self.old.readings.items)
+            (sight self.new.given self.new.watch self.new.goes_on self.new.readings.items) }
         ensures listed { let watch = self.old.watch in
             result ≡ (self.old.goes_on && is_none (still_listed watch.removals.expunged watch.logged far.now)) }
     {

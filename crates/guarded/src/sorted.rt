@@ -49,7 +49,8 @@ impl Dues {
 
     /// All of them.
     pub(crate) fn as_slice(&self) -> &[Due]
-        ensures { result.now ≡ self.now }
+        ensures value { result.now ≡ self.now }
+        ensures rises { IsNonDecreasingBy (λ due. due.uid) self.now }
     {
         &self.list
     }
