@@ -7,7 +7,7 @@ use std::alloc::Global;
 use std::marker::Model;
 
 /// A reply of more bytes is cut, so that it takes no room twice: here, and where its reader keeps it.
-const CHUNK_BYTES: usize = 1 << 20;
+const CHUNK_BYTES: usize = 1 << 18;
 
 /// Bytes that are to be handed out, in pieces of any size. Of long ones the memory of what was handed out is free again.
 #[derive(Drop)]
