@@ -12,5 +12,3 @@ pub mod Utf16Back
 pub mod RunsBack
 pub mod NamesBack
 pub mod ChunkLemmas
-pub mod Cutting
-pub mod Passing

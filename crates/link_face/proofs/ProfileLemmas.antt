@@ -36,17 +36,17 @@ use Rattle.link_face.specs.Profile.{NamesAreSame, AreHeard}
 
 -- ---- lists
 
-pub both_true : (a b : Bool) → a ≡ true → b ≡ true → (a && b) ≡ true
+both_true : (a b : Bool) → a ≡ true → b ≡ true → (a && b) ≡ true
 both_true a b e f = ap (λ (x : Bool). x && b) e ∙ f
 
 pub both_heard : (xs ys : List Reply) → AreHeard xs → AreHeard ys → AreHeard (xs ++ ys)
 both_heard xs ys h k = list_all-append is_heard xs ys ∙ both_true (list_all is_heard xs) (list_all is_heard ys) h k
 
-pub first_of_two : (a b : Bool) → (a && b) ≡ true → a ≡ true
+first_of_two : (a b : Bool) → (a && b) ≡ true → a ≡ true
 first_of_two true b e = refl
 first_of_two false b e = e
 
-pub second_of_two : (a b : Bool) → (a && b) ≡ true → b ≡ true
+second_of_two : (a b : Bool) → (a && b) ≡ true → b ≡ true
 second_of_two true b e = e
 second_of_two false b e = cc
 
@@ -90,11 +90,11 @@ answer_if : (b : Bool) (x y : Answer) → AreHeard x.replies → AreHeard y.repl
 answer_if true x y h k = h
 answer_if false x y h k = k
 
-pub replies_if : (b : Bool) (x y : List Reply) → AreHeard x → AreHeard y → AreHeard (if b then x else y)
+replies_if : (b : Bool) (x y : List Reply) → AreHeard x → AreHeard y → AreHeard (if b then x else y)
 replies_if true x y h k = h
 replies_if false x y h k = k
 
-pub given : (a : Answer) (replies : List Reply) (new : Server) → AreHeard a.replies → Gives a replies new → AreHeard replies
+given : (a : Answer) (replies : List Reply) (new : Server) → AreHeard a.replies → Gives a replies new → AreHeard replies
 given a replies new h g = ap (list_all is_heard) g.0 ∙ h
 
 lists_heard : (s : Server) (tag pattern : List ℕ) → NamesAreSame s → AreHeard (lists s tag pattern).replies

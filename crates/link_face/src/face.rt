@@ -5,11 +5,9 @@ ghost use Rattle.mailcore.specs.CopyPieces.{text_left};
 ghost use Rattle.wire_reader.specs.Spelling.{crlf};
 ghost use Rattle.wire_reader.specs.Scanning.{start, scanned, owed_in};
 ghost use Rattle.link_face.specs.Commands.{GoesAsItIs, IsRenamed};
-ghost use Rattle.link_face.specs.Extents.{IsCut, NoneHeard};
 ghost use Rattle.link_face.specs.Faces.{IsSpelled};
-ghost use Rattle.link_face.specs.Hearing.{IsPassed};
 ghost use Rattle.link_face.specs.Rooms.{whole_room, CountsReply};
-ghost use Rattle.link_face.specs.Turning.{IsTurned, Leaves, Passes, Unchanged, held_of};
+ghost use Rattle.link_face.specs.Turning.{IsTurned, Leaves, Unchanged, held_of};
 
 use crate::command::with_far_name;
 use crate::extent::Extent;
@@ -119,15 +117,12 @@ impl Face {
         self.room = Room::whole();
     }
 
-    /// Turns replies until one is ready. Returns whether one is; if not, more has to come. One that a client hears as it came is never taken
-    /// for another one.
+    /// Turns replies until one is ready. Returns whether one is; if not, more has to come.
     ///
     /// `Stopped`: a reply is too long or cannot be read, or there is no room for it, and nothing more is read of this connection.
     /// `NoMemory`.
-    #[tactic(auto, using(crate::proofs::Passing::lost_passes, crate::proofs::Passing::passes_follow, crate::proofs::Passing::spelled_of))]
     pub(crate) fn turn(&mut self) -> Result<bool, LinkFault>
         ensures unchanged { Unchanged self.old self.new }
-        ensures passes { Passes self.old self.new }
         ensures some { result ≡ Ok true → 0 < length self.new.ready }
         ensures none { result ≡ Ok false → self.new.ready ≡ [] }
         ensures ready { OnOk result (Leaves self.old.ready self.new.ready) }
@@ -142,41 +137,23 @@ impl Face {
             if !self.ready.is_empty() {
                 return Ok(true);
             }
-            match self.look()? {
+            match self.incoming.look() {
                 Extent::Begun => return Ok(false),
-                Extent::Heard(len) => self.keep(len)?,
-                Extent::Unheard(len) => self.turn_front(len)?,
+                Extent::Whole(len) => self.turn_front(len)?,
                 Extent::TooLong => return Err(self.lose()),
             }
         }
         Ok(!self.ready.is_empty())
     }
 
-    /// How far the reply at the front of what came goes. `NoMemory`.
-    fn look(&mut self) -> Result<Extent, LinkFault>
-        ensures same { self.new ≡ self.old }
-        ensures cut { IfOk result (IsCut self.old.incoming) }
-        ensures err { IsErrOf result LinkFault.Stopped → ⊥ }
-    {
-        match self.incoming.look() {
-            Ok(extent) => Ok(extent),
-            Err(AllocError) => Err(LinkFault::NoMemory),
-        }
-    }
-
-    /// Turns the reply of so many bytes at the front of what came, which no client hears as it came. Where there is no room for what is
-    /// handed out, the connection is given up.
-    #[tactic(auto, using(crate::proofs::Passing::none_passes))]
+    /// Turns the reply of so many bytes at the front of what came. Where there is no room for what is handed out, the connection is
+    /// given up.
     fn turn_front(&mut self, len: usize) -> Result<(), LinkFault>
         requires within { len ≤ length self.old.incoming }
         requires none { self.old.ready ≡ [] }
-        requires reads { self.old.is_lost ≡ false }
-        requires unheard { NoneHeard self.old.incoming }
         ensures unchanged { Unchanged self.old self.new }
-        ensures passes { Passes self.old self.new }
         ensures ready { OnOk result (IsTurned self.new.ready) }
         ensures room { OnOk result (CountsReply self.new.ready self.old.room self.new.room true) }
-        ensures reads { OnOk result (self.new.is_lost ≡ false) }
         ensures counts { self.old.stops ≤ self.new.stops }
         ensures steady { OnOk result (self.new.stops ≡ self.old.stops) }
         ensures stopped { IsErrOf result LinkFault.Stopped → self.old.stops < self.new.stops }
@@ -191,17 +168,13 @@ impl Face {
     }
 
     /// The reply of so many bytes at the front is ready, as it came, if there is room for it.
-    #[tactic(auto, using(crate::proofs::Passing::lost_passes, crate::proofs::Passing::same_passes))]
     fn keep(&mut self, len: usize) -> Result<(), LinkFault>
         requires within { len ≤ length self.old.incoming }
         requires none { self.old.ready ≡ [] }
-        requires reads { self.old.is_lost ≡ false }
         requires spelled { IsSpelled (take len self.old.incoming) }
         ensures unchanged { Unchanged self.old self.new }
-        ensures passes { IsPassed (take len self.old.incoming) → Passes self.old self.new }
         ensures ready { OnOk result (IsTurned self.new.ready) }
         ensures room { OnOk result (CountsReply self.new.ready self.old.room self.new.room true) }
-        ensures reads { OnOk result (self.new.is_lost ≡ false) }
         ensures counts { self.old.stops ≤ self.new.stops }
         ensures steady { OnOk result (self.new.stops ≡ self.old.stops) }
         ensures stopped { IsErrOf result LinkFault.Stopped → self.old.stops < self.new.stops }
@@ -214,15 +187,12 @@ impl Face {
     }
 
     /// The reply of so many bytes at the front is ready, as it came.
-    #[tactic(auto, using(crate::proofs::Passing::same_passes))]
     fn keep_front(&mut self, len: usize) -> Result<(), LinkFault>
         requires within { len ≤ length self.old.incoming }
         requires none { self.old.ready ≡ [] }
         requires spelled { IsSpelled (take len self.old.incoming) }
         ensures unchanged { Unchanged self.old self.new }
-        ensures passes { IsPassed (take len self.old.incoming) → Passes self.old self.new }
         ensures ready { OnOk result (self.new.ready ≡ take len self.old.incoming) }
-        ensures lost { self.new.is_lost ≡ self.old.is_lost }
         ensures room { self.new.room ≡ self.old.room }
         ensures stops { self.new.stops ≡ self.old.stops }
         ensures err { IsErrOf result LinkFault.Stopped → ⊥ }
@@ -239,12 +209,10 @@ impl Face {
     fn replace(&mut self, len: usize, bytes: Vec<u8>) -> Result<(), LinkFault>
         requires within { len ≤ length self.old.incoming }
         requires none { self.old.ready ≡ [] }
-        requires reads { self.old.is_lost ≡ false }
         requires turned { IsTurned bytes.items }
         ensures unchanged { Unchanged self.old self.new }
         ensures ready { OnOk result (IsTurned self.new.ready) }
         ensures room { OnOk result (CountsReply self.new.ready self.old.room self.new.room true) }
-        ensures reads { OnOk result (self.new.is_lost ≡ false) }
         ensures counts { self.old.stops ≤ self.new.stops }
         ensures steady { OnOk result (self.new.stops ≡ self.old.stops) }
         ensures stopped { IsErrOf result LinkFault.Stopped → self.old.stops < self.new.stops }
@@ -262,7 +230,6 @@ impl Face {
         requires none { self.old.ready ≡ [] }
         ensures unchanged { Unchanged self.old self.new }
         ensures ready { OnOk result (self.new.ready ≡ bytes.items) }
-        ensures lost { self.new.is_lost ≡ self.old.is_lost }
         ensures room { self.new.room ≡ self.old.room }
         ensures stops { self.new.stops ≡ self.old.stops }
         ensures err { IsErrOf result LinkFault.Stopped → ⊥ }
@@ -279,7 +246,6 @@ impl Face {
     /// Gives the connection up. Gives what the call answers.
     fn lose(&mut self) -> LinkFault
         ensures fault { result ≡ LinkFault.Stopped }
-        ensures lost { self.new.is_lost ≡ true }
         ensures counted { self.old.stops < self.new.stops }
         ensures incoming { self.new.incoming ≡ self.old.incoming }
         ensures ready { self.new.ready ≡ self.old.ready }

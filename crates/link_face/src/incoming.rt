@@ -1,7 +1,7 @@
 //! What came over a link and was not turned yet.
 
 ghost use Rattle.std.specs.Prelude.{◌≡◌, ◌≤◌, ◌++◌, [], drop, length, take, IfOk, OnOk, OnErr};
-ghost use Rattle.link_face.specs.Extents.{IsCut};
+ghost use Rattle.link_face.specs.Extents.{IsWithin};
 
 use crate::extent::{Extent, ReplyExtent};
 use std::alloc::{AllocError, Global};
@@ -65,17 +65,12 @@ impl Incoming {
         self.bytes.extend_from_slice(bytes)
     }
 
-    /// How far the reply at the front goes. One that a client hears as it came is cut where it ends. `AllocError`: memory ran out.
-    pub(crate) fn look(&mut self) -> Result<Extent, AllocError>
+    /// How far the reply at the front goes.
+    pub(crate) fn look(&mut self) -> Extent
         ensures same { self.new ≡ self.old }
-        ensures cut { IfOk result (IsCut self.old) }
+        ensures within { IsWithin self.old result }
     {
-        let alloc = *self.bytes.allocator();
-        let found = self.search.look(alloc, &self.bytes[self.taken..]);
-        if found.is_err() {
-            self.search = ReplyExtent::new();
-        }
-        found
+        self.search.look(&self.bytes[self.taken..])
     }
 
     /// The first so many bytes.

@@ -1,12 +1,10 @@
-use Rattle.std.proofs.Common.{◌≡◌, false}
-use Rattle.link_face.specs.Turning.{Leaves, Passes, Unchanged}
+use Rattle.std.proofs.Common.{◌≡◌}
+use Rattle.link_face.specs.Turning.{Leaves, Unchanged}
 use Rattle.link_face.proofs.face.Face.turn.Given as goal
 
 abbrev pub invariant-loop : goal.invariant-loop
 invariant-loop l = record {
   unchanged : Unchanged l.fn.self l.self;
-  passes : Passes l.fn.self l.self;
-  reads : l.self.is_lost ≡ false;
   ready : Leaves l.fn.self.ready l.self.ready;
   steady : l.self.stops ≡ l.fn.self.stops;
 }
