@@ -1,7 +1,8 @@
 //! What is looked at once more before anything is done: no message that is there may count as removed, none that was kept may be removed,
 //! and the far mailbox may not give UIDs a second time.
 
-ghost use Rattle.std.specs.Prelude.{◌≡◌, ◌&&◌, true, false, IfOk, IsErr, IsOk};
+ghost use Rattle.std.specs.Prelude.{◌≡◌, ◌&&◌, true, false, IfOk, IsErr, IsOk, OnErr};
+ghost use Rattle.maildir.specs.Standings.{HasBegun};
 ghost use Rattle.std.specs.List.Sorted.{IsNonDecreasingBy};
 ghost use Rattle.guarded.specs.Watches.{Finds, finds_nothing, objection_to, uids_due};
 
@@ -172,6 +173,7 @@ impl<R: Files + AllocGlobal + Clone + Drop> NearLook<R> {
     /// The first near message that is not as the steps that are left take it to be. Where they remove nothing, the folder is not read.
     fn stale(&mut self) -> io::Result<Option<Objection>>
         ensures found { IfOk result (λ found. Finds self.old.watch found self.old.readings.items self.new.readings.items) }
+        ensures err { OnErr result (HasBegun self.old.readings.items self.new.readings.items) }
         ensures watch { self.new.watch ≡ self.old.watch }
         ensures goes_on { self.new.goes_on ≡ self.old.goes_on }
         ensures given { self.new.given ≡ self.old.given }

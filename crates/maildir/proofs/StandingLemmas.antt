@@ -1,6 +1,6 @@
 -- What the names in a folder say of the messages of a look, one name after the other.
 use Rattle.std.proofs.Common.{cond, get_or, subst, take, ◌+◌, ◌≡◌, ◌∙◌, ℕ, ◌<◌, Bool, false, List, [], ◌∷◌, ◌++◌, Option, None, Some, append_assoc, ap, arith, drop, length, map, refl, sym}
-use Rattle.std.specs.Prelude.{◌&&◌, ◌==◌, find, if◌then◌else◌, not}
+use Rattle.std.specs.Prelude.{◌==◌, find, not}
 use Rattle.std.specs.List.{cons_option, filter_map, slice_split}
 use Rattle.std.specs.Option.{option_map, option_or}
 use Rattle.std.specs.List.Sorted.{IsPermutation}
@@ -10,8 +10,8 @@ use Rattle.std.proofs.lemmas.List.Sorted.{list_any-IsPermutation}
 use Rattle.maildir.specs.declared.folder.FileName.{FileName}
 use Rattle.maildir.specs.declared.folder.Place.{Place}
 use Rattle.maildir.specs.declared.standing.Stale.{Stale}
-use Rattle.maildir.specs.declared.standing.Stale.TheVariants.{There, Unmarked}
-use Rattle.maildir.specs.Standings.{COMMA, HasMet, as_marked, files_in, first, first_stale, is_among, is_marked, is_spelled, odd, odd_shown, reported_among, shown, shown_by, uid_ahead}
+use Rattle.maildir.specs.declared.standing.Stale.TheVariants.{Unmarked}
+use Rattle.maildir.specs.Standings.{COMMA, HasMet, as_marked, files_in, first, first_stale, is_among, odd, odd_shown, reported_among, shown, shown_by, uid_ahead}
 
 find_never : {X : Type 0} (xs : List X) → find (λ x. false) xs ≡ None
 find_never [] = refl

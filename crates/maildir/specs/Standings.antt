@@ -104,3 +104,10 @@ pub record HasLooked (gone marked : List ℕ) (found : Option Stale) (old now : 
   pub places : (fresh.place ≡ New) × (current.place ≡ Cur)
   pub noted : now ≡ current ∷ (fresh ∷ old)
   pub finds : found ≡ first_stale gone marked (files_in New fresh.names.items ++ files_in Cur current.names.items)
+
+-- an error came: of `new` and then `cur` those that were read until then were noted, and nothing else
+pub record HasBegun (old now : List NameReading) : Type 0 where
+  pub readings : List NameReading
+  pub unread : List Place
+  pub noted : now ≡ readings ++ old
+  pub places : unread ++ map (λ reading. reading.place) readings ≡ Cur ∷ (New ∷ [])

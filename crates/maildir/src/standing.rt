@@ -6,7 +6,7 @@
 
 ghost use Rattle.std.specs.Prelude.{◌≡◌, ◌++◌, [], ◌∷◌, None, IfOk, OnErr};
 ghost use Rattle.std.specs.List.Sorted.{IsNonDecreasingBy};
-ghost use Rattle.maildir.specs.Standings.{HasLooked, HasMet, files_in, first, first_stale, is_among, is_marked, is_spelled};
+ghost use Rattle.maildir.specs.Standings.{HasBegun, HasLooked, HasMet, files_in, first, first_stale, is_among, is_marked, is_spelled};
 ghost use Rattle.maildir.specs.Standings.{odd_shown, reported_among, shown, shown_by, uid_ahead};
 
 use crate::entries::entries_in;
@@ -51,13 +51,16 @@ pub struct NameReading {
 
 /// The first of these messages that is not as it was counted, by one reading of the names in `new` and `cur` of the folder at this path.
 /// Both readings are noted.
+///
+/// An error of the system, or want of memory: those that were read until then are noted.
 pub fn first_stale<R: Files + AllocGlobal>(
     rt: &R,
     folder: &str,
     readings: &mut History<NameReading>,
     sought: Sought<'_>,
 ) -> io::Result<Option<Stale>>
-    ensures { IfOk result (λ found. HasLooked sought.entry.gone.now sought.entry.marked.now found readings.old.items readings.new.items) }
+    ensures ok { IfOk result (λ found. HasLooked sought.entry.gone.now sought.entry.marked.now found readings.old.items readings.new.items) }
+    ensures err { OnErr result (HasBegun readings.old.items readings.new.items) }
 {
     let new = read_names(rt, folder, Place::New, readings)?;
     let cur = read_names(rt, folder, Place::Cur, readings)?;

@@ -3,6 +3,8 @@
 ghost use Rattle.std.specs.Prelude.{◌≡◌};
 ghost use Rattle.wire_reader.specs.Lexical.{next, is_in};
 
+use crate::limit::LITERAL_MAX;
+
 /// Where a byte stands in a line, as far as literals go.
 #[derive(Clone, Copy, PartialEq, Eq)]
 pub enum Phase {
@@ -39,7 +41,7 @@ pub(crate) fn next(phase: Phase, b: u8) -> Phase
         Phase::Plus(n) if b == b'}' => Phase::Close(n, true),
         Phase::Digits(n) if b == b'}' => Phase::Close(n, false),
         Phase::Digits(n) if b == b'+' => Phase::Plus(n),
-        Phase::Digits(n) if b'0' <= b && b <= b'9' && n <= 16777238 => {
+        Phase::Digits(n) if b'0' <= b && b <= b'9' && n <= LITERAL_MAX => {
             Phase::Digits(10 * n + u32::from(b - 48))
         }
         Phase::Brace if b'0' <= b && b <= b'9' => Phase::Digits(u32::from(b - 48)),

@@ -7,6 +7,7 @@ ghost use Rattle.wire_reader.specs.Given.{Gives};
 ghost use Rattle.wire_reader.specs.Literal.{Fits, step_of, length_step, plus_step, length_at, waits_for, octets_at, octets_of, literal_at};
 
 use crate::answer::front;
+use crate::limit::LITERAL_MAX;
 use crate::punctuation::byte;
 use crate::scanner::to_nul;
 use crate::side::Speaker;
@@ -100,7 +101,7 @@ fn number_step(side: Speaker, n: u32, b: u8) -> LengthStep
         LengthStep::Odd(Kind::Syntax)
     } else {
         let more = 10 * n + u32::from(b - 48);
-        if more <= 16777238 {
+        if more <= LITERAL_MAX {
             LengthStep::On((more, false))
         } else {
             LengthStep::Odd(Kind::TooLong)

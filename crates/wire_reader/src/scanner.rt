@@ -7,6 +7,7 @@ ghost use Rattle.wire_reader.specs.Advancing.{Advances, Nul, is_plain};
 
 use crate::answer::front;
 use crate::lexical::{Phase, is_in, next};
+use crate::limit::LINE_MAX;
 use memchr::{memchr, memchr2};
 
 /// How far a line has been scanned.
@@ -45,7 +46,7 @@ impl Scanner {
     pub fn is_over(&self) -> bool
         ensures { result ≡ is_over self.now }
     {
-        self.outside > 65536
+        self.outside > LINE_MAX
     }
 
     /// Scans the next bytes of the line, up to and with the first place among them. Returns how many these are, or `None` if none of the
@@ -88,7 +89,7 @@ impl Scanner {
     {
         match self.phase {
             Phase::In(n) if n > 1 => self.skip_octets(n, bytes),
-            Phase::Plain if self.outside < 65536 => self.skip_plain(bytes),
+            Phase::Plain if self.outside < LINE_MAX => self.skip_plain(bytes),
             _ => (1, self.step(bytes[0])),
         }
     }
@@ -100,7 +101,7 @@ impl Scanner {
         requires room { self.old.outside < 65536 }
         ensures { Advances self.old bytes.now result self.new }
     {
-        let count = plain_length(front(65536 - self.outside as usize, bytes));
+        let count = plain_length(front((LINE_MAX - self.outside) as usize, bytes));
         if count == 0 {
             return (1, self.step(bytes[0]));
         }
@@ -126,9 +127,9 @@ impl Scanner {
         ensures moves { self.new ≡ after self.old b }
     {
         let inside = is_in(self.phase);
-        let is_full = self.outside >= 65536;
+        let is_full = self.outside >= LINE_MAX;
         self.phase = next(self.phase, b);
-        if !inside && self.outside <= 65536 {
+        if !inside && self.outside <= LINE_MAX {
             self.outside += 1;
         }
         if inside {

@@ -8,12 +8,13 @@ ghost use Rattle.wire_reader.specs.Literal.{is_octet, literal_at};
 ghost use Rattle.wire_strings.specs.Literals.{IsLiteral};
 
 use std::marker::Model;
+use wire_reader::limit::LITERAL_MAX;
 use wire_reader::literal::literal;
 use wire_reader::side::Speaker;
 use wire_reader::stop::Stop;
 
 /// The greatest number of octets of a literal.
-pub const OCTETS_MAX: usize = 16777238;
+pub const OCTETS_MAX: usize = LITERAL_MAX as usize;
 
 /// The octets of a literal, lent: at most 16777238, none of them 0.
 #[derive(Drop)]

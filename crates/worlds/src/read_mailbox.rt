@@ -14,6 +14,7 @@ use crate::fault::WorldFault;
 use crate::line::{pushed, take_line};
 use crate::words::{read_named, split_word};
 use crate::world::{Waiting, WaitingFile};
+use mailcore::content::MESSAGE_MAX;
 use mailcore::fault::PushFault;
 use mailcore::flags::Flags;
 use mailcore::keywords::Keywords;
@@ -29,8 +30,8 @@ use texts::escape::unescape_into;
 use texts::fault::EscapeFault;
 use texts::lines::{Line, Lines};
 
-/// The greatest number of bytes of a far message: 16777216 and a mark line of 22.
-pub const FAR_BYTES_MAX: usize = 16_777_238;
+/// The greatest number of bytes of a far message: those of the longest one that is copied, and a mark line of 22.
+pub const FAR_BYTES_MAX: usize = MESSAGE_MAX + 22;
 
 /// The mailbox of a side with its messages, from the next lines. Its name is INBOX.
 pub fn read_mailbox(

@@ -5,8 +5,8 @@ use Rattle.wire_reader.proofs.Limits.{room_for_all}
 use Rattle.wire_reader.proofs.LimitScan.{passing, none_passing}
 use Rattle.wire_reader.proofs.limit.limit_end.Goals as goal
 
-pub returns-then-bytes-le65536 : goal.returns-then-bytes-le65536
-returns-then-bytes-le65536 c = sym (room_for_all c.args.bytes.now Plain 65536 0 c.if-bytes-le65536.true)
+pub returns-then-bytes : goal.returns-then-bytes
+returns-then-bytes c = sym (room_for_all c.args.bytes.now Plain 65536 0 c.if-bytes.true)
 
 pub overflow_add-done : goal.overflow_add-done
 overflow_add-done c =
