@@ -67,7 +67,7 @@ def contract_from(lines, at):
     """The lines of a function up to its body, without their common margin."""
     found = []
     for line in lines[at:]:
-        if re.fullmatch(r"\s*\{", line):
+        if re.fullmatch(r"\s*\{\}?", line):
             break
         found.append(line.removesuffix(" {") if re.match(r"\s*(pub )?(const )?fn .*\{$", line) else line)
         if line.endswith((";", " {")) and not CLAUSE.match(line):
