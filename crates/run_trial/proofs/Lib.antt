@@ -11,3 +11,5 @@ pub mod MemoryLemmas
 pub mod AmongLemmas
 pub mod AgainLemmas
 pub mod LinkedLemmas
+pub mod ContentsLemmas
+pub mod PrintedLemmas

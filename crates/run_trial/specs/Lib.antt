@@ -9,4 +9,5 @@ pub mod Statuses
 pub mod Settings
 pub mod Among
 pub mod Memory
+pub mod Printed
 pub mod Trials

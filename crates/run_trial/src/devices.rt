@@ -1,6 +1,6 @@
 //! The devices of a trial, and a run over them.
 
-ghost use Rattle.std.specs.Prelude.{◌≡◌, IfErr, IfOk, IsErrOf, OnOk, true};
+ghost use Rattle.std.specs.Prelude.{◌≡◌, IfErr, IfOk, IsErrOf, OnOk, string_bytes, true};
 ghost use Rattle.std.proofs.Props.{props};
 ghost use Rattle.rules.specs.Opening.{IsOpening};
 ghost use Rattle.rules.specs.World.{World};
@@ -16,12 +16,13 @@ ghost use Rattle.run_states.specs.Others.{HasOrder, OthersLeft};
 ghost use Rattle.runner.specs.Attempts.{HasNoNext, MetStops};
 ghost use Rattle.runner.specs.Faults.{LeavesRun};
 ghost use Rattle.run_trial.specs.Openings.{AreOurs, StandsAt};
+ghost use Rattle.run_trial.specs.Printed.{Prints};
 ghost use Rattle.run_trial.specs.Settings.{device_at};
 
 use crate::attempts::settle_trial;
+use crate::contents::contents_of;
 use crate::failure::TrialError;
-use crate::folder::contents_of;
-use crate::server::{TrialLink, account_of};
+use crate::server::{MAILBOX, TrialLink, account_of, mailbox_named, seen_messages};
 use crate::shelf::state_in;
 use book::mem_shelf::MemShelf;
 use book::shelf::Shelf;
@@ -32,7 +33,6 @@ use mailcore::keywords::Keywords;
 use mailcore::others::Others;
 use maildir::folder::Folder;
 use maildir::mem_folder::MemFolder;
-use maildir::meta::Meta;
 use maildir::visited_folder::VisitedFolder;
 use outside::outside::Outside;
 use rules::options::Options;
@@ -237,21 +237,28 @@ impl<L: TrialLink + Drop> Devices<L> {
             .saturating_add(self.shelf.stops())
     }
 
-    /// Adds the world that stands in them, from its line `far` on. `NoWorld`: what a device holds is none. This does not come of a trial.
-    pub fn write(&self, alloc: Global, text: &mut String) -> Result<(), TrialError> {
-        let Some(far) = self.link.server().mailboxes().first() else {
+    /// Adds the text of the world that stands in them, from its line `far` on: what another run over them would find, without the journal.
+    ///
+    /// `NoWorld`: what a device holds is none, and nothing was added. This does not come of a trial. `NoMemory`: a part may have been added.
+    pub fn write(&self, alloc: Global, text: &mut String) -> Result<(), TrialError>
+        ensures text { OnOk result (Prints (device_at self.now.keywords (L.line self.now.link).end.server (stored_in self.now.folder)
+            (files_of self.now.shelf)) (string_bytes text.old) (string_bytes text.new)) }
+    {
+        let Some(far) = mailbox_named(self.link.server().mailboxes(), MAILBOX) else {
             return Err(TrialError::NoWorld);
         };
-        let Some(meta) = self.folder.meta().and_then(Meta::read) else {
-            return Err(TrialError::NoWorld);
-        };
-        let state = state_in(alloc, &self.shelf)?;
+        let messages = seen_messages(alloc, far.messages.as_slice(), &self.keywords)?;
         let near = contents_of(alloc, &self.folder, &self.keywords)?;
+        let state = state_in(alloc, &self.shelf)?;
         let world = WrittenWorld {
-            far: WrittenMailbox::of(far),
+            far: WrittenMailbox {
+                validity: far.validity,
+                next: far.next,
+                messages: &messages,
+            },
             near: WrittenMailbox {
-                validity: meta.validity,
-                next: meta.next,
+                validity: near.meta.validity,
+                next: near.meta.next,
                 messages: &near.messages,
             },
             waiting: &near.waiting,

@@ -10,14 +10,12 @@ use mailcore::flags::Flags;
 use mailcore::keywords::Keywords;
 use mailcore::mailbox::{Message, StoredMailbox};
 use mailcore::octets::Octets;
-use maildir::file_list::FileList;
 use maildir::folder::{File, Place};
-use maildir::letters::{flags_in, letters_with};
+use maildir::letters::letters_with;
 use maildir::mem_folder::{FolderCall, MemFolder};
 use maildir::meta::Meta;
-use maildir::name::{Name, read_name, spell};
+use maildir::name::spell;
 use std::alloc::{AllocError, Global};
-use std::cmp::Ordering;
 use worlds::world::WaitingFile;
 
 /// How many digits the name of a waiting file has.
@@ -145,102 +143,4 @@ fn push_digits(text: &mut Vec<u8>, number: usize, count: u32) -> Result<(), Allo
     push_digits(text, number / 10, count - 1)?;
     text.push(b'0' + (number % 10) as u8)?;
     Ok(())
-}
-
-/// What stands in a folder.
-#[derive(Drop)]
-pub struct Contents {
-    /// The messages, in the order of their UIDs.
-    pub messages: Vec<Message>,
-    /// The files that wait for a UID, in the order of their names.
-    pub waiting: Vec<WaitingFile>,
-}
-
-/// What stands in this folder, without a call of it, seen by this map.
-pub fn contents_of(
-    alloc: Global,
-    folder: &MemFolder,
-    keywords: &Keywords,
-) -> Result<Contents, AllocError> {
-    let messages = messages_among(alloc, folder.files(), keywords)?;
-    match waiting_among(alloc, folder.files(), keywords) {
-        Ok(waiting) => Ok(Contents { messages, waiting }),
-        Err(fault) => Err(fault),
-    }
-}
-
-fn messages_among(
-    alloc: Global,
-    files: FileList<'_>,
-    keywords: &Keywords,
-) -> Result<Vec<Message>, AllocError> {
-    let mut messages = Vec::new(alloc);
-    for file in files {
-        let name = read_name(file.name.as_slice());
-        if let Some(
-            Name {
-                base: _,
-                uid: Some(uid),
-                letters,
-            },
-        ) = name
-        {
-            messages.push(Message {
-                uid,
-                flags: flags_of(letters, keywords),
-                bytes: copy_of(alloc, &file.bytes)?,
-            })?;
-        }
-    }
-    messages.sort_unstable_by_key(|message| message.uid.get());
-    Ok(messages)
-}
-
-fn waiting_among(
-    alloc: Global,
-    files: FileList<'_>,
-    keywords: &Keywords,
-) -> Result<Vec<WaitingFile>, AllocError> {
-    let mut waiting = Vec::new(alloc);
-    for file in &waiting_files(alloc, files)? {
-        let letters = match read_name(file.name.as_slice()) {
-            Some(name) => name.letters,
-            None => None,
-        };
-        waiting.push(WaitingFile {
-            flags: flags_of(letters, keywords),
-            bytes: copy_of(alloc, &file.bytes)?,
-        })?;
-    }
-    Ok(waiting)
-}
-
-/// The files without a UID, in the order of their names.
-fn waiting_files(alloc: Global, files: FileList<'_>) -> Result<Vec<&File>, AllocError> {
-    let mut waiting = Vec::new(alloc);
-    for file in files {
-        if matches!(
-            read_name(file.name.as_slice()),
-            Some(Name { uid: None, .. })
-        ) {
-            waiting.push(file)?;
-        }
-    }
-    waiting.sort_by(by_name)?;
-    Ok(waiting)
-}
-
-fn by_name(a: &&File, b: &&File) -> Ordering {
-    a.name.as_slice().cmp(b.name.as_slice())
-}
-
-fn flags_of(letters: Option<&[u8]>, keywords: &Keywords) -> Flags {
-    match letters {
-        Some(letters) => flags_in(letters).kept(keywords),
-        None => Flags::none(),
-    }
-}
-
-fn copy_of(alloc: Global, bytes: &Octets) -> Result<Octets, AllocError> {
-    Ok(Octets::from_vec(Vec::from_slice(alloc, bytes.as_slice())?))
 }

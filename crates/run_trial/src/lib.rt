@@ -6,6 +6,7 @@
 mod among;
 pub mod arrival;
 pub mod attempts;
+pub mod contents;
 pub mod count;
 pub mod devices;
 pub mod failure;

@@ -1,10 +1,14 @@
 //! The far mailbox of a trial, as the INBOX of a server, and the links to it.
 
-ghost use Rattle.std.specs.Prelude.{◌≡◌, IfOk, codes};
-ghost use Rattle.imap_client.specs.Seen.{HasMap};
+ghost use Rattle.std.specs.Prelude.{◌≡◌, IfOk, codes, map};
+ghost use Rattle.std.specs.Option.{option_map};
+ghost use Rattle.imap_client.specs.Seen.{HasMap, seen_message};
 ghost use Rattle.imap_server.specs.Boxes.{AreServed};
+ghost use Rattle.imap_session.specs.Boxes.{all_of, far_of};
+ghost use Rattle.imap_session.specs.Mailboxes.{is_inbox, mailbox_at, same_name};
 ghost use Rattle.run_trial.specs.Settings.{inbox_of};
 
+use crate::contents::copy_of;
 use crate::failure::TrialError;
 use imap_link::link::Link;
 use imap_server::served::are_served;
@@ -12,7 +16,7 @@ use imap_server::server::Server;
 use link_face::face_link::FaceLink;
 use mail_sides::account::Account;
 use mailcore::keywords::Keywords;
-use mailcore::mailbox::StoredMailbox;
+use mailcore::mailbox::{Message, StoredMailbox};
 use mailcore::mailbox_name::MailboxName;
 use mailcore::others::Others;
 use mem_link::loop_link::LoopLink;
@@ -59,13 +63,63 @@ pub(crate) fn account_of(alloc: Global) -> Result<Account, AllocError>
     Ok(Account::new(user, password, Vec::from_slice(alloc, MAILBOX)?))
 }
 
+/// The mailbox of this name, if there is one.
+pub(crate) fn mailbox_named<'a>(
+    mailboxes: &'a [StoredMailbox],
+    name: &[u8],
+) -> Option<&'a StoredMailbox>
+    ensures { option_map (λ mailbox. far_of mailbox.now) result ≡ mailbox_at name.now (all_of mailboxes.now) }
+{
+    let mut rest = mailboxes;
+    while let Some((mailbox, following)) = rest.split_first() {
+        if same_name(mailbox.name.as_str().as_bytes(), name) {
+            return Some(mailbox);
+        }
+        rest = following;
+    }
+    None
+}
+
+/// Whether two names are those of one mailbox: they compare by bytes, INBOX without case.
+fn same_name(a: &[u8], b: &[u8]) -> bool
+    ensures { result ≡ same_name a.now b.now }
+{
+    a == b || (is_inbox(a) && is_inbox(b))
+}
+
+fn is_inbox(name: &[u8]) -> bool
+    ensures { result ≡ is_inbox name.now }
+{
+    name.eq_ignore_ascii_case(MAILBOX)
+}
+
+/// These messages as a client sees them by this map, which knows the names of their flags.
+pub(crate) fn seen_messages(
+    alloc: Global,
+    messages: &[Message],
+    keywords: &Keywords,
+) -> Result<Vec<Message>, AllocError>
+    ensures { IfOk result (λ seen. seen.items ≡ map (seen_message keywords.now) messages.now) }
+{
+    let mut seen = Vec::with_capacity(alloc, messages.len())?;
+    for message in messages {
+        seen.push(Message {
+            uid: message.uid,
+            flags: message.flags.kept(keywords),
+            bytes: copy_of(alloc, &message.bytes)?,
+        })?;
+    }
+    Ok(seen)
+}
+
 /// A link to a server in this process.
 pub trait TrialLink: Link {
     /// How many calls have stopped.
     fn stops(&self) -> usize;
 
     /// The server.
-    fn server(&self) -> &Server;
+    fn server(&self) -> &Server
+        ensures { result.now.server.mailboxes ≡ (Self.line self.now).end.server.mailboxes };
 }
 
 impl TrialLink for MemLink {

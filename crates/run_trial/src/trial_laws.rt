@@ -16,3 +16,13 @@ pub fn shelf_holds_its_state()
 pub fn devices_stand_again()
     ensures { law.StandAgain }
 {}
+
+/// A run that a fault has ended is interrupted, so that another run over its devices goes on from what it left.
+pub fn faults_interrupt()
+    ensures { law.FaultsInterrupt }
+{}
+
+/// What is printed of devices is the one world that they hold.
+pub fn printed_worlds_are_held()
+    ensures { law.PrintedIsHeld }
+{}
