@@ -12,3 +12,6 @@ pub mod Utf16Back
 pub mod RunsBack
 pub mod NamesBack
 pub mod ChunkLemmas
+pub mod HeadLemmas
+pub mod Extending
+pub mod TurnLemmas

@@ -1,20 +1,30 @@
 //! Flags by their names (RFC 9051, section 2.3.2), written anew.
 
+ghost use Rattle.std.specs.Prelude.{OnOk};
+ghost use Rattle.wire_tokens.specs.Writing.{Extended};
+
 use std::alloc::AllocError;
 use wire_tokens::appending::append;
 use wire_tokens::atom::Atom;
 
 /// Appends those of these words that are flags, in brackets, each as it stands.
-pub(crate) fn append_flags(words: &[u8], out: &mut Vec<u8>) -> Result<(), AllocError> {
+pub(crate) fn append_flags(words: &[u8], out: &mut Vec<u8>) -> Result<(), AllocError>
+    ensures { OnOk result (Extended out.old.items out.new.items) }
+{
     append_some(words, false, out)
 }
 
 /// Appends those of these words that are flags, and `\*` where it is one of them, in brackets, each as it stands.
-pub(crate) fn append_permanent_flags(words: &[u8], out: &mut Vec<u8>) -> Result<(), AllocError> {
+pub(crate) fn append_permanent_flags(words: &[u8], out: &mut Vec<u8>) -> Result<(), AllocError>
+    ensures { OnOk result (Extended out.old.items out.new.items) }
+{
     append_some(words, true, out)
 }
 
-fn append_some(words: &[u8], takes_star: bool, out: &mut Vec<u8>) -> Result<(), AllocError> {
+#[tactic(auto, using(crate::proofs::Extending::is_extends, crate::proofs::Extending::then_is, crate::proofs::Extending::then_is_if))]
+fn append_some(words: &[u8], takes_star: bool, out: &mut Vec<u8>) -> Result<(), AllocError>
+    ensures { OnOk result (Extended out.old.items out.new.items) }
+{
     append(b"(", out)?;
     let mut space: &[u8] = b"";
     for word in words.split(|b| *b == b' ') {

@@ -1,6 +1,10 @@
 //! LIST replies (RFC 9051, section 7.3.1), written anew.
 
-ghost use Rattle.std.specs.Prelude.{IfOk, IfSome};
+ghost use Rattle.std.specs.Prelude.{◌≡◌, true, codes, IfOk, IfSome, OnOk};
+ghost use Rattle.std.specs.List.{list_all};
+ghost use Rattle.wire_strings.specs.Texts.{is_text};
+ghost use Rattle.wire_tokens.specs.Writing.{Extended};
+ghost use Rattle.link_face.specs.Heads.{BeginsWith};
 ghost use Rattle.link_face.specs.Listing.{IsNearName};
 
 use crate::head::after_space;
@@ -42,20 +46,31 @@ impl<'a> Listed<'a> {
     /// The reply with the name quoted, in modified UTF-7. None: nothing can be selected there, or the name is not handed out.
     ///
     /// `AllocError`: memory ran out.
-    pub(crate) fn written(&self, alloc: Global) -> Result<Option<Vec<u8>>, AllocError> {
+    #[tactic(auto, using(crate::proofs::Extending::list_begun))]
+    pub(crate) fn written(&self, alloc: Global) -> Result<Option<Vec<u8>>, AllocError>
+        ensures { IfOk result (λ found. IfSome found (λ out. BeginsWith (codes "* LIST") out.items)) }
+    {
         if self.is_hidden() {
             return Ok(None);
         }
         let Some(name) = self.near_name(alloc)? else {
             return Ok(None);
         };
-        let mut out = Vec::new(alloc);
-        append(b"* LIST () ", &mut out)?;
-        self.append_delimiter(alloc, &mut out)?;
-        append(b" ", &mut out)?;
-        write_quoted(&name, &mut out)?;
-        append(b"\r\n", &mut out)?;
+        let mut out = Vec::from_slice(alloc, b"* LIST () ")?;
+        self.append_rest(alloc, &name, &mut out)?;
         Ok(Some(out))
+    }
+
+    /// Appends the delimiter, this name, and the line end.
+    #[tactic(auto, using(crate::proofs::Extending::then_appended, crate::proofs::Extending::then_is_if))]
+    fn append_rest(&self, alloc: Global, name: &[u8], out: &mut Vec<u8>) -> Result<(), AllocError>
+        requires { list_all is_text name.now ≡ true }
+        ensures { OnOk result (Extended out.old.items out.new.items) }
+    {
+        self.append_delimiter(alloc, out)?;
+        append(b" ", out)?;
+        write_quoted(name, out)?;
+        append(b"\r\n", out)
     }
 
     /// The name in modified UTF-7. None: it is not UTF-8, has a control character, is empty, or has more than 255 bytes then.
@@ -95,7 +110,10 @@ impl<'a> Listed<'a> {
             .any(|attribute| hides(attribute))
     }
 
-    fn append_delimiter(&self, alloc: Global, out: &mut Vec<u8>) -> Result<(), AllocError> {
+    #[tactic(auto, using(crate::proofs::Extending::appended_extends_if))]
+    fn append_delimiter(&self, alloc: Global, out: &mut Vec<u8>) -> Result<(), AllocError>
+        ensures { OnOk result (Extended out.old.items out.new.items) }
+    {
         match self.delimiter {
             Token::Quoted(_) => {
                 let delimiter = self.delimiter.value(alloc)?;

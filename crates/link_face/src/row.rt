@@ -1,5 +1,9 @@
 //! FETCH replies (RFC 9051, section 7.5.2), written anew.
 
+ghost use Rattle.std.specs.Prelude.{◌≡◌, ◌++◌, codes, IfOk, IfSome, OnOk};
+ghost use Rattle.wire_tokens.specs.Writing.{Extended};
+ghost use Rattle.link_face.specs.Heads.{BeginsWith};
+
 use crate::flag_words::append_flags;
 use crate::head::after_space;
 use crate::token::{Token, number_of, read_list, read_token, skip_value};
@@ -71,18 +75,18 @@ impl<'a> FetchRow<'a> {
     /// The reply to one of the commands of a client that has these items, or none where some are missing.
     ///
     /// `AllocError`: memory ran out.
+    #[tactic(auto, using(crate::proofs::Extending::row_begun))]
     pub(crate) fn written(
         &self,
         alloc: Global,
         number: &[u8],
-    ) -> Result<Option<Vec<u8>>, AllocError> {
+    ) -> Result<Option<Vec<u8>>, AllocError>
+        ensures { IfOk result (λ found. IfSome found (λ out. BeginsWith (codes "* " ++ (number.now ++ codes " FETCH")) out.items)) }
+    {
         let Some(uid) = number_at(self.uid) else {
             return Ok(None);
         };
-        let mut out = Vec::new(alloc);
-        append(b"* ", &mut out)?;
-        append(number, &mut out)?;
-        append(b" FETCH (UID ", &mut out)?;
+        let mut out = begun(alloc, number)?;
         write_number(uid, &mut out)?;
         let is_whole = self.append_items(alloc, &mut out)?;
         append(b")\r\n", &mut out)?;
@@ -90,7 +94,10 @@ impl<'a> FetchRow<'a> {
     }
 
     /// Appends the items after UID, and returns whether these are all that one of the commands asks for.
-    fn append_items(&self, alloc: Global, out: &mut Vec<u8>) -> Result<bool, AllocError> {
+    #[tactic(auto, using(crate::proofs::Extending::is_extends, crate::proofs::Extending::then_extended))]
+    fn append_items(&self, alloc: Global, out: &mut Vec<u8>) -> Result<bool, AllocError>
+        ensures { OnOk result (Extended out.old.items out.new.items) }
+    {
         if let Some(body) = self.body {
             append(b" BODY[] ", out)?;
             append_octets(alloc, body, out)?;
@@ -105,7 +112,10 @@ impl<'a> FetchRow<'a> {
     }
 
     /// Appends the items of a listing, and returns whether both are there.
-    fn append_listing(&self, out: &mut Vec<u8>) -> Result<bool, AllocError> {
+    #[tactic(auto, using(crate::proofs::Extending::unextended, crate::proofs::Extending::is_extends, crate::proofs::Extending::then_extended, crate::proofs::Extending::then_is, crate::proofs::Extending::then_appended))]
+    fn append_listing(&self, out: &mut Vec<u8>) -> Result<bool, AllocError>
+        ensures { OnOk result (Extended out.old.items out.new.items) }
+    {
         let (Some(words), Some(size)) = (self.flags, number_at(self.size)) else {
             return Ok(false);
         };
@@ -118,6 +128,16 @@ impl<'a> FetchRow<'a> {
         write_number(size, out)?;
         Ok(true)
     }
+}
+
+/// The number of a row, FETCH, and the begin of its items.
+fn begun(alloc: Global, number: &[u8]) -> Result<Vec<u8>, AllocError>
+    ensures { IfOk result (λ out. out.items ≡ codes "* " ++ (number.now ++ codes " FETCH (UID ")) }
+{
+    let mut out = Vec::from_slice(alloc, b"* ")?;
+    out.extend_from_slice(number)?;
+    out.extend_from_slice(b" FETCH (UID ")?;
+    Ok(out)
 }
 
 /// The number that is the value of an item.
@@ -147,7 +167,10 @@ fn name_length(bytes: &[u8]) -> Option<usize> {
 }
 
 /// Appends the string at the front as a literal; NIL where there is none, or it has an octet that is 0 (RFC 9051, section 4.3.1).
-fn append_octets(alloc: Global, bytes: &[u8], out: &mut Vec<u8>) -> Result<(), AllocError> {
+#[tactic(auto, using(crate::proofs::Extending::appended_extends_if))]
+fn append_octets(alloc: Global, bytes: &[u8], out: &mut Vec<u8>) -> Result<(), AllocError>
+    ensures { OnOk result (Extended out.old.items out.new.items) }
+{
     let Some((token, _)) = read_token(bytes) else {
         return append(b"NIL", out);
     };

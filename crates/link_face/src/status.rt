@@ -1,5 +1,9 @@
 //! Status responses (RFC 9051, section 7.1), written anew.
 
+ghost use Rattle.std.specs.Prelude.{◌≡◌, ◌++◌, ◌∷◌, [], IfOk, OnOk};
+ghost use Rattle.wire_tokens.specs.Writing.{Extended};
+ghost use Rattle.link_face.specs.Heads.{BeginsWith};
+
 use crate::flag_words::append_permanent_flags;
 use crate::head::{StatusLine, after_space};
 use crate::token::read_list;
@@ -19,22 +23,22 @@ impl<'a> StatusLine<'a> {
     /// The response with its code, if it has one, and a text of bytes that may stand there.
     ///
     /// `AllocError`: memory ran out.
-    pub(crate) fn with_code(&self, alloc: Global) -> Result<Vec<u8>, AllocError> {
+    #[tactic(auto, using(crate::proofs::Extending::begun_text))]
+    pub(crate) fn with_code(&self, alloc: Global) -> Result<Vec<u8>, AllocError>
+        ensures { IfOk result (λ out. BeginsWith (self.now.tag.now ++ 32 ∷ self.now.word.now) out.items) }
+    {
         let mut out = self.begun(alloc)?;
-        match split_code(self.text.trim_ascii_start()) {
-            Some(coded) => {
-                append_code(coded.code, &mut out)?;
-                append_text(coded.text, &mut out)?;
-            }
-            None => append_plain(self.text, &mut out)?,
-        }
+        append_coded(self.text, &mut out)?;
         Ok(out)
     }
 
     /// The response without its code.
     ///
     /// `AllocError`: memory ran out.
-    pub(crate) fn without_code(&self, alloc: Global) -> Result<Vec<u8>, AllocError> {
+    #[tactic(auto, using(crate::proofs::Extending::begun_text))]
+    pub(crate) fn without_code(&self, alloc: Global) -> Result<Vec<u8>, AllocError>
+        ensures { IfOk result (λ out. BeginsWith (self.now.tag.now ++ 32 ∷ self.now.word.now) out.items) }
+    {
         let mut out = self.begun(alloc)?;
         let text = match split_code(self.text.trim_ascii_start()) {
             Some(coded) => coded.text,
@@ -45,12 +49,13 @@ impl<'a> StatusLine<'a> {
     }
 
     /// The tag and the word, and the space after each.
-    fn begun(&self, alloc: Global) -> Result<Vec<u8>, AllocError> {
-        let mut out = Vec::new(alloc);
-        append(self.tag, &mut out)?;
-        append(b" ", &mut out)?;
-        append(self.word, &mut out)?;
-        append(b" ", &mut out)?;
+    fn begun(&self, alloc: Global) -> Result<Vec<u8>, AllocError>
+        ensures { IfOk result (λ out. out.items ≡ self.now.tag.now ++ 32 ∷ (self.now.word.now ++ 32 ∷ [])) }
+    {
+        let mut out = Vec::from_slice(alloc, self.tag)?;
+        out.extend_from_slice(b" ")?;
+        out.extend_from_slice(self.word)?;
+        out.extend_from_slice(b" ")?;
         Ok(out)
     }
 }
@@ -78,21 +83,42 @@ fn permanent_flags(text: &[u8]) -> Option<(&[u8], &[u8])> {
     }
 }
 
+/// Appends a text with its code, if it has one, and the line end.
+#[tactic(auto, using(crate::proofs::Extending::then_extended_if))]
+fn append_coded(text: &[u8], out: &mut Vec<u8>) -> Result<(), AllocError>
+    ensures { OnOk result (Extended out.old.items out.new.items) }
+{
+    match split_code(text.trim_ascii_start()) {
+        Some(coded) => {
+            append_code(coded.code, out)?;
+            append_text(coded.text, out)
+        }
+        None => append_plain(text, out),
+    }
+}
+
 /// Appends a code and a space: of PERMANENTFLAGS those words that are flags, and `\*`.
-fn append_code(code: &[u8], out: &mut Vec<u8>) -> Result<(), AllocError> {
+#[tactic(auto, using(crate::proofs::Extending::is_extends, crate::proofs::Extending::then_extended, crate::proofs::Extending::then_is_if))]
+fn append_code(code: &[u8], out: &mut Vec<u8>) -> Result<(), AllocError>
+    ensures { OnOk result (Extended out.old.items out.new.items) }
+{
     match permanent_flags(code) {
         Some((words, _)) => {
             append(b"[PERMANENTFLAGS ", out)?;
             append_permanent_flags(words, out)?;
-            append(b"]", out)?;
+            append(b"] ", out)
         }
-        None => append(code, out)?,
+        None => {
+            append(code, out)?;
+            append(b" ", out)
+        }
     }
-    append(b" ", out)
 }
 
 /// Appends a text that begins with no `[`, and the line end.
-fn append_plain(text: &[u8], out: &mut Vec<u8>) -> Result<(), AllocError> {
+fn append_plain(text: &[u8], out: &mut Vec<u8>) -> Result<(), AllocError>
+    ensures { OnOk result (Extended out.old.items out.new.items) }
+{
     match text.iter().position(|b| *b > b' ' && *b != b'[') {
         Some(begin) => append_text(text.get(begin..).unwrap_or(b""), out),
         None => append_text(b"", out),
@@ -100,13 +126,25 @@ fn append_plain(text: &[u8], out: &mut Vec<u8>) -> Result<(), AllocError> {
 }
 
 /// Appends a text, with a space for each byte that may not stand there, or `-` for none, and the line end.
-fn append_text(text: &[u8], out: &mut Vec<u8>) -> Result<(), AllocError> {
+#[tactic(auto, using(crate::proofs::Extending::is_extends_if, crate::proofs::Extending::then_is_if))]
+fn append_text(text: &[u8], out: &mut Vec<u8>) -> Result<(), AllocError>
+    ensures { OnOk result (Extended out.old.items out.new.items) }
+{
     let text = text.trim_ascii();
     if text.is_empty() {
-        append(b"-", out)?;
+        return append(b"-\r\n", out);
     }
+    append_shown(text, out)?;
+    append(b"\r\n", out)
+}
+
+/// Appends bytes, with a space for each that may not stand in a text.
+#[tactic(auto, using(crate::proofs::Extending::unextended, crate::proofs::Extending::pushed_extends))]
+fn append_shown(text: &[u8], out: &mut Vec<u8>) -> Result<(), AllocError>
+    ensures { OnOk result (Extended out.old.items out.new.items) }
+{
     for b in text {
         out.push(if is_text(*b) { *b } else { b' ' })?;
     }
-    append(b"\r\n", out)
+    Ok(())
 }

@@ -1,12 +1,13 @@
 //! What a client hears of a reply.
 
-ghost use Rattle.std.specs.Prelude.{◌≡◌, ◌≤◌, true, None, Some, IfOk, IfSome, IsErr};
+ghost use Rattle.std.specs.Prelude.{◌≡◌, ◌≢◌, ◌≤◌, ◌++◌, ◌∷◌, codes, true, None, Some, IfOk, IfSome, IsErr};
 ghost use Rattle.wire_reader.specs.Lexical.{outside};
 ghost use Rattle.imap_replies.specs.declared.reply.Reply.{Reply};
 ghost use Rattle.imap_replies.specs.Replies.{ReplyText};
 ghost use Rattle.link_face.specs.declared.turning.Turn.TheVariants.{Keep};
 ghost use Rattle.link_face.specs.Faces.{IsSpelled, Turns, IsHeard};
 ghost use Rattle.wire_reader.specs.declared.answer.WireFault.TheVariants.{NoMemory};
+ghost use Rattle.link_face.specs.Heads.{BeginsWith, GivesSome, HasEvent, HasFront, IsTagged, KeepsWords};
 ghost use Rattle.link_face.specs.Hearing.{IsPassed, whole_in};
 
 use crate::head::{ReplyHead, StatusLine, head_of};
@@ -33,12 +34,15 @@ pub enum Turn {
 }
 
 /// What a client hears of this reply. It is a reply of the profile, whatever the server sent. One that the server of the profile
-/// says passes byte for byte (`laws::the_profile_is_heard`).
+/// says passes byte for byte (`laws::the_profile_is_heard`). Another begins with the words of what the server sent: the tag, the word of
+/// a status, so that a NO is never an OK, a number and its event. A tagged reply is never left out.
 ///
 /// `AllocError`: memory ran out.
 pub fn turned(alloc: Global, raw: &[u8]) -> Result<Turn, AllocError>
     ensures turns { IfOk result (λ turn. Turns raw.now turn) }
     ensures passes { IsPassed raw.now → IfOk result (λ turn. turn ≡ Keep) }
+    ensures word { IfOk result (KeepsWords raw.now) }
+    ensures tagged { IsTagged raw.now → IfOk result (λ turn. turn ≢ Turn.Omit) }
 {
     if is_kept(alloc, raw)? {
         Ok(Turn::Keep)
@@ -92,55 +96,79 @@ fn no_reply<'a>(fault: WireFault) -> Result<Option<Reply<'a>>, AllocError>
 }
 
 /// What a client hears instead of this reply.
+#[tactic(auto, using(crate::proofs::TurnLemmas::asking_kept, crate::proofs::TurnLemmas::status_kept, crate::proofs::TurnLemmas::untagged_kept, crate::proofs::TurnLemmas::numbered_kept, crate::proofs::TurnLemmas::no_star, crate::proofs::TurnLemmas::no_other))]
 fn rewritten(alloc: Global, raw: &[u8]) -> Result<Turn, AllocError>
-    ensures { IfOk result IsHeard }
+    ensures heard { IfOk result IsHeard }
+    ensures word { IfOk result (KeepsWords raw.now) }
+    ensures tagged { IsTagged raw.now → IfOk result (λ turn. turn ≢ Turn.Omit) }
 {
-    let text = match head_of(raw) {
-        ReplyHead::Continue => Some(Vec::from_slice(alloc, b"+ go\r\n")?),
-        ReplyHead::Status(status) => return with_status(alloc, status),
-        ReplyHead::Names(word, rest) => Some(names_line(alloc, word, rest)?),
-        ReplyHead::List(rest) => match Listed::read(rest) {
-            Some(listed) => listed.written(alloc)?,
-            None => None,
-        },
-        ReplyHead::Flags(rest) => flags_line(alloc, rest)?,
-        ReplyHead::Numbered(number, event, rest) => return numbered(alloc, number, event, rest),
-        ReplyHead::Other => None,
-        ReplyHead::NoReply => return Ok(Turn::Stop),
-    };
-    replaced(alloc, text)
+    match head_of(raw) {
+        ReplyHead::Continue => reported(alloc, Vec::from_slice(alloc, b"+ go\r\n")?),
+        ReplyHead::Status(status) => with_status(alloc, status),
+        ReplyHead::Names(word, rest) => replaced(alloc, Some(names_line(alloc, word, rest)?)),
+        ReplyHead::List(rest) => replaced(alloc, list_line(alloc, rest)?),
+        ReplyHead::Flags(rest) => replaced(alloc, flags_line(alloc, rest)?),
+        ReplyHead::Numbered(number, event, rest) => numbered(alloc, number, event, rest),
+        ReplyHead::Other => Ok(Turn::Omit),
+        ReplyHead::NoReply => Ok(Turn::Stop),
+    }
 }
 
-/// What a client hears of a status response: with its code, if that can be.
+/// What a client hears of a status response: with its code, if that can be. It is never left out.
+#[tactic(auto, using(crate::proofs::TurnLemmas::bytes_given_if))]
 fn with_status(alloc: Global, status: StatusLine<'_>) -> Result<Turn, AllocError>
-    ensures { IfOk result IsHeard }
+    ensures heard { IfOk result IsHeard }
+    ensures word { IfOk result (HasFront (status.entry.tag.now ++ 32 ∷ status.entry.word.now)) }
+    ensures never { IfOk result (λ turn. turn ≢ Turn.Omit) }
 {
-    match replaced(alloc, Some(status.with_code(alloc)?))? {
+    match reported(alloc, status.with_code(alloc)?)? {
         Turn::Replace(bytes) => Ok(Turn::Replace(bytes)),
-        _ => replaced(alloc, Some(status.without_code(alloc)?)),
+        _ => reported(alloc, status.without_code(alloc)?),
+    }
+}
+
+/// What a client hears of a LIST reply.
+fn list_line(alloc: Global, rest: &[u8]) -> Result<Option<Vec<u8>>, AllocError>
+    ensures { IfOk result (λ found. IfSome found (λ out. BeginsWith (codes "* LIST") out.items)) }
+{
+    match Listed::read(rest) {
+        Some(listed) => listed.written(alloc),
+        None => Ok(None),
     }
 }
 
 /// What a client hears of a reply with a number.
+#[tactic(auto, using(crate::proofs::TurnLemmas::event_given, crate::proofs::TurnLemmas::fetch_given))]
 fn numbered(alloc: Global, number: &[u8], event: &[u8], rest: &[u8]) -> Result<Turn, AllocError>
-    ensures { IfOk result IsHeard }
+    ensures heard { IfOk result IsHeard }
+    ensures word { IfOk result (HasEvent number.now event.now) }
 {
     if !event.eq_ignore_ascii_case(b"FETCH") {
         return replaced(alloc, counted(alloc, number, event, rest)?);
     }
     match FetchRow::read(rest) {
-        Some(row) => reported(alloc, row.written(alloc, number)?),
+        Some(row) => row_of(alloc, row.written(alloc, number)?),
         None => Ok(Turn::Stop),
     }
 }
 
-/// What a client hears of this text, which is about a message. A text that is no reply is never left out: the connection is given up.
-fn reported(alloc: Global, text: Option<Vec<u8>>) -> Result<Turn, AllocError>
-    ensures { IfOk result IsHeard }
+/// What a client hears of this row, if it has the items of a command. A text that is no reply is never left out: the connection is given up.
+fn row_of(alloc: Global, text: Option<Vec<u8>>) -> Result<Turn, AllocError>
+    ensures heard { IfOk result IsHeard }
+    ensures same { IfOk result (GivesSome text) }
 {
-    let Some(bytes) = text else {
-        return Ok(Turn::Omit);
-    };
+    match text {
+        Some(bytes) => reported(alloc, bytes),
+        None => Ok(Turn::Omit),
+    }
+}
+
+/// What a client hears of this text, which is about a message or a command. If it is no reply, the connection is given up.
+fn reported(alloc: Global, bytes: Vec<u8>) -> Result<Turn, AllocError>
+    ensures heard { IfOk result IsHeard }
+    ensures same { IfOk result (GivesSome (Some bytes)) }
+    ensures never { IfOk result (λ turn. turn ≢ Turn.Omit) }
+{
     if is_reply(alloc, &bytes)? {
         Ok(Turn::Replace(bytes))
     } else {
@@ -150,7 +178,8 @@ fn reported(alloc: Global, text: Option<Vec<u8>>) -> Result<Turn, AllocError>
 
 /// This text as what a client hears, if it is a reply.
 fn replaced(alloc: Global, text: Option<Vec<u8>>) -> Result<Turn, AllocError>
-    ensures { IfOk result IsHeard }
+    ensures heard { IfOk result IsHeard }
+    ensures same { IfOk result (GivesSome text) }
 {
     let Some(bytes) = text else {
         return Ok(Turn::Omit);

@@ -1,0 +1,12 @@
+use Rattle.std.proofs.Common.{Some}
+use Rattle.link_face.proofs.TurnLemmas.{status_kept, untagged_kept}
+use Rattle.link_face.proofs.turning.rewritten.Goals as goal
+
+pub returns-in-Status-clause-word : goal.returns-in-Status-clause-word
+returns-in-Status-clause-word c =
+    status_kept c.args.raw.now c.in-Status.status.tag.now c.in-Status.status.word.now c.with_status.result c.in-Status.ensures c.with_status.ensures.word
+
+pub returns-in_ok-names_line-in-Names-clause-word : goal.returns-in_ok-names_line-in-Names-clause-word
+returns-in_ok-names_line-in-Names-clause-word c =
+    untagged_kept c.args.raw.now c.in-Names.word.now (Some c.in_ok-names_line-in-Names.field-0) c.replaced.result c.in-Names.ensures c.in_ok-names_line-in-Names.ensures
+    c.replaced.ensures.same
