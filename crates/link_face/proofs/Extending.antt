@@ -86,10 +86,3 @@ counted_begun number event new e = record {
   parts = e ∙ sym (append_assoc (codes "* ") (number ++ 32 ∷ event) crlf ∙ ap (λ (l : List ℕ). codes "* " ++ l) (append_assoc number (32 ∷ event) crlf));
   ends = refl;
 }
-
-pub row_begun : (number old first mid new : List ℕ) (P : List ℕ → Type 0) → old ≡ codes "* " ++ (number ++ codes " FETCH (UID ") → Appended P old first → Extended first mid
-    → Appended (Is (codes ")\r\n")) mid new → BeginsWith (codes "* " ++ (number ++ codes " FETCH")) new
-row_begun number old first mid new P o a e b =
-    begun_extends (codes "* " ++ (number ++ codes " FETCH")) (codes "(UID ") old new
-    (o ∙ sym (append_assoc (codes "* ") (number ++ codes " FETCH") (codes " (UID ") ∙ ap (λ (l : List ℕ). codes "* " ++ l) (append_assoc number (codes " FETCH") (codes " (UID "))))
-    (extended_twice old first new (record { text = a.text; parts = a.parts; spelled = tt }) (then_is (codes ")\r\n") first mid new e b))

@@ -15,3 +15,4 @@ pub mod ChunkLemmas
 pub mod HeadLemmas
 pub mod Extending
 pub mod TurnLemmas
+pub mod RowLemmas

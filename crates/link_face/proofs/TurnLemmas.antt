@@ -5,7 +5,7 @@ use Rattle.std.specs.Char.{to_ascii_lowercase}
 use Rattle.std.specs.declared.alloc.AllocError.{AllocError}
 use Rattle.link_face.specs.declared.turning.Turn.{Turn}
 use Rattle.link_face.specs.declared.turning.Turn.TheVariants.{Keep, Replace, Omit, Stop}
-use Rattle.link_face.specs.Heads.{first_word, asks, SameWord, BeginsAs, BeginsWith, KeepsWords, IsTagged, IsUntagged, IsStatus, IsNumbered, GivesSome, HasFront, HasEvent}
+use Rattle.link_face.specs.Heads.{first_word, asks, SameWord, BeginsAs, BeginsWith, KeepsWords, IsBack, IsTagged, IsUntagged, IsStatus, IsNumbered, GivesSome, HasFront, HasEvent}
 use Rattle.link_face.proofs.HeadLemmas.{untagged_same, status_same, numbered_same}
 
 some_is : (x y : Vec ℕ Global) → Some x ≡ Some y → x ≡ y
@@ -61,9 +61,9 @@ numbered raw number event word (Replace bytes) h s f = numbered_same raw bytes.i
 numbered raw number event word Omit h s f = tt
 numbered raw number event word Stop h s f = tt
 
-pub numbered_kept : (raw number event : List ℕ) (result : Result Turn AllocError) → IsNumbered raw number event → IfOk result (HasEvent number event) → IfOk result (KeepsWords raw)
-numbered_kept raw number event (Ok turn) h f = numbered raw number event f.0 turn h f.1 f.2
-numbered_kept raw number event (Err e) h f = tt
+pub numbered_kept : (raw number event items : List ℕ) (result : Result Turn AllocError) → IsNumbered raw number event × IsBack raw items → IfOk result (HasEvent number event) → IfOk result (KeepsWords raw)
+numbered_kept raw number event items (Ok turn) h f = numbered raw number event f.0 turn h.0 f.1 f.2
+numbered_kept raw number event items (Err e) h f = tt
 
 asking : (raw : List ℕ) (out : Vec ℕ Global) (turn : Turn) → asks raw ≡ true → out.items ≡ codes "+ go\r\n" → GivesSome (Some out) turn → KeepsWords raw turn
 asking raw out Keep a e g = tt

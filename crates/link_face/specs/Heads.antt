@@ -93,6 +93,11 @@ pub record IsStatus (raw tag word : List ℕ) : Type 0 where
   pub second : word ≡ second_word raw
   pub no_number : is_number (second_word raw) ≡ false
 
+-- these bytes end so
+pub record IsBack (bytes back : List ℕ) : Type 0 where
+  pub front : List ℕ
+  pub parts : bytes ≡ front ++ back
+
 pub record IsNumbered (raw number event : List ℕ) : Type 0 where
   pub star : first_word raw ≡ codes "*"
   pub second : number ≡ second_word raw
@@ -105,7 +110,7 @@ HeadIs raw (Status s) = IsStatus raw s.tag.now s.word.now
 HeadIs raw (Names word rest) = IsUntagged raw word.now
 HeadIs raw (Listed rest) = IsUntagged raw (codes "LIST")
 HeadIs raw (Flags rest) = IsUntagged raw (codes "FLAGS")
-HeadIs raw (Numbered number event rest) = IsNumbered raw number.now event.now
+HeadIs raw (Numbered number event rest) = IsNumbered raw number.now event.now × IsBack raw rest.now
 HeadIs raw Other = (first_word raw ≡ codes "*") ⊎ (first_word raw ≡ [])
 HeadIs raw NoReply = Unit {0}
 

@@ -9,4 +9,5 @@ pub mod Names
 pub mod Profile
 pub mod Reading
 pub mod Rooms
+pub mod Rows
 pub mod Turning

@@ -1,11 +1,14 @@
 //! FETCH replies (RFC 9051, section 7.5.2), written anew.
 
-ghost use Rattle.std.specs.Prelude.{◌≡◌, ◌++◌, codes, IfOk, IfSome, OnOk};
+ghost use Rattle.std.specs.Prelude.{◌≡◌, ◌<◌, ◌++◌, ◌∷◌, [], ℕ, List, true, not, codes, length, IfOk, IfSome, OnOk};
 ghost use Rattle.wire_tokens.specs.Writing.{Extended};
-ghost use Rattle.link_face.specs.Heads.{BeginsWith};
+ghost use Rattle.std.specs.Char.{is_ascii_digit};
+ghost use Rattle.std.specs.List.{position_from};
+ghost use Rattle.link_face.specs.Heads.{is_number, IsBack};
+ghost use Rattle.link_face.specs.Rows.{digits_of, HasUid, IsRowOf, IsUidIn};
 
 use crate::flag_words::append_flags;
-use crate::head::after_space;
+use crate::head::{after_space, is_digit, is_number};
 use crate::token::{Token, number_of, read_list, read_token, skip_value};
 use memchr::memchr;
 use std::alloc::{AllocError, Global};
@@ -26,7 +29,9 @@ pub(crate) struct FetchRow<'a> {
 
 impl<'a> FetchRow<'a> {
     /// The items that follow FETCH. None: these are none of RFC 9051.
-    pub(crate) fn read(bytes: &'a [u8]) -> Option<FetchRow<'a>> {
+    pub(crate) fn read(bytes: &'a [u8]) -> Option<FetchRow<'a>>
+        ensures { IfSome result (IsRowOf bytes.now) }
+    {
         let items = bytes.strip_prefix(b" (")?;
         let mut row = FetchRow {
             uid: None,
@@ -48,22 +53,19 @@ impl<'a> FetchRow<'a> {
     }
 
     /// Takes in the item of this name, if it is the first one of a name that commands ask for.
-    fn take(&mut self, name: &[u8], value: &'a [u8]) {
-        let place = if name.eq_ignore_ascii_case(b"UID") {
-            &mut self.uid
+    fn take(&mut self, name: &[u8], value: &'a [u8])
+        ensures { (bytes : List ℕ) → IsRowOf bytes self.old → IsBack bytes (name.now ++ 32 ∷ value.now) → IsRowOf bytes self.new }
+    {
+        if name.eq_ignore_ascii_case(b"UID") {
+            self.uid = self.uid.or(Some(value));
         } else if name.eq_ignore_ascii_case(b"FLAGS") {
-            &mut self.flags
+            self.flags = self.flags.or(Some(value));
         } else if name.eq_ignore_ascii_case(b"RFC822.SIZE") {
-            &mut self.size
+            self.size = self.size.or(Some(value));
         } else if name.eq_ignore_ascii_case(b"BODY[]") {
-            &mut self.body
+            self.body = self.body.or(Some(value));
         } else if name.eq_ignore_ascii_case(b"BODY[]<0>") {
-            &mut self.head
-        } else {
-            return;
-        };
-        if place.is_none() {
-            *place = Some(value);
+            self.head = self.head.or(Some(value));
         }
     }
 
@@ -75,22 +77,28 @@ impl<'a> FetchRow<'a> {
     /// The reply to one of the commands of a client that has these items, or none where some are missing.
     ///
     /// `AllocError`: memory ran out.
-    #[tactic(auto, using(crate::proofs::Extending::row_begun))]
+    #[tactic(auto, using(crate::proofs::RowLemmas::row_uid))]
     pub(crate) fn written(
         &self,
         alloc: Global,
         number: &[u8],
     ) -> Result<Option<Vec<u8>>, AllocError>
-        ensures { IfOk result (λ found. IfSome found (λ out. BeginsWith (codes "* " ++ (number.now ++ codes " FETCH")) out.items)) }
+        ensures { (bytes : List ℕ) → IsRowOf bytes self.now → IfOk result (λ found. IfSome found (λ out. HasUid bytes number.now out.items)) }
     {
-        let Some(uid) = number_at(self.uid) else {
+        let Some(uid) = self.uid_digits() else {
             return Ok(None);
         };
-        let mut out = begun(alloc, number)?;
-        write_number(uid, &mut out)?;
+        let mut out = begun(alloc, number, uid)?;
         let is_whole = self.append_items(alloc, &mut out)?;
         append(b")\r\n", &mut out)?;
         Ok(if is_whole { Some(out) } else { None })
+    }
+
+    /// The digits of the UID.
+    fn uid_digits(&self) -> Option<&'a [u8]>
+        ensures { (bytes : List ℕ) → IsRowOf bytes self.now → IfSome result (λ digits. IsUidIn bytes digits.now) }
+    {
+        digits_at(self.uid?)
     }
 
     /// Appends the items after UID, and returns whether these are all that one of the commands asks for.
@@ -99,12 +107,12 @@ impl<'a> FetchRow<'a> {
         ensures { OnOk result (Extended out.old.items out.new.items) }
     {
         if let Some(body) = self.body {
-            append(b" BODY[] ", out)?;
+            append(b"BODY[] ", out)?;
             append_octets(alloc, body, out)?;
             return Ok(true);
         }
         if let Some(head) = self.head {
-            append(b" BODY[]<0> ", out)?;
+            append(b"BODY[]<0> ", out)?;
             append_octets(alloc, head, out)?;
             return Ok(true);
         }
@@ -122,7 +130,7 @@ impl<'a> FetchRow<'a> {
         let Some((words, _)) = read_list(words) else {
             return Ok(false);
         };
-        append(b" FLAGS ", out)?;
+        append(b"FLAGS ", out)?;
         append_flags(words, out)?;
         append(b" RFC822.SIZE ", out)?;
         write_number(size, out)?;
@@ -130,14 +138,46 @@ impl<'a> FetchRow<'a> {
     }
 }
 
-/// The number of a row, FETCH, and the begin of its items.
-fn begun(alloc: Global, number: &[u8]) -> Result<Vec<u8>, AllocError>
+/// The number of a row, FETCH, and the name of its first item.
+fn front(alloc: Global, number: &[u8]) -> Result<Vec<u8>, AllocError>
     ensures { IfOk result (λ out. out.items ≡ codes "* " ++ (number.now ++ codes " FETCH (UID ")) }
 {
     let mut out = Vec::from_slice(alloc, b"* ")?;
     out.extend_from_slice(number)?;
     out.extend_from_slice(b" FETCH (UID ")?;
     Ok(out)
+}
+
+/// The number of a row, FETCH, and the first of its items: a UID in these digits.
+#[tactic(auto, using(crate::proofs::RowLemmas::front_uid))]
+fn begun(alloc: Global, number: &[u8], uid: &[u8]) -> Result<Vec<u8>, AllocError>
+    ensures { IfOk result (λ out. out.items ≡ codes "* " ++ (number.now ++ (codes " FETCH (UID " ++ (uid.now ++ 32 ∷ [])))) }
+{
+    let mut out = front(alloc, number)?;
+    out.extend_from_slice(uid)?;
+    out.extend_from_slice(b" ")?;
+    Ok(out)
+}
+
+/// The digits that are the value at the front, if a space or a bracket follows them.
+fn digits_at(value: &[u8]) -> Option<&[u8]>
+    ensures { IfSome result (λ digits. (digits.now ≡ digits_of value.now) × (is_number digits.now ≡ true)) }
+{
+    let len = first_other(value).unwrap_or(value.len());
+    let (digits, rest) = value.split_at(len);
+    if is_number(digits) && matches!(rest, [b' ' | b')', ..]) {
+        Some(digits)
+    } else {
+        None
+    }
+}
+
+/// Where the first byte is that is no digit.
+fn first_other(value: &[u8]) -> Option<usize>
+    ensures place { result ≡ position_from (λ b. not (is_ascii_digit b)) 0 value.now }
+    ensures within { IfSome result (λ place. place < length value.now) }
+{
+    value.iter().position(|b| !is_digit(*b))
 }
 
 /// The number that is the value of an item.
@@ -149,7 +189,9 @@ fn number_at(value: Option<&[u8]>) -> Option<u32> {
 }
 
 /// Reads the name of an item, and the space after it; a section in brackets may hold spaces and brackets.
-fn read_name(bytes: &[u8]) -> Option<(&[u8], &[u8])> {
+fn read_name(bytes: &[u8]) -> Option<(&[u8], &[u8])>
+    ensures { IfSome result (λ parts. bytes.now ≡ parts.0.now ++ 32 ∷ parts.1.now) }
+{
     let end = name_length(bytes)?;
     let (name, rest) = bytes.split_at_checked(end)?;
     Some((name, rest.strip_prefix(b" ")?))

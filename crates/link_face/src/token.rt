@@ -1,5 +1,8 @@
 //! The tokens of replies, as servers may write them (RFC 9051, sections 4 and 9).
 
+ghost use Rattle.std.specs.Prelude.{IfSome};
+ghost use Rattle.link_face.specs.Heads.{IsBack};
+
 use crate::head::is_number;
 use memchr::memchr;
 use std::alloc::{AllocError, Global};
@@ -55,14 +58,24 @@ pub(crate) fn read_token(bytes: &[u8]) -> Option<(Token<'_>, &[u8])> {
 }
 
 /// Skips the value at the front, which may be a list of others; gives the bytes after it. None: it does not end.
-pub(crate) fn skip_value(bytes: &[u8]) -> Option<&[u8]> {
+pub(crate) fn skip_value(bytes: &[u8]) -> Option<&[u8]>
+    ensures { IfSome result (λ rest. IsBack bytes.now rest.now) }
+{
+    let (_, rest) = bytes.split_at_checked(value_length(bytes)?)?;
+    Some(rest)
+}
+
+/// How many bytes the value at the front has.
+fn value_length(bytes: &[u8]) -> Option<usize> {
     let mut depth = 0u32;
     let mut rest = bytes;
     for _ in 0..bytes.len() {
         let (token, following) = read_token(rest)?;
         match token {
             Token::Open => depth = depth.saturating_add(1),
-            Token::Close | Token::Space if depth == 0 => return Some(rest),
+            Token::Close | Token::Space if depth == 0 => {
+                return Some(bytes.len().saturating_sub(rest.len()));
+            }
             Token::Close => depth = depth.saturating_sub(1),
             Token::Space | Token::Word(_) | Token::Quoted(_) | Token::Literal(_) => {}
         }

@@ -7,7 +7,8 @@ ghost use Rattle.imap_replies.specs.Replies.{ReplyText};
 ghost use Rattle.link_face.specs.declared.turning.Turn.TheVariants.{Keep};
 ghost use Rattle.link_face.specs.Faces.{IsSpelled, Turns, IsHeard};
 ghost use Rattle.wire_reader.specs.declared.answer.WireFault.TheVariants.{NoMemory};
-ghost use Rattle.link_face.specs.Heads.{BeginsWith, GivesSome, HasEvent, HasFront, IsTagged, KeepsWords};
+ghost use Rattle.link_face.specs.Heads.{second_word, BeginsWith, GivesSome, HasEvent, HasFront, IsTagged, KeepsWords, SameWord};
+ghost use Rattle.link_face.specs.Rows.{IsFetch, KeepsUid};
 ghost use Rattle.link_face.specs.Hearing.{IsPassed, whole_in};
 
 use crate::head::{ReplyHead, StatusLine, head_of};
@@ -35,7 +36,8 @@ pub enum Turn {
 
 /// What a client hears of this reply. It is a reply of the profile, whatever the server sent. One that the server of the profile
 /// says passes byte for byte (`laws::the_profile_is_heard`). Another begins with the words of what the server sent: the tag, the word of
-/// a status, so that a NO is never an OK, a number and its event. A tagged reply is never left out.
+/// a status, so that a NO is never an OK, a number and its event. A tagged reply is never left out, and a row of a message has the UID
+/// that stands in what the server sent.
 ///
 /// `AllocError`: memory ran out.
 pub fn turned(alloc: Global, raw: &[u8]) -> Result<Turn, AllocError>
@@ -43,6 +45,7 @@ pub fn turned(alloc: Global, raw: &[u8]) -> Result<Turn, AllocError>
     ensures passes { IsPassed raw.now → IfOk result (λ turn. turn ≡ Keep) }
     ensures word { IfOk result (KeepsWords raw.now) }
     ensures tagged { IsTagged raw.now → IfOk result (λ turn. turn ≢ Turn.Omit) }
+    ensures uid { IsFetch raw.now → IfOk result (KeepsUid raw.now (second_word raw.now)) }
 {
     if is_kept(alloc, raw)? {
         Ok(Turn::Keep)
@@ -96,11 +99,12 @@ fn no_reply<'a>(fault: WireFault) -> Result<Option<Reply<'a>>, AllocError>
 }
 
 /// What a client hears instead of this reply.
-#[tactic(auto, using(crate::proofs::TurnLemmas::asking_kept, crate::proofs::TurnLemmas::status_kept, crate::proofs::TurnLemmas::untagged_kept, crate::proofs::TurnLemmas::numbered_kept, crate::proofs::TurnLemmas::no_star, crate::proofs::TurnLemmas::no_other))]
+#[tactic(auto, using(crate::proofs::TurnLemmas::asking_kept, crate::proofs::TurnLemmas::status_kept, crate::proofs::TurnLemmas::untagged_kept, crate::proofs::TurnLemmas::numbered_kept, crate::proofs::TurnLemmas::no_star, crate::proofs::TurnLemmas::no_other, crate::proofs::RowLemmas::asking_no_row, crate::proofs::RowLemmas::status_no_row, crate::proofs::RowLemmas::untagged_no_row, crate::proofs::RowLemmas::numbered_uid))]
 fn rewritten(alloc: Global, raw: &[u8]) -> Result<Turn, AllocError>
     ensures heard { IfOk result IsHeard }
     ensures word { IfOk result (KeepsWords raw.now) }
     ensures tagged { IsTagged raw.now → IfOk result (λ turn. turn ≢ Turn.Omit) }
+    ensures uid { IsFetch raw.now → IfOk result (KeepsUid raw.now (second_word raw.now)) }
 {
     match head_of(raw) {
         ReplyHead::Continue => reported(alloc, Vec::from_slice(alloc, b"+ go\r\n")?),
@@ -142,6 +146,7 @@ fn list_line(alloc: Global, rest: &[u8]) -> Result<Option<Vec<u8>>, AllocError>
 fn numbered(alloc: Global, number: &[u8], event: &[u8], rest: &[u8]) -> Result<Turn, AllocError>
     ensures heard { IfOk result IsHeard }
     ensures word { IfOk result (HasEvent number.now event.now) }
+    ensures uid { SameWord event.now (codes "FETCH") → IfOk result (KeepsUid rest.now number.now) }
 {
     if !event.eq_ignore_ascii_case(b"FETCH") {
         return replaced(alloc, counted(alloc, number, event, rest)?);

@@ -1,5 +1,6 @@
 use Rattle.std.proofs.Common.{Some}
 use Rattle.link_face.proofs.TurnLemmas.{status_kept, untagged_kept}
+use Rattle.link_face.proofs.RowLemmas.{numbered_uid}
 use Rattle.link_face.proofs.turning.rewritten.Goals as goal
 
 pub returns-in-Status-clause-word : goal.returns-in-Status-clause-word
@@ -10,3 +11,7 @@ pub returns-in_ok-names_line-in-Names-clause-word : goal.returns-in_ok-names_lin
 returns-in_ok-names_line-in-Names-clause-word c =
     untagged_kept c.args.raw.now c.in-Names.word.now (Some c.in_ok-names_line-in-Names.field-0) c.replaced.result c.in-Names.ensures c.in_ok-names_line-in-Names.ensures
     c.replaced.ensures.same
+
+pub returns-in-Numbered-clause-uid : goal.returns-in-Numbered-clause-uid
+returns-in-Numbered-clause-uid c fetch =
+    numbered_uid c.args.raw.now c.in-Numbered.number.now c.in-Numbered.event.now c.in-Numbered.rest.now c.numbered.result fetch c.in-Numbered.ensures c.numbered.ensures.uid
