@@ -7,3 +7,4 @@ pub mod OrderLemmas
 pub mod ChannelLemmas
 pub mod SearchLemmas
 pub mod LendingLemmas
+pub mod LendLemmas

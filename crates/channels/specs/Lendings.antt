@@ -1,5 +1,5 @@
 -- What is done over a mailbox that was lent.
-use Rattle.std.specs.Prelude.{◌≡◌, ◌⊎◌, ℕ, Bool, List, Option, Result, Ok, Err}
+use Rattle.std.specs.Prelude.{◌≡◌, ◌⊎◌, ℕ, Bool, List, [], ◌∷◌, ◌++◌, Option, Result, Ok, Err}
 use Rattle.rand_core.specs.Stream.{Stream}
 use Rattle.rules.specs.declared.options.Options.{Options}
 use Rattle.rules.specs.declared.state.SyncState.{SyncState}
@@ -8,6 +8,7 @@ use Rattle.book.specs.declared.book.Pending.TheVariants.{Planned}
 use Rattle.book.specs.Books.{Holds}
 use Rattle.outside.specs.declared.outside.Outside.{Ghosts}
 use Rattle.outside.specs.Calls.{Seen}
+use Rattle.outside.specs.Devices.{Device}
 use Rattle.outside.specs.GoingOn.{GoesOn}
 use Rattle.outside.specs.Opened.{Opened}
 use Rattle.run_states.specs.Openings.{Opening}
@@ -19,6 +20,8 @@ use Rattle.runner.specs.Answers.{Inputs}
 use Rattle.runner.specs.Attempts.{AtOpening}
 use Rattle.runner.specs.GivingUp.{GivesUpSo, KeepsBoxes}
 use Rattle.runner.specs.Settled.{CountsFailed, IsSettled, IsUnsettled}
+use Rattle.channels.specs.Asked.{Place}
+use Rattle.channels.specs.declared.store_fault.StoreFault.{StoreFault}
 use Rattle.channels.specs.declared.fault.BoxFailure.{BoxFailure}
 use Rattle.channels.specs.declared.fault.BoxFailure.TheVariants.{AtStep, Refused, Run}
 
@@ -75,6 +78,15 @@ abbrev pub HasRun : (lent : Lent) → Opening lent.ours lent.alone → Options �
 HasRun lent opening options stream result =
     Inputs opening options stream → AtOpening opening lent.old.device → EndsRun lent opening options stream result
 
+-- an opening for each device and for the options of a run
+abbrev pub Choice : Type 0
+Choice = (ours : List ℕ → Bool) (alone : Bool) → Device → Options → Opening ours alone
+
+-- a run under these options was made over it, looked at from the opening that is chosen, with this answer
+abbrev pub HasRunFrom : Choice → Options → Stream → Pass → Lent → Type 0
+HasRunFrom opening options stream pass lent =
+    HasRun lent (opening lent.ours lent.alone lent.old.device options) options stream (Ok pass)
+
 -- ---- of giving up
 
 -- The run over it was given up, if it was unfinished: both mailboxes are as they were, and the files hold what is left of its plan.
@@ -91,3 +103,31 @@ pub record Works {O A : Type 0} (o : Ghosts O) (does : Lent → A → Type 0) (a
   pub before : O
   pub after : O
   pub did : o.honest after → does (lent_by o before after) answer
+
+-- ---- of stores
+
+-- a mailbox that stores lent, by its names
+pub record LentPlace : Type 0 where
+  pub place : Place
+  pub lent : Lent
+
+-- Servers and disks have behaved as specified before if they have done so after, and then no mailbox was lent meanwhile.
+pub record LendsNone {S : Type 0} (honest : S → Type 0) (lent : S → List LentPlace) (old new : S) : Type 0 where
+  pub was_honest : honest new → honest old
+  pub same : honest new → lent new ≡ lent old
+
+-- they have behaved as specified before if they have done so after, and then such mailboxes were lent meanwhile, the last first
+pub record Lends {S : Type 0} (honest : S → Type 0) (lent : S → List LentPlace) (old new : S) (is_such : List LentPlace → Type 0) : Type 0 where
+  pub was_honest : honest new → honest old
+  pub since : honest new → (more : List LentPlace) × (lent new ≡ more ++ lent old) × is_such more
+
+-- this mailbox alone was lent, and so much was done over it
+pub record IsLent (place : Place) (does : Lent → Type 0) (more : List LentPlace) : Type 0 where
+  pub this : Lent
+  pub one : more ≡ record { place = place; lent = this } ∷ []
+  pub done : does this
+
+-- it was lent, and this was done over it, with this answer; or, after a fault, none was lent
+abbrev pub LendsFor : {S A : Type 0} → (honest : S → Type 0) → (lent : S → List LentPlace) → Place → (did : Lent → A → Type 0) → (old new : S) → Result A StoreFault → Type 0
+LendsFor honest lent place did old new (Ok answer) = Lends honest lent old new (IsLent place (λ this. did this answer))
+LendsFor honest lent place did old new (Err fault) = LendsNone honest lent old new

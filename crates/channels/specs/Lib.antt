@@ -17,3 +17,4 @@ pub mod Courses
 pub mod Answered
 pub mod Lendings
 pub mod Causes
+pub mod Settlings

@@ -6,6 +6,7 @@ ghost use Rattle.channels.specs.Asked.{joined_of};
 ghost use Rattle.channels.specs.Asks.{lists_asked};
 ghost use Rattle.channels.specs.Courses.{Goes, IsUnlisted};
 ghost use Rattle.channels.specs.Founds.{absent_in};
+ghost use Rattle.channels.specs.Lendings.{LendsNone};
 ghost use Rattle.channels.specs.Boxes.{Rises, Reports, boxes_among};
 
 use crate::boxes::{boxes_among, stands_in};
@@ -38,6 +39,7 @@ impl Found {
         ensures stores { stores.new.stores.ghost_name ≡ stores.old.stores.ghost_name }
         ensures asks { IfOk result (λ found. S.asked stores.new.stores.now
             ≡ fold S.noted (S.asked stores.old.stores.now) (lists_asked (joined_of of.entry) found.far.items found.near.items)) }
+        ensures lent { LendsNone S.honest S.lent stores.old.stores.now stores.new.stores.now }
         ensures unlisted { OnErr result (Goes S.noted (S.asked stores.old.stores.now) (S.asked stores.new.stores.now) (IsUnlisted (joined_of of.entry))) }
     {
         let far = stores.far_boxes(of.far_store)?;

@@ -9,7 +9,7 @@ ghost use Rattle.channels.specs.Lendings.{HasRun, Reports, lent_by, run_attempts
 ghost use Rattle.channels.specs.Steps.{NamesItsStep, NamesNext, NamesRefused, logged_in, step_at};
 
 use crate::fault::BoxFailure;
-use crate::stores::Work;
+use crate::stores::{BoxLists, Work};
 use mailcore::keywords::Keywords;
 use outside::outside::Outside;
 use rand_core::Rng;
@@ -20,25 +20,42 @@ use runner::pass::Pass;
 use runner::progress::Progress;
 use runner::settle::settle;
 use std::alloc::Global;
+use std::marker::PhantomData;
 
 /// How many attempts a run has, each but the first after one that met a stop.
 const TRIES: u32 = 3;
 
 /// One run over a mailbox.
 #[derive(Drop)]
-pub(crate) struct RunOnce<'a, R> {
+pub(crate) struct RunOnce<'a, R, S> {
     /// The allocator.
     pub(crate) alloc: Global,
     /// What it may do.
     pub(crate) options: &'a Options,
     /// What its marks are drawn from.
     pub(crate) rng: &'a mut R,
+    /// The stores whose mailbox is lent.
+    of: PhantomData<&'a S>,
 }
 
-impl<R: Rng> Work for RunOnce<'_, R> {
+impl<'a, R: Rng, S: BoxLists> RunOnce<'a, R, S> {
+    /// A run under these options, whose marks are drawn from this generator.
+    pub(crate) fn new(alloc: Global, options: &'a Options, rng: &'a mut R) -> Self
+        ensures options { result.options.now ≡ options.now }
+        ensures rng { result.rng.now ≡ rng.old }
+    {
+        RunOnce {
+            alloc,
+            options,
+            rng,
+            of: PhantomData,
+        }
+    }
+}
+
+impl<R: Rng, S: BoxLists> Work for RunOnce<'_, R, S> {
     ghost use Rattle.channels.specs.Asked.{Ran};
     ghost use Rattle.channels.specs.Lendings.{HasRun, lent_by, run_attempts};
-    ghost use Rattle.channels.specs.Openings.{first_on};
     ghost use Rattle.channels.specs.Outcomes.{outcome_of_run};
 
     ghost options = { λ run. run.options.now };
@@ -47,7 +64,7 @@ impl<R: Rng> Work for RunOnce<'_, R> {
 
     ghost ends = { λ answer. outcome_of_run answer };
 
-    ghost did = { λ run lent answer. HasRun lent (first_on lent.ours lent.alone lent.old.device run.options.now) run.options.now
+    ghost did = { λ run lent answer. HasRun lent (S.opening lent.ours lent.alone lent.old.device run.options.now) run.options.now
         (R.stream run.rng.now) answer };
 
     type Answer = Result<Pass, BoxFailure>;
@@ -63,7 +80,7 @@ impl<R: Rng> Work for RunOnce<'_, R> {
     ) -> Result<Pass, BoxFailure>
         requires map { O.keywords outside.old ≡ self.options.now.keywords }
         ensures did { O.honest outside.new → HasRun (lent_by O.Outside outside.old outside.new)
-            (first_on O.ours O.alone (O.seen outside.old).device self.entry.options.now) self.entry.options.now
+            (S.opening O.ours O.alone (O.seen outside.old).device self.entry.options.now) self.entry.options.now
             (R.stream self.entry.rng.now) result }
         ensures stopped { result ≡ Err (BoxFailure.Run RunFault.Stopped) → MetStops run_attempts (O.seen outside.old) (O.seen outside.new) }
     {

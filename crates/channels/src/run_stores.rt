@@ -11,6 +11,7 @@ ghost use Rattle.channels.specs.Asks.{Asks, run_attempts};
 ghost use Rattle.channels.specs.Boxes.{Rises};
 ghost use Rattle.channels.specs.Causes.{IsExplained, IsFailureOf, IsFaultOf, IsGivenUp, IsRunFault, NamesCause, NamesUid, copy_side};
 ghost use Rattle.channels.specs.Explanations.{explanation_line, explanations};
+ghost use Rattle.channels.specs.Lendings.{HasRunFrom, IsLent, Lends, LendsNone};
 ghost use Rattle.channels.specs.Lines.{box_line};
 ghost use Rattle.channels.specs.Courses.{giving_asked, settled_asked};
 ghost use Rattle.channels.specs.Outcomes.{is_stale, outcome_of_box_fault, outcome_of_giving, outcome_of_run, verdict_of};
@@ -73,6 +74,7 @@ impl<'a, S: BoxLists, O: Write, E: Write> RunStores<'a, S, O, E> {
         ensures others { self.new ≡ record self.old { stores = self.new.stores } }
         ensures rising { IfOk result (λ names. Rises names.items) }
         ensures asks { Asks S.noted S.asked self.old.stores self.new.stores (FarListed store.now (names_of result) ∷ []) }
+        ensures lent { LendsNone S.honest S.lent self.old.stores.now self.new.stores.now }
     {
         self.stores.far_boxes(store)
     }
@@ -83,6 +85,7 @@ impl<'a, S: BoxLists, O: Write, E: Write> RunStores<'a, S, O, E> {
         ensures others { self.new ≡ record self.old { stores = self.new.stores } }
         ensures rising { IfOk result (λ names. Rises names.items) }
         ensures asks { Asks S.noted S.asked self.old.stores self.new.stores (NearListed store.now (names_of result) ∷ []) }
+        ensures lent { LendsNone S.honest S.lent self.old.stores.now self.new.stores.now }
     {
         self.stores.near_boxes(store)
     }
@@ -135,6 +138,7 @@ impl<'a, S: BoxLists, O: Write, E: Write> RunStores<'a, S, O, E> {
         requires going { self.old.write_failed ≡ false }
         ensures out { self.new.out ≡ self.old.out }
         ensures asks { Asks S.noted S.asked self.old.stores self.new.stores [] }
+        ensures lent { LendsNone S.honest S.lent self.old.stores.now self.new.stores.now }
         ensures err { self.new.err.ghost_name ≡ self.old.err.ghost_name }
         ensures notices { OnOk result (HasNotices (E.contents self.old.err.now) (E.contents self.new.err.now)) }
         ensures failed { Notes false self.new.write_failed result }
@@ -163,6 +167,7 @@ impl<'a, S: BoxLists, O: Write, E: Write> RunStores<'a, S, O, E> {
         requires going { self.old.write_failed ≡ false }
         ensures others { self.new ≡ record self.old { stores = self.new.stores } }
         ensures asks { Asks S.noted S.asked self.old.stores self.new.stores [] }
+        ensures lent { LendsNone S.honest S.lent self.old.stores.now self.new.stores.now }
         ensures answered { S.answered self.new.stores.now ≡ S.answered self.old.stores.now }
     {
         let words = self.stores.server_words();
@@ -174,6 +179,7 @@ impl<'a, S: BoxLists, O: Write, E: Write> RunStores<'a, S, O, E> {
         requires going { self.old.write_failed ≡ false }
         ensures others { self.new ≡ record self.old { stores = self.new.stores; err = self.new.err; write_failed = self.new.write_failed } }
         ensures asks { Asks S.noted S.asked self.old.stores self.new.stores [] }
+        ensures lent { LendsNone S.honest S.lent self.old.stores.now self.new.stores.now }
         ensures err { self.new.err.ghost_name ≡ self.old.err.ghost_name }
         ensures reported { IfOk result IsReported }
         ensures over { IfOk result (λ verdict. verdict ≡ Over) }
@@ -194,6 +200,7 @@ impl<'a, S: BoxLists, O: Write, E: Write> RunStores<'a, S, O, E> {
         requires going { self.old.write_failed ≡ false }
         ensures out { self.new.out ≡ self.old.out }
         ensures asks { Asks S.noted S.asked self.old.stores self.new.stores [] }
+        ensures lent { LendsNone S.honest S.lent self.old.stores.now self.new.stores.now }
         ensures err { self.new.err.ghost_name ≡ self.old.err.ghost_name }
         ensures reported { IfOk result IsReported }
         ensures over { IfOk result (λ verdict. verdict ≡ Over) }
@@ -226,6 +233,7 @@ impl<'a, S: BoxLists, O: Write, E: Write> RunStores<'a, S, O, E> {
         requires going { self.old.write_failed ≡ false }
         ensures others { self.new ≡ record self.old { stores = self.new.stores; err = self.new.err; write_failed = self.new.write_failed } }
         ensures asks { Asks S.noted S.asked self.old.stores self.new.stores [] }
+        ensures lent { LendsNone S.honest S.lent self.old.stores.now self.new.stores.now }
         ensures err { self.new.err.ghost_name ≡ self.old.err.ghost_name }
         ensures reported { IfOk result IsReported }
         ensures verdict { IfOk result (λ verdict. verdict ≡ verdict_of (outcome_of_box_fault fault.now)) }
@@ -244,6 +252,7 @@ impl<'a, S: BoxLists, O: Write, E: Write> RunStores<'a, S, O, E> {
         requires going { self.old.write_failed ≡ false }
         ensures others { self.new ≡ record self.old { stores = self.new.stores; err = self.new.err; write_failed = self.new.write_failed } }
         ensures asks { Asks S.noted S.asked self.old.stores self.new.stores [] }
+        ensures lent { LendsNone S.honest S.lent self.old.stores.now self.new.stores.now }
         ensures err { self.new.err.ghost_name ≡ self.old.err.ghost_name }
         ensures reported { IfOk result IsReported }
         ensures verdict { IfOk result (λ verdict. verdict ≡ verdict_of (outcome_of_box_fault failure.now.fault)) }
@@ -263,6 +272,7 @@ impl<'a, S: BoxLists, O: Write, E: Write> RunStores<'a, S, O, E> {
         requires going { self.old.write_failed ≡ false }
         ensures others { self.new ≡ record self.old { stores = self.new.stores; err = self.new.err; write_failed = self.new.write_failed } }
         ensures asks { Asks S.noted S.asked self.old.stores self.new.stores [] }
+        ensures lent { LendsNone S.honest S.lent self.old.stores.now self.new.stores.now }
         ensures err { self.new.err.ghost_name ≡ self.old.err.ghost_name }
         ensures reported { IfOk result IsReported }
         ensures verdict { IfOk result (λ verdict. verdict ≡ verdict_of (outcome_of_box_fault fault.now)) }
@@ -283,6 +293,7 @@ impl<S: Stores, O: Write, E: Write> RunStores<'_, S, O, E> {
         requires covered { covers place.of.channel.now.create side ≡ true }
         ensures others { self.new ≡ record self.old { stores = self.new.stores } }
         ensures asks { Asks S.noted S.asked self.old.stores self.new.stores (Made side (place_of place.entry) (outcome_of_making result) ∷ []) }
+        ensures lent { LendsNone S.honest S.lent self.old.stores.now self.new.stores.now }
     {
         self.stores.make(side, place)
     }
@@ -292,6 +303,7 @@ impl<S: Stores, O: Write, E: Write> RunStores<'_, S, O, E> {
         requires going { self.old.write_failed ≡ false }
         ensures others { self.new ≡ record self.old { stores = self.new.stores } }
         ensures asks { Asks S.noted S.asked self.old.stores self.new.stores (FoundNew (place_of place.entry) (outcome_of_state result) ∷ []) }
+        ensures lent { LendsNone S.honest S.lent self.old.stores.now self.new.stores.now }
     {
         self.stores.has_state(place)
     }
@@ -301,6 +313,7 @@ impl<S: Stores, O: Write, E: Write> RunStores<'_, S, O, E> {
         requires going { self.old.write_failed ≡ false }
         ensures others { self.new ≡ record self.old { stores = self.new.stores } }
         ensures asks { Asks S.noted S.asked self.old.stores self.new.stores [] }
+        ensures lent { LendsNone S.honest S.lent self.old.stores.now self.new.stores.now }
         ensures answered { S.answered self.new.stores.now ≡ with_answer (S.answered self.old.stores.now) (PathsAnswered result.items) }
     {
         self.stores.left_out()
@@ -311,6 +324,7 @@ impl<S: Stores, O: Write, E: Write> RunStores<'_, S, O, E> {
         requires going { self.old.write_failed ≡ false }
         ensures others { self.new ≡ record self.old { stores = self.new.stores } }
         ensures asks { Asks S.noted S.asked self.old.stores self.new.stores (Ended ∷ []) }
+        ensures lent { LendsNone S.honest S.lent self.old.stores.now self.new.stores.now }
     {
         self.stores.end();
     }
@@ -326,6 +340,8 @@ impl<S: Stores, O: Write, E: Write> RunStores<'_, S, O, E> {
         requires going { self.old.write_failed ≡ false }
         ensures others { self.new ≡ record self.old { stores = self.new.stores } }
         ensures asks { Asks S.noted S.asked self.old.stores self.new.stores (settled_asked options.now (place_of place.entry) result) }
+        ensures lent { IfOk result (λ pass. Lends S.honest S.lent self.old.stores.now self.new.stores.now
+            (IsLent (place_of place.entry) (HasRunFrom S.opening options.now (R.stream rng.old) pass))) }
         ensures answered { IsFailureOf result (S.answered self.old.stores.now) (S.answered self.new.stores.now) }
         ensures due { IfErr result (λ failure. is_some failure.giving_up ≡ is_stale failure.fault) }
     {
@@ -389,6 +405,8 @@ impl<S: Stores, O: Write, E: Write> RunStores<'_, S, O, E> {
         ensures others { self.new ≡ record self.old { stores = self.new.stores } }
         ensures asks { Asks S.noted S.asked self.old.stores self.new.stores
             (Ran (place_of place.entry) options.now run_attempts (outcome_of_run result) ∷ []) }
+        ensures lent { IfOk result (λ pass. Lends S.honest S.lent self.old.stores.now self.new.stores.now
+            (IsLent (place_of place.entry) (HasRunFrom S.opening options.now (R.stream rng.old) pass))) }
         ensures answered { IsFaultOf result (S.answered self.old.stores.now) (S.answered self.new.stores.now) }
     {
         match self.settle_open(alloc, place, options, rng) {
@@ -409,13 +427,11 @@ impl<S: Stores, O: Write, E: Write> RunStores<'_, S, O, E> {
         ensures others { self.new ≡ record self.old { stores = self.new.stores } }
         ensures asks { Asks S.noted S.asked self.old.stores self.new.stores
             (Ran (place_of place.entry) options.now run_attempts (outcome_of_run result) ∷ []) }
+        ensures lent { IfOk result (λ pass. Lends S.honest S.lent self.old.stores.now self.new.stores.now
+            (IsLent (place_of place.entry) (HasRunFrom S.opening options.now (R.stream rng.old) pass))) }
         ensures answered { S.answered self.new.stores.now ≡ S.answered self.old.stores.now }
     {
-        let run = RunOnce {
-            alloc,
-            options,
-            rng,
-        };
+        let run = RunOnce::<'_, R, S>::new(alloc, options, rng);
         match self.stores.work_over(place, run) {
             Ok(answer) => answer,
             Err(fault) => Err(BoxFailure::from(fault)),
@@ -427,6 +443,7 @@ impl<S: Stores, O: Write, E: Write> RunStores<'_, S, O, E> {
         requires going { self.old.write_failed ≡ false }
         ensures others { self.new ≡ record self.old { stores = self.new.stores } }
         ensures asks { Asks S.noted S.asked self.old.stores self.new.stores [] }
+        ensures lent { LendsNone S.honest S.lent self.old.stores.now self.new.stores.now }
         ensures answered { IsExplained fault (S.answered self.old.stores.now) (S.answered self.new.stores.now) result }
         ensures ends { outcome_of_box_fault result ≡ outcome_of_box_fault fault }
     {
@@ -444,6 +461,7 @@ impl<S: Stores, O: Write, E: Write> RunStores<'_, S, O, E> {
         requires going { self.old.write_failed ≡ false }
         ensures others { self.new ≡ record self.old { stores = self.new.stores } }
         ensures asks { Asks S.noted S.asked self.old.stores self.new.stores [] }
+        ensures lent { LendsNone S.honest S.lent self.old.stores.now self.new.stores.now }
         ensures answered { NamesCause (S.answered self.old.stores.now) (S.answered self.new.stores.now) result }
         ensures ends { outcome_of_box_fault result ≡ Failed }
     {
@@ -455,6 +473,7 @@ impl<S: Stores, O: Write, E: Write> RunStores<'_, S, O, E> {
         requires going { self.old.write_failed ≡ false }
         ensures others { self.new ≡ record self.old { stores = self.new.stores } }
         ensures asks { Asks S.noted S.asked self.old.stores self.new.stores [] }
+        ensures lent { LendsNone S.honest S.lent self.old.stores.now self.new.stores.now }
         ensures answered { NamesUid (number, step) (S.answered self.old.stores.now) (S.answered self.new.stores.now) result }
         ensures ends { outcome_of_box_fault result ≡ Failed }
     {

@@ -10,6 +10,8 @@ ghost use Rattle.channels.specs.Asks.{Asks, AsksIfClean, Settles, SettlesFound, 
 ghost use Rattle.channels.specs.Boxes.{Rises};
 ghost use Rattle.channels.specs.Courses.{FindsAbsence, Follows, Goes, InOrder, IsBoxAsked, IsChannelAsked, IsFoundAsked, IsNamedAsked, IsRunAsked, Makes, SoFar, asking_if, is_over};
 ghost use Rattle.channels.specs.Explanations.{explanation_line, explanations};
+ghost use Rattle.channels.specs.Lendings.{Lends, LendsNone};
+ghost use Rattle.channels.specs.Settlings.{AreSettled, IsBoxSettled, IsFoundSettled, IsNamedSettled, SettlesLent};
 ghost use Rattle.channels.specs.Outcomes.{IsAbsence, IsAbsenceOf, IsReportedOf, outcome_of, outcome_of_box_fault, outcome_of_pass};
 ghost use Rattle.channels.specs.Streams.{Extends, IsAnswered, IsQuiet, Notes};
 ghost use Rattle.reports.specs.Answers.{answer_of};
@@ -62,6 +64,8 @@ pub(crate) fn settle_channel<S: Stores, R: Rng, O: Write, E: Write>(
         → Settles S.noted work.entry.options.now (joined_of work.entry.of) (S.asked stores.old.stores.now) (S.asked stores.new.stores.now)) }
     ensures asked { Goes S.noted (S.asked stores.old.stores.now) (S.asked stores.new.stores.now)
         (SoFar result (IsChannelAsked work.entry.options.now (joined_of work.entry.of))) }
+    ensures settled { IfOk result (λ verdict. verdict ≡ Clean
+        → SettlesLent S.BoxLists R.stream work.entry.options.now (joined_of work.entry.of) stores.old.stores.now stores.new.stores.now) }
 {
     match Found::of(work.of, stores) {
         Ok(found) => {
@@ -92,6 +96,9 @@ fn settle_found<S: Stores, R: Rng, O: Write, E: Write>(
         work.entry.of.channel.now.boxes (S.asked stores.old.stores.now) (S.asked stores.new.stores.now)) }
     ensures asked { Goes S.noted (S.asked stores.old.stores.now) (S.asked stores.new.stores.now)
         (SoFar result (IsFoundAsked work.entry.options.now (joined_of work.entry.of) found.now.far.items found.now.near.items
+        work.entry.of.channel.now.boxes)) }
+    ensures settled { IfOk result (λ verdict. verdict ≡ Clean → Lends S.honest S.lent stores.old.stores.now stores.new.stores.now
+        (IsFoundSettled S.opening R.stream work.entry.options.now (joined_of work.entry.of) found.now.far.items found.now.near.items
         work.entry.of.channel.now.boxes)) }
 {
     match &work.of.channel.boxes {
@@ -132,6 +139,8 @@ fn settle_boxes<S: Stores, R: Rng, O: Write, E: Write>(
     ensures asked { Goes S.noted (S.asked stores.old.stores.now) (S.asked stores.new.stores.now)
         (SoFar result (InOrder is_over (IsNamedAsked work.entry.options.now (joined_of work.entry.of) found.now.far.items
         found.now.near.items) boxes.now)) }
+    ensures settled { IfOk result (λ verdict. verdict ≡ Clean → Lends S.honest S.lent stores.old.stores.now stores.new.stores.now
+        (AreSettled (IsNamedSettled S.opening R.stream work.entry.options.now (joined_of work.entry.of)) boxes.now)) }
 {
     let mut verdict = Verdict::Clean;
     for name in boxes {
@@ -168,6 +177,8 @@ fn settle_box<S: Stores, R: Rng, O: Write, E: Write>(
         (box_asked work.entry.options.now (place_of place.entry) absent)) }
     ensures asked { Goes S.noted (S.asked stores.old.stores.now) (S.asked stores.new.stores.now)
         (SoFar result (IsBoxAsked work.entry.options.now (place_of place.entry) absent)) }
+    ensures settled { IfOk result (λ verdict. verdict ≡ Clean → Lends S.honest S.lent stores.old.stores.now stores.new.stores.now
+        (IsBoxSettled S.opening R.stream work.entry.options.now (place_of place.entry))) }
 {
     let verdict = make_and_run(work, place, absent, stores, rng)?;
     stores.report_notices(place.of)?;
@@ -194,6 +205,8 @@ fn make_and_run<S: Stores, R: Rng, O: Write, E: Write>(
         (box_asked work.entry.options.now (place_of place.entry) absent)) }
     ensures asked { Goes S.noted (S.asked stores.old.stores.now) (S.asked stores.new.stores.now)
         (SoFar result (IsBoxAsked work.entry.options.now (place_of place.entry) absent)) }
+    ensures settled { IfOk result (λ verdict. verdict ≡ Clean → Lends S.honest S.lent stores.old.stores.now stores.new.stores.now
+        (IsBoxSettled S.opening R.stream work.entry.options.now (place_of place.entry))) }
 {
     match make_absent(place, absent, stores) {
         Ok(()) => {
@@ -223,6 +236,8 @@ fn run_box<S: Stores, R: Rng, O: Write, E: Write>(
         (Ran (place_of place.entry) work.entry.options.now run_attempts Done ∷ [])) }
     ensures asked { Goes S.noted (S.asked stores.old.stores.now) (S.asked stores.new.stores.now)
         (SoFar result (IsRunAsked work.entry.options.now (place_of place.entry))) }
+    ensures settled { IfOk result (λ verdict. verdict ≡ Clean → Lends S.honest S.lent stores.old.stores.now stores.new.stores.now
+        (IsBoxSettled S.opening R.stream work.entry.options.now (place_of place.entry))) }
 {
     stores.print_box(place.of.channel, place.far)?;
     match stores.settle(work.alloc, place, work.options, rng) {
@@ -250,6 +265,7 @@ fn make_absent<S: Stores, O: Write, E: Write>(
     ensures asks { OnOk result (S.asked stores.new.stores.now
         ≡ fold S.noted (S.asked stores.old.stores.now) (makings (place_of place.entry) absent)) }
     ensures asked { Makes S.noted (place_of place.entry) absent (outcome_of result) (S.asked stores.old.stores.now) (S.asked stores.new.stores.now) }
+    ensures lent { OnOk result (LendsNone S.honest S.lent stores.old.stores.now stores.new.stores.now) }
 {
     if let Some(side) = uncovered(absent, place.of.channel.create) {
         return Err(absence(side, place, stores));
@@ -290,6 +306,7 @@ fn find_new<S: Stores, O: Write, E: Write>(
     ensures stores { stores.new.stores.ghost_name ≡ stores.old.stores.ghost_name }
     ensures asked { Follows S.noted (S.asked stores.old.stores.now) (S.asked stores.new.stores.now) (outcome_of result)
         (asking_if (absent.far || absent.near) (FoundNew (place_of place.entry)) (outcome_of result)) }
+    ensures lent { OnOk result (LendsNone S.honest S.lent stores.old.stores.now stores.new.stores.now) }
 {
     let Some(side) = first_of(absent) else {
         return Ok(());
@@ -313,6 +330,7 @@ fn make_side<S: Stores, O: Write, E: Write>(
     ensures stores { stores.new.stores.ghost_name ≡ stores.old.stores.ghost_name }
     ensures asked { Follows S.noted (S.asked stores.old.stores.now) (S.asked stores.new.stores.now) (outcome_of result)
         (asking_if is_absent (Made side (place_of place.entry)) (outcome_of result)) }
+    ensures lent { OnOk result (LendsNone S.honest S.lent stores.old.stores.now stores.new.stores.now) }
 {
     if is_absent {
         stores.make(side, place)?;
@@ -345,6 +363,7 @@ fn report_left_out<S: Stores, O: Write, E: Write>(
     ensures failed { Notes false stores.new.write_failed result }
     ensures asks { Asks S.noted S.asked stores.old.stores stores.new.stores [] }
     ensures goes_on { IfOk result (IsReportedOf Done) }
+    ensures lent { IfOk result (λ verdict. verdict ≡ Clean → LendsNone S.honest S.lent stores.old.stores.now stores.new.stores.now) }
 {
     let paths = stores.left_out();
     report_paths(place, paths, stores)
@@ -365,6 +384,7 @@ fn report_paths<S: Stores, O: Write, E: Write>(
     ensures asks { Asks S.noted S.asked stores.old.stores stores.new.stores [] }
     ensures reported { IfOk result (λ verdict. verdict ≡ Clean → paths.items ≡ []) }
     ensures goes_on { IfOk result (IsReportedOf Done) }
+    ensures lent { IfOk result (λ verdict. verdict ≡ Clean → LendsNone S.honest S.lent stores.old.stores.now stores.new.stores.now) }
 {
     if paths.is_empty() {
         return Ok(Verdict::Clean);
@@ -393,6 +413,7 @@ fn print_answer<S: Stores, O: Write, E: Write>(
         (flat_map explanation_line (explanations pass.now)) (E.contents stores.old.err.now) (E.contents stores.new.err.now)) }
     ensures asks { Asks S.noted S.asked stores.old.stores stores.new.stores [] }
     ensures states { IfOk result (IsReportedOf (outcome_of_pass pass.now)) }
+    ensures lent { OnOk result (LendsNone S.honest S.lent stores.old.stores.now stores.new.stores.now) }
 {
     match answer_text(alloc, pass) {
         Ok(text) => {

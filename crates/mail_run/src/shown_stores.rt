@@ -34,6 +34,12 @@ impl<S: Stores + Drop, T: Write + Copy> BoxLists for ShownStores<'_, S, T> {
 
     ghost answered = { λ shown. S.answered shown.stores };
 
+    ghost honest = { λ shown. S.honest shown.stores };
+
+    ghost lent = { λ shown. S.lent shown.stores };
+
+    ghost opening = { S.opening };
+
     fn far_boxes(&mut self, store: &ImapStore) -> Result<Vec<MailboxName>, ListFault> {
         self.screen.show_store(store);
         let names = self.stores.far_boxes(store);
@@ -66,6 +72,7 @@ impl<S: Stores + Drop, T: Write + Copy> Stores for ShownStores<'_, S, T> {
         self.stores.make(side, place)
     }
 
+    #[tactic(auto, using(channels::proofs::LendLemmas::lends_through))]
     fn work_over<W: Work + Drop>(
         &mut self,
         place: ChannelBox<'_>,

@@ -389,6 +389,7 @@ impl<
         }
     }
 
+    #[tactic(auto, using(channels::proofs::LendLemmas::lends_unsaid))]
     fn work_over<W: Work + Drop>(
         &mut self,
         place: ChannelBox<'_>,

@@ -281,6 +281,7 @@ impl Stores for MemStores<'_> {
         Ok(())
     }
 
+    #[tactic(auto, using(channels::proofs::LendLemmas::lends_unsaid))]
     fn work_over<W: Work + Drop>(
         &mut self,
         place: ChannelBox<'_>,

@@ -1,9 +1,10 @@
-use Rattle.std.proofs.Common.{arith}
+use Rattle.std.proofs.Common.{◌≡◌, true, false, arith, sym, ◌∙◌}
 use Rattle.std.proofs.lemmas.Grind.{common_steps}
 use Rattle.channels.specs.Asked.{joined_of}
 use Rattle.channels.specs.Asks.{ways_of}
 use Rattle.channels.proofs.AskLemmas.{IfOk-listed, IfOk-settled}
 use Rattle.channels.proofs.ChannelLemmas.{SoFar-place_listed, SoFar-place_settled, SoFar-place_unsettled, SoFar-unjoined}
+use Rattle.channels.proofs.LendLemmas.{IfClean-place, never_clean}
 use Rattle.channels.proofs.run.run_place.Goals as goal
 
 -- the channel was listed
@@ -45,3 +46,14 @@ returns-in_default-clause-asked g c =
     SoFar-unjoined g.S.BoxLists.noted c.args.work.config.now (ways_of c.args.work.request.now c.args.cells) c.args.place
     (g.S.BoxLists.asked c.args.stores.now.stores.now) (g.S.BoxLists.asked c.print_no_channel.new.self.stores.now) c.print_no_channel.result
     c.in_default.ensures (grind (arith, common_steps)) c.print_no_channel.ensures.over
+
+-- of a channel that is listed it is not said
+pub returns-then-work-clause-settled : goal.returns-then-work-clause-settled
+returns-then-work-clause-settled g c = λ off. let both : true ≡ false = sym c.if-work.true ∙ off in absurd (cc)
+
+-- one that is run is settled, under its options
+pub returns-in-Ok-clause-settled : goal.returns-in-Ok-clause-settled
+returns-in-Ok-clause-settled g c = λ off.
+    IfClean-place g.S.BoxLists g.R.Rng.stream c.args.work.config.now (ways_of c.args.work.request.now c.args.cells) c.args.place (joined_of c.in-Some.of)
+    c.in-Ok.options c.args.stores.now.stores.now c.settle_channel.new.stores.stores.now c.settle_channel.result c.in-Some.ensures c.in-Ok.ensures
+    c.settle_channel.ensures.settled

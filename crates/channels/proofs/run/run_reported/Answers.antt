@@ -27,3 +27,11 @@ returns-in-Err-clause-asked g c =
     GoesUntil-begun g.S.BoxLists.noted (IsLineAsked c.args.work.config.now (ways_of c.args.work.request.now c.args.course.now.cells) c.args.course.now.places.items)
     1 c.run_course.new.stores.write_failed (g.S.BoxLists.asked c.args.stores.now.stores.now)
     (g.S.BoxLists.asked c.run_course.new.stores.stores.now) c.in-Err.ensures.failed refl c.in-Err.ensures.asked
+
+pub returns-in-Ok-clause-settled : goal.returns-in-Ok-clause-settled
+returns-in-Ok-clause-settled g c = λ zero off. record {
+  last = c.run_course.new.stores.stores.now;
+  over = c.in-Ok.ensures.settled off (clean_status c.in-Ok.verdict (sym c.status.ensures ∙ zero));
+  ended = c.end.ensures.asks.1;
+  none = c.end.ensures.lent;
+}

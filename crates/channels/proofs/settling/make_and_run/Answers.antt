@@ -6,6 +6,7 @@ use Rattle.channels.specs.Asked.{Done, place_of}
 use Rattle.channels.specs.Outcomes.{outcome_of_box_fault}
 use Rattle.channels.proofs.CourseLemmas.{Makes-same}
 use Rattle.channels.proofs.OrderLemmas.{Begun-unrun, SoFar-ran, SoFar-unmade}
+use Rattle.channels.proofs.LendLemmas.{IfClean-as, Lends-after, LendsNone-both, never_clean}
 use Rattle.channels.proofs.settling.make_and_run.Goals as goal
 
 -- what the stores reported of the making, and then the run
@@ -40,3 +41,11 @@ returns-in-Err-clause-asked g c =
     (Makes-same g.S.BoxLists.noted (place_of c.args.place) c.args.absent (outcome_of_box_fault c.in-Err.fault) (g.S.BoxLists.asked c.args.stores.now.stores.now)
     (g.S.BoxLists.asked c.make_absent.new.stores.stores.now) (g.S.BoxLists.asked c.report.new.self.stores.now) c.report.ensures.asks.1 c.in-Err.ensures.asked)
     c.report.ensures.verdict
+
+-- it was made and run, and is settled
+pub returns-in_ok-report_notices-in-Ok-clause-settled : goal.returns-in_ok-report_notices-in-Ok-clause-settled
+returns-in_ok-report_notices-in-Ok-clause-settled g c =
+    IfClean-as c.run_box.result (λ ran. Lends-after (LendsNone-both c.in-Ok.ensures.lent c.report_notices.ensures.lent) ran) c.run_box.ensures.settled
+
+pub returns-in-Err-clause-settled : goal.returns-in-Err-clause-settled
+returns-in-Err-clause-settled g c = never_clean _ c.report.result c.report.ensures.reported

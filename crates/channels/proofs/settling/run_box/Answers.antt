@@ -1,4 +1,4 @@
-use Rattle.std.proofs.Common.{◌≡◌, List, Option, None, option_map, arith, ap, ◌∙◌}
+use Rattle.std.proofs.Common.{◌≡◌, List, Option, None, option_map, arith, ap, sym, ◌∙◌}
 use Rattle.std.specs.List.{fold}
 use Rattle.std.proofs.lemmas.Grind.{common_steps}
 use Rattle.channels.proofs.StreamLemmas.{IsQuiet-both, IsQuiet-from, stream_steps}
@@ -9,6 +9,10 @@ use Rattle.channels.specs.Courses.{run_course}
 use Rattle.channels.specs.Outcomes.{has_void, outcome_of_box_fault, outcome_of_giving, outcome_of_pass}
 use Rattle.channels.proofs.CourseLemmas.{IsReportedOf-following, was_done}
 use Rattle.channels.proofs.OrderLemmas.{Begun-run, Begun-unrun, Goes-run, SoFar-fault}
+use Rattle.channels.specs.Lendings.{HasRunFrom, IsLent}
+use Rattle.channels.specs.Settlings.{IsBoxSettled}
+use Rattle.channels.proofs.AskLemmas.{both_clean}
+use Rattle.channels.proofs.LendLemmas.{Lends-after, Lends-as, Lends-then, LendsNone-same, never_clean}
 use Rattle.channels.proofs.settling.run_box.Goals as goal
 
 -- the answer and what was left out were reported, over what the run left as it was
@@ -79,3 +83,25 @@ returns-in_ok-report_left_out-in-Ok-clause-asks g c =
     (was_done (has_void c.in-Ok.pass) c.and.result
     (IsReportedOf-following (has_void c.in-Ok.pass) c.in_ok-verdict-in-Ok.verdict c.in_ok-report_left_out-in-Ok.field-0 c.and.result c.and.ensures
     c.in_ok-verdict-in-Ok.ensures.states c.in_ok-report_left_out-in-Ok.ensures.goes_on) clean)
+
+-- and it is settled
+pub returns-in_ok-report_left_out-in-Ok-clause-settled : goal.returns-in_ok-report_left_out-in-Ok-clause-settled
+returns-in_ok-report_left_out-in-Ok-clause-settled g c = λ clean.
+    let both = both_clean c.in_ok-verdict-in-Ok.verdict c.in_ok-report_left_out-in-Ok.field-0 (sym c.and.ensures ∙ clean) in
+    let same : c.print_box.new.self.stores.now ≡ c.args.stores.now.stores.now = grind (arith, common_steps) in
+    Lends-as (IsLent (place_of c.args.place) (HasRunFrom g.S.BoxLists.opening c.args.work.options.now (g.R.Rng.stream c.args.rng.now) c.in-Ok.pass))
+    (IsBoxSettled g.S.BoxLists.opening g.R.Rng.stream c.args.work.options.now (place_of c.args.place))
+    (λ more ran. record {
+      rng = c.args.rng.now;
+      pass = c.in-Ok.pass;
+      ran = ran;
+      whole = was_done (has_void c.in-Ok.pass) c.and.result
+          (IsReportedOf-following (has_void c.in-Ok.pass) c.in_ok-verdict-in-Ok.verdict c.in_ok-report_left_out-in-Ok.field-0 c.and.result c.and.ensures
+          c.in_ok-verdict-in-Ok.ensures.states c.in_ok-report_left_out-in-Ok.ensures.goes_on) clean;
+    })
+    (Lends-after (LendsNone-same _ _ _ _ same) (Lends-then (Lends-then c.in-Ok.ensures.lent c.in_ok-verdict-in-Ok.ensures.lent)
+    (c.in_ok-report_left_out-in-Ok.ensures.lent both.1)))
+
+-- of a fault it is not said
+pub returns-in-Err-clause-settled : goal.returns-in-Err-clause-settled
+returns-in-Err-clause-settled g c = never_clean _ c.report_failure.result c.report_failure.ensures.reported

@@ -3,6 +3,7 @@ use Rattle.channels.specs.Asked.{place_of}
 use Rattle.channels.specs.Courses.{IsBoxAsked}
 use Rattle.channels.proofs.CourseLemmas.{Begun-all, Goes-same}
 use Rattle.channels.proofs.StreamLemmas.{IsQuiet-following}
+use Rattle.channels.proofs.LendLemmas.{Lends-then}
 use Rattle.channels.proofs.settling.settle_box.Goals as goal
 
 -- what was reported, and notices after it
@@ -27,3 +28,7 @@ returns-clause-asked g c =
     Goes-same g.S.BoxLists.noted (g.S.BoxLists.asked c.args.stores.now.stores.now) (g.S.BoxLists.asked c.make_and_run.new.stores.stores.now)
     (g.S.BoxLists.asked c.report_notices.new.self.stores.now) (IsBoxAsked c.args.work.options.now (place_of c.args.place) c.args.absent c.in_ok-verdict.verdict)
     c.report_notices.ensures.asks.1 c.in_ok-verdict.ensures.asked
+
+-- without a fault it is settled
+pub returns-clause-settled : goal.returns-clause-settled
+returns-clause-settled g c = λ clean. Lends-then (c.in_ok-verdict.ensures.settled clean) c.report_notices.ensures.lent

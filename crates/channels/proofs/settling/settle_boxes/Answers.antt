@@ -8,6 +8,8 @@ use Rattle.channels.specs.Courses.{Begun, IsNamedAsked, is_over}
 use Rattle.channels.proofs.ChannelLemmas.{Goes-named, IsNamedAsked-possible}
 use Rattle.channels.proofs.OrderLemmas.{Goes-all, Goes-begun, Goes-next, Goes-none, Goes-stops, drop_next, is_over-last, is_over-not}
 use Rattle.channels.proofs.AskLemmas.{boxes_asked-next, both_clean}
+use Rattle.channels.proofs.LendLemmas.{Lends-all, Lends-begun, Lends-next}
+use Rattle.channels.specs.Settlings.{IsNamedSettled}
 use Rattle.channels.proofs.settling.settle_boxes.Goals as goal
 
 -- what was reported of one more mailbox
@@ -24,6 +26,10 @@ loop-name-preserved g c = let over : c.and-verdict.result ≡ Over → ⊥ = gri
   asked = Goes-next g.S.BoxLists.noted (g.S.BoxLists.asked c.args.stores.now.stores.now) (g.S.BoxLists.asked c.loop-name.stores.stores.now) (g.S.BoxLists.asked c.settle_box.new.stores.stores.now) is_over (IsNamedAsked c.args.work.options.now (joined_of c.args.work.of) c.args.found.now.far.items c.args.found.now.near.items) c.args.boxes.now (drop c.loop-name.name-index c.args.boxes.now) (drop (c.loop-name.name-index + 1) c.args.boxes.now) c.name-item.result c.loop-name.verdict c.in_ok-settle_box.field-0 c.and-verdict.result (drop_next c.args.boxes.now c.loop-name.name-index c.name-item.result c.name-item.result c.loop-name-test.true c.name-item.is) c.and-verdict.ensures
       (is_over-not c.loop-name.verdict c.in_ok-settle_box.field-0 c.and-verdict.result c.and-verdict.ensures over) c.loop-name.invariant.asked
       (Goes-named g.S.BoxLists.noted c.args.work.options.now (joined_of c.args.work.of) c.args.found.now.far.items c.args.found.now.near.items c.name-item.result c.absent-absent.result (g.S.BoxLists.asked c.loop-name.stores.stores.now) (g.S.BoxLists.asked c.settle_box.new.stores.stores.now) (λ is_such. is_such c.in_ok-settle_box.field-0) c.absent-absent.ensures c.in_ok-settle_box.ensures.asked);
+  settled = λ clean.
+      let both = both_clean c.loop-name.verdict c.in_ok-settle_box.field-0 (sym c.and-verdict.ensures ∙ clean) in
+      Lends-next (IsNamedSettled g.S.BoxLists.opening g.R.Rng.stream c.args.work.options.now (joined_of c.args.work.of)) c.args.boxes.now c.loop-name.name-index
+      c.name-item.result c.loop-name-test.true c.name-item.is (c.loop-name.invariant.settled both.0) (c.in_ok-settle_box.ensures.settled both.1);
   goes_on = over;
   going = grind (arith, common_steps);
 }
@@ -38,6 +44,8 @@ loop-name-init g c = record {
   quiet = grind (arith, common_steps, quiet_steps);
   whole = grind (arith, common_steps, stream_steps);
   asked = Goes-none g.S.BoxLists.noted (g.S.BoxLists.asked c.args.stores.now.stores.now) (g.S.BoxLists.asked c.args.stores.now.stores.now) is_over (IsNamedAsked c.args.work.options.now (joined_of c.args.work.of) c.args.found.now.far.items c.args.found.now.near.items) c.args.boxes.now refl;
+  settled = λ clean. Lends-begun g.S.BoxLists.honest g.S.BoxLists.lent (IsNamedSettled g.S.BoxLists.opening g.R.Rng.stream c.args.work.options.now (joined_of c.args.work.of))
+      c.args.stores.now.stores.now c.args.stores.now.stores.now refl;
   goes_on = grind (arith, common_steps);
   going = grind (arith, common_steps);
 }
@@ -63,3 +71,9 @@ pub returns-clause-asked : goal.returns-clause-asked
 returns-clause-asked g c =
     Goes-all g.S.BoxLists.noted (g.S.BoxLists.asked c.args.stores.now.stores.now) (g.S.BoxLists.asked c.loop-name.stores.stores.now) is_over (IsNamedAsked c.args.work.options.now (joined_of c.args.work.of) c.args.found.now.far.items c.args.found.now.near.items) c.args.boxes.now (drop c.loop-name.name-index c.args.boxes.now) c.loop-name.verdict
     (drop_of_length-le c.args.boxes.now c.loop-name-test.false) c.loop-name.invariant.asked
+
+-- each is settled
+pub returns-clause-settled : goal.returns-clause-settled
+returns-clause-settled g c = λ clean.
+    Lends-all (IsNamedSettled g.S.BoxLists.opening g.R.Rng.stream c.args.work.options.now (joined_of c.args.work.of)) c.args.boxes.now c.loop-name.name-index
+    c.loop-name-test.false (c.loop-name.invariant.settled clean)

@@ -5,6 +5,7 @@ use Rattle.std.proofs.lemmas.Result.{err_from_is_err_and}
 use Rattle.channels.specs.Asked.{joined_of}
 use Rattle.channels.specs.Courses.{IsFoundAsked}
 use Rattle.channels.proofs.ChannelLemmas.{Begun-possible, IsFoundAsked-possible, SoFar-listed, SoFar-unlisted}
+use Rattle.channels.proofs.LendLemmas.{IfClean-channel, LendsNone-both, never_clean}
 use Rattle.channels.proofs.settling.settle_channel.Goals as goal
 
 -- what the stores reported of the listing, and then the mailboxes
@@ -38,3 +39,14 @@ returns-in-Err-clause-asked g c =
     SoFar-unlisted g.S.BoxLists.noted (joined_of c.args.work.of) (λ fars nears. IsFoundAsked c.args.work.options.now (joined_of c.args.work.of) fars nears c.args.work.of.channel.now.boxes)
     (g.S.BoxLists.asked c.args.stores.now.stores.now) (g.S.BoxLists.asked c.of.new.stores.stores.now) (g.S.BoxLists.asked c.report_unlisted.new.self.stores.now)
     c.report_unlisted.result c.report_unlisted.ensures.asks.1 c.report_unlisted.ensures.over c.in-Err.ensures.unlisted
+
+-- without a fault they are settled
+pub returns-in_ok-report_notices-in-Ok-clause-settled : goal.returns-in_ok-report_notices-in-Ok-clause-settled
+returns-in_ok-report_notices-in-Ok-clause-settled g c =
+    IfClean-channel g.S.BoxLists g.R.Rng.stream c.args.work.options.now (joined_of c.args.work.of) c.in-Ok.found.far.items c.in-Ok.found.near.items
+    c.args.stores.now.stores.now c.report_notices.new.self.stores.now c.settle_found.new.stores.stores.now c.settle_found.result
+    (LendsNone-both c.in-Ok.ensures.lent c.report_notices.ensures.lent) (c.report_notices.ensures.asks.1 ∙ c.in-Ok.ensures.asks) c.settle_found.ensures.asks
+    c.settle_found.ensures.settled
+
+pub returns-in-Err-clause-settled : goal.returns-in-Err-clause-settled
+returns-in-Err-clause-settled g c = never_clean _ c.report_unlisted.result c.report_unlisted.ensures.reported

@@ -1,6 +1,12 @@
-use Rattle.std.proofs.Common.{◌∙◌}
+use Rattle.std.proofs.Common.{◌≡◌, IfOk, ◌∙◌, subst, sym}
 use Rattle.channels.specs.Asked.{joined_of}
 use Rattle.channels.proofs.ChannelLemmas.{SoFar-matching, SoFar-pair, SoFar-unnamed}
+use Rattle.config.specs.declared.config.Boxes.{Boxes}
+use Rattle.config.specs.declared.config.Boxes.TheVariants.{Matching}
+use Rattle.channels.specs.declared.verdict.Verdict.TheVariants.{Clean}
+use Rattle.channels.specs.Lendings.{Lends}
+use Rattle.channels.specs.Settlings.{AreSettled, IsFoundSettled, IsNamedSettled}
+use Rattle.channels.proofs.LendLemmas.{IfClean-as, IsFoundSettled-matching, Lends-as, never_clean}
 use Rattle.channels.proofs.settling.settle_found.Goals as goal
 
 -- a mailbox on each side
@@ -23,3 +29,25 @@ returns-in-Err-clause-asked g c =
     SoFar-unnamed g.S.BoxLists.noted c.args.work.options.now (joined_of c.args.work.of) c.args.found.now.far.items c.args.found.now.near.items
     c.in-Matching.patterns c.args.work.of.channel.now.boxes (g.S.BoxLists.asked c.args.stores.now.stores.now)
     (g.S.BoxLists.asked c.print_list.new.self.stores.now) c.print_list.result c.in-Matching.is c.print_list.ensures.asks.1 c.print_list.ensures.over
+
+-- without a fault they are settled
+pub returns-in-Pair-clause-settled : goal.returns-in-Pair-clause-settled
+returns-in-Pair-clause-settled g c =
+    subst (λ (boxes : Boxes). IfOk c.settle_box.result (λ v. v ≡ Clean → Lends g.S.BoxLists.honest g.S.BoxLists.lent c.args.stores.now.stores.now
+    c.settle_box.new.stores.stores.now (IsFoundSettled g.S.BoxLists.opening g.R.Rng.stream c.args.work.options.now (joined_of c.args.work.of)
+    c.args.found.now.far.items c.args.found.now.near.items boxes))) (sym c.in-Pair.is) c.settle_box.ensures.settled
+
+pub returns-in-Ok-clause-settled : goal.returns-in-Ok-clause-settled
+returns-in-Ok-clause-settled g c =
+    subst (λ (boxes : Boxes). IfOk c.settle_boxes.result (λ v. v ≡ Clean → Lends g.S.BoxLists.honest g.S.BoxLists.lent c.args.stores.now.stores.now
+    c.settle_boxes.new.stores.stores.now (IsFoundSettled g.S.BoxLists.opening g.R.Rng.stream c.args.work.options.now (joined_of c.args.work.of)
+    c.args.found.now.far.items c.args.found.now.near.items boxes))) (sym c.in-Matching.is)
+    (IfClean-as c.settle_boxes.result (Lends-as
+    (AreSettled (IsNamedSettled g.S.BoxLists.opening g.R.Rng.stream c.args.work.options.now (joined_of c.args.work.of)) c.deref.result.now)
+    (IsFoundSettled g.S.BoxLists.opening g.R.Rng.stream c.args.work.options.now (joined_of c.args.work.of) c.args.found.now.far.items c.args.found.now.near.items (Matching c.in-Matching.patterns))
+    (λ more. IsFoundSettled-matching g.S.BoxLists.opening g.R.Rng.stream c.args.work.options.now (joined_of c.args.work.of) c.args.found.now.far.items c.args.found.now.near.items
+    c.deref.result.now c.in-Matching.patterns more (λ is_chosen states. c.deref.ensures.value ∙ c.in-Ok.ensures is_chosen states)))
+    c.settle_boxes.ensures.settled)
+
+pub returns-in-Err-clause-settled : goal.returns-in-Err-clause-settled
+returns-in-Err-clause-settled g c = never_clean _ c.print_list.result c.print_list.ensures.reported

@@ -1,6 +1,7 @@
 use Rattle.std.proofs.Common.{arith}
 use Rattle.std.proofs.lemmas.Grind.{common_steps}
 use Rattle.channels.proofs.StreamLemmas.{HasNotices-more}
+use Rattle.channels.proofs.LendLemmas.{LendsNone-both, LendsNone-same}
 use Rattle.channels.proofs.run_stores.RunStores.report_notices.Goals as goal
 
 -- the line of one more notice was written
@@ -10,6 +11,7 @@ loop-notice-preserved-in_ok-report_notice g c = record {
   ends = tt;
   stores = grind (arith, common_steps);
   asked = grind (arith, common_steps);
+  lent = LendsNone-both c.loop-notice.invariant.lent (LendsNone-same _ _ _ _ (grind (arith, common_steps)));
   out = grind (arith, common_steps);
   err = grind (arith, common_steps);
   notices = HasNotices-more _ _ _ c.loop-notice.invariant.notices c.in_ok-report_notice.ensures.notices;
@@ -22,6 +24,7 @@ loop-notice-preserved-in_ok-report_notice-2 g c = record {
   ends = tt;
   stores = grind (arith, common_steps);
   asked = grind (arith, common_steps);
+  lent = LendsNone-both c.loop-notice.invariant.lent (LendsNone-same _ _ _ _ (grind (arith, common_steps)));
   out = grind (arith, common_steps);
   err = grind (arith, common_steps);
   notices = HasNotices-more _ _ _ c.loop-notice.invariant.notices c.in_ok-report_notice.ensures.notices;
@@ -34,6 +37,7 @@ loop-notice-preserved g c = record {
   ends = tt;
   stores = grind (arith, common_steps);
   asked = grind (arith, common_steps);
+  lent = LendsNone-both c.loop-notice.invariant.lent (LendsNone-same _ _ _ _ (grind (arith, common_steps)));
   out = grind (arith, common_steps);
   err = grind (arith, common_steps);
   notices = HasNotices-more _ _ _ c.loop-notice.invariant.notices c.in_ok-report_notice.ensures.notices;

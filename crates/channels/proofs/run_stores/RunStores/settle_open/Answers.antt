@@ -1,0 +1,10 @@
+use Rattle.std.proofs.Common.{ap}
+use Rattle.channels.specs.Asked.{place_of}
+use Rattle.channels.proofs.LendLemmas.{IfOk-ran}
+use Rattle.channels.proofs.run_stores.RunStores.settle_open.Goals as goal
+
+-- what the run did was done with these options and from where the generator stood
+pub returns-in-Ok-clause-lent : goal.returns-in-Ok-clause-lent
+returns-in-Ok-clause-lent g c =
+    IfOk-ran g.S.BoxLists.opening (place_of c.args.place) c.new-run.result.options.now c.args.options.now (g.R.Rng.stream c.new-run.result.rng.now)
+    (g.R.Rng.stream c.args.rng.now) c.in-Ok.answer c.new-run.ensures.options (ap g.R.Rng.stream c.new-run.ensures.rng) c.in-Ok.ensures.lent
