@@ -70,20 +70,20 @@ class Course:
     def runs(self, machine, rng):
         """Runs of a machine, of which most are killed."""
         for _ in range(RUNS):
-            told = machine.run(kill_after=rng.random() * 0.4 if rng.random() < 0.6 else None)
+            told = machine.run(rng.random() * 1.1 if rng.random() < 0.6 else None)
             self.how["killed" if told[0] < 0 else "stopped" if told[0] else "ended"] += 1
             self.log.append(f"machine {machine.number} ran: {told}")
 
     def reads(self, machine, rng, end):
         """Somebody reads mail on a machine until there is an end."""
-        while not end.wait(rng.random() * 0.1):
+        while not end.wait(rng.random() * 0.02):
             self.act(machine, rng)
 
     def rush(self):
         """All at once."""
         end, seeds = threading.Event(), [self.rng.random() for _ in range(2 * MACHINES + 1)]
         telephone = random.Random(seeds.pop())
-        self.server.act = lambda: self.act(self.telephone, telephone) if telephone.random() < 0.1 else None
+        self.server.act = lambda: self.act(self.telephone, telephone) if telephone.random() < 0.3 else None
         readers = [threading.Thread(target=self.reads, args=(it, random.Random(seeds.pop()), end)) for it in self.machines]
         runs = [threading.Thread(target=self.runs, args=(it, random.Random(seeds.pop()))) for it in self.machines]
         for thread in readers + runs:

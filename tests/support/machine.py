@@ -6,6 +6,7 @@ import shutil
 import subprocess
 import tempfile
 import threading
+import time
 from contextlib import suppress
 
 from tests.support.configuration import imap_store
@@ -66,7 +67,8 @@ class SharedServer(ScriptedServer):
 
 
 class Machine:
-    """One of the machines. `removable` are the names of the messages that may be removed: they stood on all machines when all was quiet."""
+    """One of the machines. `removable` are the names of the messages that may be removed: they stood on all machines when all was quiet.
+    `usual` is how many seconds a run has taken lately."""
 
     def __init__(self, program, server, number):
         self.program, self.number = program, number
@@ -74,7 +76,7 @@ class Machine:
         with open(f"{self.home}/.mbsyncrc", "w", encoding="ascii") as file:
             file.write(imap_store(server.port) + HOME_STORE + CHANNEL)
         self.near = MaildirSide(f"{self.home}/inbox")
-        self.told = []
+        self.told, self.usual = [], 0.05
 
     def close(self):
         shutil.rmtree(self.home)
@@ -83,11 +85,12 @@ class Machine:
         environment = {**os.environ, "HOME": self.home}
         return subprocess.Popen([self.program, "c"], env=environment, stdin=subprocess.DEVNULL, stdout=subprocess.PIPE, stderr=subprocess.PIPE)
 
-    def run(self, kill_after=None):
-        """A run, killed after so many seconds where they are given. What it printed stands in `told`, the last run first."""
-        process = self.start()
+    def run(self, share=None):
+        """A run, killed after this share of the usual time where it is given. What it printed stands in `told`, the last run first."""
+        began, process = time.monotonic(), self.start()
         try:
-            out, faults = process.communicate(timeout=kill_after or MOST_SECONDS)
+            out, faults = process.communicate(timeout=MOST_SECONDS if share is None else share * self.usual)
+            self.usual += 0.3 * (time.monotonic() - began - self.usual)
         except subprocess.TimeoutExpired:
             process.kill()
             out, faults = process.communicate()
