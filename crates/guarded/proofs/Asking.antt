@@ -1,10 +1,13 @@
 -- Which question a guard was asked first.
-use Rattle.std.proofs.Common.{◌≡◌, Bool, true, false, Result, refl}
+use Rattle.std.proofs.Common.{◌≡◌, Bool, true, false, List, ℕ, Result, Ok, Err, refl}
 use Rattle.std.specs.Prelude.{OnOk}
+use Rattle.mailcore.specs.declared.listing.Listing.{Listing}
 use Rattle.outside.specs.declared.fault.OutsideFault.{OutsideFault}
 use Rattle.std.proofs.lemmas.Bool.{both_ways}
-use Rattle.outside.specs.Calls.{Seen, stopped}
-use Rattle.guarded.specs.Questions.{AsksFirst, AsksToRemove, HasListed, Question}
+use Rattle.outside.specs.Arrivals.{Arrives}
+use Rattle.outside.specs.BoxCalls.{ListsFar}
+use Rattle.outside.specs.Calls.{Opens, Seen, stopped}
+use Rattle.guarded.specs.Questions.{AsksFirst, AsksToRemove, HasListed, MayRemove, Question, WasListed}
 
 module _ {G : Type 0} (asked : Question → G → G → Type 0) (goes_on : G → Bool) (question : Question) where
   -- it said no
@@ -15,16 +18,37 @@ module _ {G : Type 0} (asked : Question → G → G → Type 0) (goes_on : G →
   pub let_on_first : (old mid new : G) (seen seen_now : Seen) → asked question old mid → goes_on mid ≡ true → AsksFirst asked goes_on question old new seen seen_now
   let_on_first old mid new seen seen_now was let_on = record { mid = mid; first = was; refused = λ not_let. absurd (both_ways (goes_on mid) not_let let_on) }
 
-  -- the same of a removal
-  pub refused_removal : (lists : G → Bool) (old new : G) (seen seen_now : Seen) (result : Result (Unit {0}) OutsideFault) → asked question old new → seen_now ≡ stopped seen → (lists new ≡ true → OnOk result (HasListed asked new new))
-      → AsksToRemove asked goes_on lists question old new seen seen_now result
-  refused_removal lists old new seen seen_now result was is listed = record { mid = new; first = was; refused = λ not_let. (refl, is); unlisted = λ not_let. refl; listed = listed }
+  module _ (lists : G → Bool) (was_listed : Listing → Type 0) where
+    -- the same of a removal
+    pub refused_removal : (old new : G) (seen seen_now : Seen) (result : Result (Unit {0}) OutsideFault) → asked question old new → seen_now ≡ stopped seen
+        → (lists new ≡ true → OnOk result (HasListed asked was_listed new new)) → AsksToRemove asked goes_on lists was_listed question old new seen seen_now result
+    refused_removal old new seen seen_now result was is listed = record { mid = new; first = was; refused = λ not_let. (refl, is); unlisted = λ not_let. refl; listed = listed }
 
-  pub let_on_removal : (lists : G → Bool) (old new : G) (seen seen_now : Seen) (result : Result (Unit {0}) OutsideFault) → asked question old new → goes_on new ≡ true → lists new ≡ false → AsksToRemove asked goes_on lists question old new seen seen_now result
-  let_on_removal lists old new seen seen_now result was let_on none =
-      record { mid = new; first = was; refused = λ not_let. absurd (both_ways (goes_on new) not_let let_on); unlisted = λ not_let. refl; listed = λ some. absurd (both_ways (lists new) none some) }
+    pub let_on_removal : (old new : G) (seen seen_now : Seen) (result : Result (Unit {0}) OutsideFault) → asked question old new → goes_on new ≡ true → lists new ≡ false
+        → AsksToRemove asked goes_on lists was_listed question old new seen seen_now result
+    let_on_removal old new seen seen_now result was let_on none =
+        record { mid = new; first = was; refused = λ not_let. absurd (both_ways (goes_on new) not_let let_on); unlisted = λ not_let. refl; listed = λ some. absurd (both_ways (lists new) none some) }
 
-  pub listed_removal : (lists : G → Bool) (old mid new : G) (seen seen_now : Seen) (result : Result (Unit {0}) OutsideFault) → asked question old mid → goes_on mid ≡ true → lists mid ≡ true → OnOk result (HasListed asked mid new)
-      → AsksToRemove asked goes_on lists question old new seen seen_now result
-  listed_removal lists old mid new seen seen_now result was let_on some listed =
-      record { mid = mid; first = was; refused = λ not_let. absurd (both_ways (goes_on mid) not_let let_on); unlisted = λ none. absurd (both_ways (lists mid) none some); listed = λ _. listed }
+    pub listed_removal : (old mid new : G) (seen seen_now : Seen) (result : Result (Unit {0}) OutsideFault) → asked question old mid → goes_on mid ≡ true → lists mid ≡ true → OnOk result (HasListed asked was_listed mid new)
+        → AsksToRemove asked goes_on lists was_listed question old new seen seen_now result
+    listed_removal old mid new seen seen_now result was let_on some listed =
+        record { mid = mid; first = was; refused = λ not_let. absurd (both_ways (goes_on mid) not_let let_on); unlisted = λ none. absurd (both_ways (lists mid) none some); listed = λ _. listed }
+
+-- ---- a listing before a removal
+
+-- it is known where the outside has behaved as specified until later
+pub looked_before : (h1 h2 : Type 0) (ours : List ℕ → Bool) (alone : Bool) (seen now : Seen) (far : Listing) → (h2 → h1)
+    → Opens h1 (Arrives ours alone) (ListsFar alone seen.device.far.next) seen now (Ok far) → WasListed h2 (Arrives ours alone) alone seen far
+looked_before h1 h2 ours alone seen now far before c = record {
+  seen_then = now;
+  looked = record {
+    acts = record { was_whole = c.acts.was_whole; is_whole = c.acts.is_whole; stops = c.acts.stops; effect = λ h. c.acts.effect (before h) };
+    goes_on = λ h. c.goes_on (before h);
+    counts = c.counts;
+  };
+}
+
+pub shown_listing : {G : Type 0} (asked : Question → G → G → Type 0) (was_listed : Listing → Type 0) (old new : G) (far : Listing) (result : Result (Unit {0}) OutsideFault)
+    → was_listed far → asked (MayRemove far) old new → OnOk result (HasListed asked was_listed old new)
+shown_listing asked was_listed old new far (Ok done) looked listed = record { far = far; looked = looked; listed = listed }
+shown_listing asked was_listed old new far (Err fault) looked listed = tt

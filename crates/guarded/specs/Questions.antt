@@ -1,7 +1,12 @@
 -- What a guard is asked, and what was asked before a call.
-use Rattle.std.specs.Prelude.{◌≡◌, ℕ, Bool, false, true, OnOk, Result}
+use Rattle.std.specs.Prelude.{◌≡◌, ℕ, Bool, false, true, Ok, OnOk, Option, None, Some, Result}
+use Rattle.device.specs.Calls.{Effect}
 use Rattle.mailcore.specs.declared.listing.Listing.{Listing}
-use Rattle.outside.specs.Calls.{Seen, stopped}
+use Rattle.mailcore.specs.declared.side.Side.{Side}
+use Rattle.mailcore.specs.declared.side.Side.TheVariants.{Far, Near}
+use Rattle.outside.specs.BoxCalls.{ListsFar}
+use Rattle.outside.specs.Calls.{Opens, Seen, stopped}
+use Rattle.outside.specs.Devices.{Device}
 use Rattle.outside.specs.declared.fault.OutsideFault.{OutsideFault}
 use Rattle.rules.specs.declared.plan.Plan.{Plan}
 use Rattle.guarded.specs.declared.guard.Change.{Change}
@@ -14,22 +19,34 @@ pub data Question : Type 0 where
   MayChange : (change : Change) → (uid : ℕ) → Question
   MayRemove : (far : Listing) → Question
 
+-- a far mailbox that was opened, and whose UIDNEXT is known, was shown to the guard, which said yes
+abbrev pub IsShown : {G : Type 0} → (asked : Question → G → G → Type 0) → (goes_on : G → Bool) → Side → (validity : ℕ) → (next : Option ℕ) → G → G → Type 0
+IsShown asked goes_on Far validity (Some next) old new = asked (MayOpen validity next) old new × (goes_on new ≡ true)
+IsShown asked goes_on Far validity None old new = new ≡ old
+IsShown asked goes_on Near validity next old new = new ≡ old
+
 -- A guard was asked this first. Where it said no, nothing more was asked, and the outside stopped before it did anything.
 pub record AsksFirst {G : Type 0} (asked : Question → G → G → Type 0) (goes_on : G → Bool) (question : Question) (old new : G) (seen seen_now : Seen) : Type 0 where
   pub mid : G
   pub first : asked question old mid
   pub refused : goes_on mid ≡ false → (new ≡ mid) × (seen_now ≡ stopped seen)
 
+-- the far mailbox was listed before anything else was done, and this is what it lists
+pub record WasListed (honest : Type 0) (others : Effect Device) (alone : Bool) (seen : Seen) (far : Listing) : Type 0 where
+  pub seen_then : Seen
+  pub looked : Opens honest others (ListsFar alone seen.device.far.next) seen seen_then (Ok far)
+
 -- it was asked whether near messages may be removed where the far mailbox lists what it did
-pub record HasListed {G : Type 0} (asked : Question → G → G → Type 0) (old new : G) : Type 0 where
+pub record HasListed {G : Type 0} (asked : Question → G → G → Type 0) (was_listed : Listing → Type 0) (old new : G) : Type 0 where
   pub far : Listing
+  pub looked : was_listed far
   pub listed : asked (MayRemove far) old new
 
 -- The same of a removal. Where the far mailbox is to be listed before, it is made only after the guard was also asked about what this lists.
-pub record AsksToRemove {G : Type 0} (asked : Question → G → G → Type 0) (goes_on : G → Bool) (lists : G → Bool) (question : Question) (old new : G)
-    (seen seen_now : Seen) (result : Result (Unit {0}) OutsideFault) : Type 0 where
+pub record AsksToRemove {G : Type 0} (asked : Question → G → G → Type 0) (goes_on : G → Bool) (lists : G → Bool) (was_listed : Listing → Type 0) (question : Question)
+    (old new : G) (seen seen_now : Seen) (result : Result (Unit {0}) OutsideFault) : Type 0 where
   pub mid : G
   pub first : asked question old mid
   pub refused : goes_on mid ≡ false → (new ≡ mid) × (seen_now ≡ stopped seen)
   pub unlisted : lists mid ≡ false → new ≡ mid
-  pub listed : lists mid ≡ true → OnOk result (HasListed asked mid new)
+  pub listed : lists mid ≡ true → OnOk result (HasListed asked was_listed mid new)

@@ -8,7 +8,7 @@ ghost use Rattle.outside.specs.Arrivals.{Arrives};
 ghost use Rattle.outside.specs.BoxCalls.{Names, Turns};
 ghost use Rattle.outside.specs.Calls.{Changes};
 ghost use Rattle.outside.specs.Opened.{IsOpen};
-ghost use Rattle.guarded.specs.Questions.{HasListed};
+ghost use Rattle.guarded.specs.Questions.{HasListed, WasListed};
 
 use crate::guard::Guard;
 use crate::stop_refused::stop_refused;
@@ -28,7 +28,8 @@ pub(crate) fn expunge_listed<O: Outside, G: Guard>(
     requires far_open { IsOpen Far (O.opened outside.old) }
     requires is_open { IsOpen side (O.opened outside.old) }
     ensures let_on { OnOk result (G.goes_on guard.new ≡ true) }
-    ensures listed { OnOk result (HasListed G.asked guard.old guard.new) }
+    ensures listed { OnOk result (HasListed G.asked
+        (WasListed (O.honest outside.new) (Arrives O.ours O.alone) O.alone (O.seen outside.old)) guard.old guard.new) }
     ensures was_honest { O.honest outside.new → O.honest outside.old }
     ensures keywords { O.keywords outside.new ≡ O.keywords outside.old }
     ensures opened { O.opened outside.new ≡ O.opened outside.old }

@@ -1,6 +1,7 @@
 //! An outside whose calls stop where a guard says that the run is not to go on.
 
-ghost use Rattle.std.specs.Prelude.{◌≡◌, false};
+ghost use Rattle.std.specs.Prelude.{◌≡◌, false, true};
+ghost use Rattle.guarded.specs.Questions.{IsShown};
 
 use crate::begin_if::begin_if;
 use crate::expunge_listed::expunge_listed;
@@ -67,6 +68,8 @@ impl<O: Outside + FarNext, G: Guard> GuardedOutside<O, G> {
     fn may_open(&mut self, side: Side, validity: u32) -> bool
         ensures outside { self.new.outside ≡ self.old.outside }
         ensures refused { result ≡ false → G.goes_on self.new.guard ≡ false }
+        ensures shown { result ≡ true
+            → IsShown G.asked G.goes_on side validity (O.uidnext self.old.outside) self.old.guard self.new.guard }
     {
         match (side, self.outside.far_next()) {
             (Side::Far, Some(next)) => self.guard.may_open(validity, next),
@@ -90,7 +93,7 @@ fn note_logged<G: Guard>(
 }
 
 impl<O: Outside + FarNext, G: Guard> Outside for GuardedOutside<O, G> {
-    ghost use Rattle.std.specs.Prelude.{true, OnOk};
+    ghost use Rattle.std.specs.Prelude.{OnOk, IfOk};
     ghost use Rattle.mailcore.specs.KeywordNames.{kept};
     ghost use Rattle.mailcore.specs.Operations.{flags_added, flags_removed};
     ghost use Rattle.mailcore.specs.Sides.{target};
@@ -100,10 +103,11 @@ impl<O: Outside + FarNext, G: Guard> Outside for GuardedOutside<O, G> {
     ghost use Rattle.outside.specs.Arrivals.{Arrives};
     ghost use Rattle.outside.specs.BookCalls.{OfBook};
     ghost use Rattle.outside.specs.BoxCalls.{Carry, Names, SetsAside, Turns as TurnsBox, copies_made};
-    ghost use Rattle.outside.specs.Calls.{Call, Changes, FromBook, FromBox, LeavesBy, Writes, stopped};
+    ghost use Rattle.outside.specs.Calls.{Call, Changes, FromBook, FromBox, LeavesBy, Opens, Writes, stopped};
     ghost use Rattle.outside.specs.MailboxOperations.{removed};
-    ghost use Rattle.outside.specs.Opened.{IsOpen, TakesPlan, turned};
-    ghost use Rattle.guarded.specs.Questions.{AsksFirst, AsksToRemove, MayBegin, MayChange};
+    ghost use Rattle.outside.specs.Devices.{box};
+    ghost use Rattle.outside.specs.Opened.{IsOpen, TakesPlan, turned, with_box};
+    ghost use Rattle.guarded.specs.Questions.{AsksFirst, AsksToRemove, MayBegin, MayChange, WasListed};
 
     ghost honest = { λ guarded. O.honest guarded.outside };
 
@@ -178,7 +182,15 @@ impl<O: Outside + FarNext, G: Guard> Outside for GuardedOutside<O, G> {
         self.outside.give_up(lost)
     }
 
-    fn open_box(&mut self, side: Side) -> Result<u32, OutsideFault> {
+    fn open_box(&mut self, side: Side) -> Result<u32, OutsideFault>
+        ensures shown { IfOk result (λ validity. IsShown G.asked G.goes_on side validity (O.uidnext self.new.outside) self.old.guard
+            self.new.guard) }
+        ensures was_honest { O.honest self.new.outside → O.honest self.old.outside }
+        ensures keywords { O.keywords self.new.outside ≡ O.keywords self.old.outside }
+        ensures opened { IfOk result (λ validity. O.opened self.new.outside ≡ with_box side validity (O.opened self.old.outside)) }
+        ensures call { Opens (O.honest self.new.outside) (Arrives O.ours O.alone) (λ validity d. validity ≡ (box d side).validity)
+            (O.seen self.old.outside) (O.seen self.new.outside) result }
+    {
         let validity = self.outside.open_box(side)?;
         if !self.may_open(side, validity) {
             return Err(stop_refused(&mut self.outside, &self.guard));
@@ -292,8 +304,9 @@ impl<O: Outside + FarNext, G: Guard> Outside for GuardedOutside<O, G> {
     fn expunge(&mut self, side: Side, uid: Uid) -> Result<(), OutsideFault>
         requires far_open { IsOpen Side.Far (O.opened self.old.outside) }
         requires is_open { IsOpen side (O.opened self.old.outside) }
-        ensures asked { AsksToRemove G.asked G.goes_on (λ guard. G.lists guard (Change.Expunge side)) (MayChange (Change.Expunge side) uid)
-            self.old.guard self.new.guard (O.seen self.old.outside) (O.seen self.new.outside) result }
+        ensures asked { AsksToRemove G.asked G.goes_on (λ guard. G.lists guard (Change.Expunge side))
+            (WasListed (O.honest self.new.outside) (Arrives O.ours O.alone) O.alone (O.seen self.old.outside))
+            (MayChange (Change.Expunge side) uid) self.old.guard self.new.guard (O.seen self.old.outside) (O.seen self.new.outside) result }
         ensures let_on { OnOk result (G.goes_on self.new.guard ≡ true) }
         ensures was_honest { O.honest self.new.outside → O.honest self.old.outside }
         ensures keywords { O.keywords self.new.outside ≡ O.keywords self.old.outside }

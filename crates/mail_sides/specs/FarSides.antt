@@ -1,5 +1,5 @@
 -- The far mailbox of a run as the clauses of its calls name it.
-use Rattle.std.specs.Prelude.{◌≡◌, ◌⊎◌, ℕ, false, List}
+use Rattle.std.specs.Prelude.{◌≡◌, ◌⊎◌, ℕ, false, List, Option, None, Some, if◌then◌else◌}
 use Rattle.mailcore.specs.declared.keywords.Keyword.{Keyword}
 use Rattle.imap_session.specs.Servers.{Server}
 use Rattle.imap_link.specs.declared.link.Link as link
@@ -33,6 +33,10 @@ module _ {L : Type 0} {links : link.Ghosts L} where
   -- the server at the other end of the link
   abbrev pub server_at : FarSide L links → Server
   server_at side = server_of side.far.session
+
+  -- the UIDNEXT that was reported when the mailbox was selected, as long as no command was sent since
+  abbrev pub next_of : FarSide L links → Option ℕ
+  next_of side = if side.is_fresh then Some side.far.next else None
 
   -- no other fault comes from a server that behaves as specified
   abbrev pub Unfit : FarSide L links → BoxFault → Type 0

@@ -51,7 +51,7 @@ pub struct FarSide<L: Link> {
 }
 
 impl<L: Link + Drop> FarSide<L> {
-    ghost use Rattle.mail_sides.specs.FarSides.{honest_of, seen_of, server_at};
+    ghost use Rattle.mail_sides.specs.FarSides.{honest_of, next_of, seen_of, server_at};
 
     /// That of this account, over this link. It is closed. By this map flags have names: that of the server.
     pub fn new(alloc: Global, account: Account, link: L, keywords: Keywords) -> Self
@@ -97,7 +97,7 @@ impl<L: Link + Drop> FarSide<L> {
     /// The UIDNEXT of the mailbox, where it is open and no command was sent since it was selected.
     pub fn next(&self) -> Option<u32>
         ensures next { honest_of self.now → IfSome result (λ next. next ≡ (seen_of self.now).stored.store.next) }
-        ensures known { self.now.is_fresh ≡ true → is_some result ≡ true }
+        ensures known { result ≡ next_of self.now }
     {
         if self.is_fresh {
             Some(self.far.next())
@@ -241,6 +241,10 @@ impl<L: Link + Drop> FarSide<L> {
 }
 
 impl<L: Link + Drop> FarNext for FarSide<L> {
+    ghost use Rattle.mail_sides.specs.FarSides.{next_of};
+
+    ghost uidnext = { next_of };
+
     fn far_next(&self) -> Option<u32> {
         self.next()
     }

@@ -26,6 +26,8 @@ impl<F: Mailbox + Drop, N: Mailbox + Drop, S: Shelf + Drop> Pair<F, N, S> {
 }
 
 impl<F: Mailbox + FarNext + Drop, N: Mailbox + Drop, S: Shelf + Drop> FarNext for Pair<F, N, S> {
+    ghost uidnext = { λ pair. F.uidnext pair.far };
+
     fn far_next(&self) -> Option<u32> {
         self.far.far_next()
     }
