@@ -32,4 +32,11 @@ impl Account {
             mailbox,
         }
     }
+
+    /// The name of the mailbox.
+    pub fn mailbox(&self) -> &[u8]
+        ensures { result.now ≡ self.now.mailbox.items }
+    {
+        &self.mailbox
+    }
 }

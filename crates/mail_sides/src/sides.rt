@@ -4,7 +4,7 @@ ghost use Rattle.std.specs.Prelude.{◌≡◌, [], None};
 ghost use Rattle.std.specs.Int.NonZero.{non_zero_u32_get};
 ghost use Rattle.mail_sides.specs.FarSides.{seen_of as seen_of_far};
 ghost use Rattle.near_box.specs.Mailboxes.{near_of};
-ghost use Rattle.run_pair.specs.BookParts.{seen_of as seen_of_book};
+ghost use Rattle.run_pair.specs.BookParts.{honest_in, seen_of as seen_of_book};
 ghost use Rattle.run_pair.specs.Pairs.{opened_of, seen_of};
 ghost use Rattle.run_pair.specs.Parts.{device_with};
 ghost use Rattle.run_pair.specs.Tallies.{seen_with, untouched};
@@ -52,12 +52,27 @@ impl<L: Link + Drop, F: Folder + Drop, S: Shelf + Drop> BothSides<L, F, S> {
         ensures far { result.far ≡ both.far }
         ensures folder { result.folder ≡ both.near.near.folder }
         ensures shelf { S.seen result.shelf ≡ seen_of_book both.book }
+        ensures was_honest { S.honest result.shelf → honest_in both.book }
+    {
+        let (sides, _) = BothSides::apart(both);
+        sides
+    }
+
+    /// The same, and the UIDVALIDITY that its near mailbox has where the folder has no meta file.
+    pub fn apart(both: Both<L, F, S>) -> (Self, NonZeroU32)
+        ensures far { result.0.far ≡ both.far }
+        ensures folder { result.0.folder ≡ both.near.near.folder }
+        ensures shelf { S.seen result.0.shelf ≡ seen_of_book both.book }
+        ensures fresh { result.1 ≡ both.near.fresh }
+        ensures was_honest { S.honest result.0.shelf → honest_in both.book }
     {
         let (far, near, book) = both.into_parts();
-        BothSides {
+        let fresh = near.fresh();
+        let sides = BothSides {
             far,
             folder: near.into_folder(),
             shelf: book.into_shelf(),
-        }
+        };
+        (sides, fresh)
     }
 }

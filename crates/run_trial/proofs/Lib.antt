@@ -13,3 +13,4 @@ pub mod AgainLemmas
 pub mod LinkedLemmas
 pub mod ContentsLemmas
 pub mod PrintedLemmas
+pub mod HeldLemmas

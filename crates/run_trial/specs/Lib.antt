@@ -7,6 +7,7 @@ pub mod Laws
 pub mod Calls
 pub mod Statuses
 pub mod Settings
+pub mod Held
 pub mod Among
 pub mod Memory
 pub mod Printed

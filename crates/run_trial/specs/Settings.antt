@@ -1,5 +1,5 @@
 -- What the run of a trial is made over, before there is a link to the server.
-use Rattle.std.specs.Prelude.{◌≡◌, List, [], ◌∷◌, map, codes}
+use Rattle.std.specs.Prelude.{◌≡◌, ℕ, List, [], ◌∷◌, map, codes}
 use Rattle.mailcore.specs.declared.keywords.Keyword.{Keyword}
 use Rattle.mailcore.specs.declared.mailbox.StoredMailbox.{StoredMailbox}
 use Rattle.imap_session.specs.Mailboxes.{FarMailbox}
@@ -22,9 +22,13 @@ use Rattle.run_trial.specs.declared.setting.TrialSetting.{TrialSetting}
 abbrev pub inbox_of : StoredMailbox → List FarMailbox
 inbox_of far = record { name = codes "INBOX"; store = store_of far } ∷ []
 
--- what a run by this map over a server with this INBOX, a folder and a shelf finds
+-- what a run by this map over the mailbox of this name, a folder and a shelf finds; a folder without a meta file has a fresh UIDVALIDITY
+abbrev pub device_over : (mailbox : List ℕ) → (fresh : ℕ) → List Keyword → Server → (folder : Stored) → (shelf : Files) → Device
+device_over mailbox fresh keywords server folder shelf = device_with (box_at keywords mailbox server) (near_of fresh keywords folder) shelf []
+
+-- of a trial it is the INBOX, and the folder has a meta file
 abbrev pub device_at : List Keyword → Server → (folder : Stored) → (shelf : Files) → Device
-device_at keywords server folder shelf = device_with (box_at keywords (codes "INBOX") server) (near_of 1 keywords folder) shelf []
+device_at = device_over (codes "INBOX") 1
 
 abbrev pub device_in : TrialSetting → Device
 device_in s = device_at s.options.keywords s.far.server.server (stored_in s.folder) (files_of s.shelf)

@@ -22,10 +22,11 @@ ghost use Rattle.run_trial.specs.Settings.{device_at};
 use crate::attempts::settle_trial;
 use crate::contents::contents_of;
 use crate::failure::TrialError;
-use crate::server::{MAILBOX, TrialLink, account_of, mailbox_named, seen_messages};
+use crate::server::{TrialLink, account_of, mailbox_named, seen_messages};
 use crate::shelf::state_in;
 use book::mem_shelf::MemShelf;
 use book::shelf::Shelf;
+use mail_sides::account::Account;
 use mail_sides::both::Both;
 use mail_sides::far_side::FarSide;
 use mail_sides::sides::BothSides;
@@ -152,13 +153,17 @@ pub fn together<L: TrialLink + Drop, F: Folder + Drop>(
     Ok(sides.together(alloc, NonZeroU32::MIN, near_map))
 }
 
-/// The near mailbox's folder, the shelf, and the far mailbox's link.
+/// The far mailbox's account and its link, the near mailbox's folder, and the shelf.
 #[derive(Drop)]
 pub struct Devices<L: TrialLink + Drop> {
+    /// Whose the far mailbox is.
+    pub account: Account,
     /// The link to the server of the far mailbox.
     pub link: L,
     /// The folder of the near mailbox.
     pub folder: MemFolder,
+    /// The UIDVALIDITY of the near mailbox where its folder has no meta file.
+    pub fresh: NonZeroU32,
     /// The state, and the journal.
     pub shelf: MemShelf,
     /// The map of keywords, which is the server's.
@@ -167,66 +172,86 @@ pub struct Devices<L: TrialLink + Drop> {
 }
 
 impl<L: TrialLink + Drop> Devices<L> {
-    ghost use Rattle.maildir.specs.MemFolders.{seen_of as seen_in, stored_in};
+    ghost use Rattle.std.specs.Prelude.{[]};
+    ghost use Rattle.maildir.specs.MemFolders.{seen_of as seen_in};
     ghost use Rattle.maildir.specs.VisitedFolders.{AddsAlone};
     ghost use Rattle.run_pair.specs.BookParts.{files_of as files_in};
     ghost use Rattle.mailcore.specs.Visitors.{others_but};
+    ghost use Rattle.run_trial.specs.Held.{held_in};
 
-    /// What the outside of a run stands on.
+    /// What the outside of a run stands on: another run over it finds what that one has left.
     pub fn of(outside: Both<L, MemFolder, MemShelf>) -> Self
+        ensures account { result.account ≡ outside.far.account }
         ensures link { result.link ≡ outside.far.far.session.wire.link }
         ensures folder { result.folder ≡ outside.near.near.folder }
+        ensures fresh { result.fresh ≡ outside.near.fresh }
         ensures shelf { files_of result.shelf ≡ files_in outside.book }
         ensures map { result.keywords ≡ outside.far.far.keywords }
+        ensures seen { held_in result ≡ record (seen_of outside).device { named = [] } }
     {
-        let BothSides { far, folder, shelf } = BothSides::of(outside);
-        Devices::over(far, folder, shelf)
+        let (BothSides { far, folder, shelf }, fresh) = BothSides::apart(outside);
+        Devices::over(far, folder, fresh, shelf)
     }
 
     /// The same where others add files to the folder: it has all that has come.
     pub(crate) fn among<O: Others>(
         outside: Both<L, VisitedFolder<O>, MemShelf>,
     ) -> Result<Self, TrialError>
+        ensures account { IfOk result (λ devices. devices.account ≡ outside.far.account) }
         ensures link { IfOk result (λ devices. devices.link ≡ outside.far.far.session.wire.link) }
         ensures folder { IfOk result (λ devices. AddsAlone (others_but O.ours) (seen_in outside.near.near.folder.folder) (seen_in devices.folder)) }
+        ensures fresh { IfOk result (λ devices. devices.fresh ≡ outside.near.fresh) }
         ensures shelf { IfOk result (λ devices. files_of devices.shelf ≡ files_in outside.book) }
+        ensures map { IfOk result (λ devices. devices.keywords ≡ outside.far.far.keywords) }
     {
-        let BothSides { far, folder, shelf } = BothSides::of(outside);
+        let (BothSides { far, folder, shelf }, fresh) = BothSides::apart(outside);
         let folder = folder.into_folder()?;
-        Ok(Devices::over(far, folder, shelf))
+        Ok(Devices::over(far, folder, fresh, shelf))
     }
 
-    /// The link of this far mailbox, this folder and this shelf.
-    fn over(far: FarSide<L>, folder: MemFolder, shelf: MemShelf) -> Self
+    /// The account and the link of this far mailbox, this folder and this shelf.
+    fn over(far: FarSide<L>, folder: MemFolder, fresh: NonZeroU32, shelf: MemShelf) -> Self
+        ensures account { result.account ≡ far.account }
         ensures link { result.link ≡ far.far.session.wire.link }
         ensures folder { result.folder ≡ folder }
+        ensures fresh { result.fresh ≡ fresh }
         ensures shelf { result.shelf ≡ shelf }
         ensures map { result.keywords ≡ far.far.keywords }
     {
-        let (_, link, keywords) = far.into_parts();
+        let (account, link, keywords) = far.into_parts();
         Devices {
+            account,
             link,
             folder,
+            fresh,
             shelf,
             keywords,
         }
     }
 
-    /// The outside of another run over these devices, which are reopened. All that the run before left stands there, the journal too.
+    /// The outside of another run over these devices, which are reopened: over the same mailboxes. All that the run before left stands
+    /// there, the journal too.
     pub fn again(self, alloc: Global) -> Result<Both<L, MemFolder, MemShelf>, TrialError>
-        ensures seen { IfOk result (λ both. seen_of both ≡ seen_with
-            (device_at self.keywords (L.line self.link).end.server (stored_in self.folder) (files_of self.shelf)) untouched) }
+        ensures seen { IfOk result (λ both. seen_of both ≡ seen_with (held_in self) untouched) }
         ensures keywords { IfOk result (λ both. both.far.far.keywords ≡ self.keywords) }
     {
         let Devices {
+            account,
             link,
             mut folder,
+            fresh,
             mut shelf,
             keywords,
         } = self;
         folder.reopen();
         shelf.reopen();
-        together(alloc, link, folder, shelf, &keywords)
+        let near_map = keywords.try_clone(alloc)?;
+        let sides = BothSides {
+            far: FarSide::new(alloc, account, link, keywords),
+            folder,
+            shelf,
+        };
+        Ok(sides.together(alloc, fresh, near_map))
     }
 
     /// How many calls have stopped.
@@ -241,10 +266,10 @@ impl<L: TrialLink + Drop> Devices<L> {
     ///
     /// `NoWorld`: what a device holds is none, and nothing was added. This does not come of a trial. `NoMemory`: a part may have been added.
     pub fn write(&self, alloc: Global, text: &mut String) -> Result<(), TrialError>
-        ensures text { OnOk result (Prints (device_at self.now.keywords (L.line self.now.link).end.server (stored_in self.now.folder)
-            (files_of self.now.shelf)) (string_bytes text.old) (string_bytes text.new)) }
+        ensures text { OnOk result (Prints (held_in self.now) (string_bytes text.old) (string_bytes text.new)) }
     {
-        let Some(far) = mailbox_named(self.link.server().mailboxes(), MAILBOX) else {
+        let name = self.account.mailbox();
+        let Some(far) = mailbox_named(self.link.server().mailboxes(), name) else {
             return Err(TrialError::NoWorld);
         };
         let messages = seen_messages(alloc, far.messages.as_slice(), &self.keywords)?;

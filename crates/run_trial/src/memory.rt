@@ -1,10 +1,7 @@
 //! A run over a server, a folder and a shelf in memory: what it leaves of a world, with no word of a device to rely on.
 
 ghost use Rattle.std.specs.Prelude.{◌≡◌, ◌⊎◌, IfErr, IfOk, IsErrAnd, IsErrOf, OnOk, true};
-ghost use Rattle.book.specs.MemShelves.{files_of};
 ghost use Rattle.maildir.specs.Gains.{nobody};
-ghost use Rattle.maildir.specs.MemFolders.{stored_in};
-ghost use Rattle.mem_link.specs.MemLinks.{line_of};
 ghost use Rattle.outside.specs.Devices.{Device};
 ghost use Rattle.imap_client.specs.Seen.{HasMap};
 ghost use Rattle.imap_server.specs.Boxes.{AreServed};
@@ -17,7 +14,8 @@ ghost use Rattle.run_trial.specs.Openings.{StandsAt};
 ghost use Rattle.run_trial.specs.Trials.{HasNext, IsLast, IsStart, Resumes, devices_of};
 ghost use Rattle.run_trial.specs.Worlds.{device_of, world_of};
 ghost use Rattle.run_trial.specs.Memory.{EndsRun, Interrupted, LeavesOpening, LeavesWorld};
-ghost use Rattle.run_trial.specs.Settings.{device_at, device_in};
+ghost use Rattle.run_trial.specs.Held.{held_in};
+ghost use Rattle.run_trial.specs.Settings.{device_in};
 
 use crate::devices::{Devices, Run, settle_from, together};
 use crate::failure::TrialError;
@@ -73,17 +71,11 @@ pub fn run_again(
 ) -> Result<Run<MemLink, MemFolder>, TrialError>
     ghost opening: { Opening nobody.ours nobody.alone }
     requires map { devices.keywords ≡ options.keywords }
-    ensures resumed { (left : Device) → (let server = (line_of devices.link).end.server in
-        let d = device_at devices.keywords server (stored_in devices.folder) (files_of devices.shelf) in
-        Interrupted opening options left d
-        → IsOver opening left ⊎ IfOk result (λ run. OnOk run.1 (EndsRun opening (seen_of run.0).device))) }
-    ensures pending { (left : Device) → (let server = (line_of devices.link).end.server in
-        let d = device_at devices.keywords server (stored_in devices.folder) (files_of devices.shelf) in
-        Interrupted opening options left d
-        → IsOver opening left ⊎ IfOk result (λ run. IfErr run.1 (λ fault. LeavesOpening opening d fault (seen_of run.0)))) }
-    ensures greatest { (let server = (line_of devices.link).end.server in
-        let d = device_at devices.keywords server (stored_in devices.folder) (files_of devices.shelf) in
-        IfOk result (λ run. HasNoNext (Unit {0}) true d (seen_of run.0).device run.1)) }
+    ensures resumed { (left : Device) → Interrupted opening options left (held_in devices)
+        → IsOver opening left ⊎ IfOk result (λ run. OnOk run.1 (EndsRun opening (seen_of run.0).device)) }
+    ensures pending { (left : Device) → Interrupted opening options left (held_in devices)
+        → IsOver opening left ⊎ IfOk result (λ run. IfErr run.1 (λ fault. LeavesOpening opening (held_in devices) fault (seen_of run.0))) }
+    ensures greatest { IfOk result (λ run. HasNoNext (Unit {0}) true (held_in devices) (seen_of run.0).device run.1) }
     ensures stopped { IfOk result (λ run. IsErrOf run.1 RunFault.Stopped → (seen_of run.0).stops ≡ tries) }
     ensures map { IfOk result (λ run. run.0.far.far.keywords ≡ devices.keywords) }
 {
