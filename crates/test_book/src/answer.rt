@@ -3,7 +3,6 @@
 use book::book::Book;
 use book::shelf::Shelf;
 use sync_state::fault::BookFault;
-use test_scripts::failure::Failure;
 use test_scripts::reported::Reported;
 
 /// What a call of a book answers.
@@ -18,13 +17,22 @@ pub enum Answer {
 }
 
 impl Answer {
-    /// The answer that a call gave. `NoMemory`: it found no memory.
-    pub fn of(given: Result<(), BookFault>) -> Result<Answer, Failure> {
+    /// The answer that a call gave.
+    pub fn of(given: Result<(), BookFault>) -> Answer {
         match given {
-            Ok(()) => Ok(Answer::Done),
-            Err(BookFault::NoMemory) => Err(Failure::NoMemory),
-            Err(fault) => Ok(Answer::Fault(fault)),
+            Ok(()) => Answer::Done,
+            Err(fault) => Answer::Fault(fault),
         }
+    }
+
+    /// Whether the call did what it says.
+    pub fn is_done(self) -> bool {
+        matches!(self, Answer::Done)
+    }
+
+    /// Whether the call found no memory.
+    pub fn wants_memory(self) -> bool {
+        matches!(self, Answer::Fault(BookFault::NoMemory))
     }
 
     /// Prints it.
@@ -32,8 +40,16 @@ impl Answer {
         match self {
             Answer::Done => reported.text("ok"),
             Answer::MayNot => reported.text("may not be called"),
-            Answer::Fault(fault) => reported.shown(&fault),
+            Answer::Fault(fault) => print_fault(reported, fault),
         }
+    }
+}
+
+/// Prints a fault. Want of memory counts as a loss.
+pub fn print_fault(reported: &mut Reported, fault: BookFault) {
+    reported.shown(&fault);
+    if fault == BookFault::NoMemory {
+        reported.lose();
     }
 }
 
@@ -44,13 +60,13 @@ pub fn print_held<S: Shelf>(reported: &mut Reported, book: &Book<S>) {
     reported.text("run ");
     reported.number(state.run);
     reported.text(", ");
-    reported.shown(&state.entries.as_slice().len());
+    reported.number(state.entries.as_slice().len() as u64);
     reported.text(" entries, ");
     match book.pending() {
         Some(journal) => {
-            reported.shown(&journal.log.as_slice().len());
+            reported.number(journal.log.as_slice().len() as u64);
             reported.text(" of ");
-            reported.shown(&journal.plan.steps.as_slice().len());
+            reported.number(journal.plan.steps.as_slice().len() as u64);
             reported.text(" steps logged");
         }
         None => reported.text("no plan"),

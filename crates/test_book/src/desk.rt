@@ -1,18 +1,17 @@
 //! A shelf and the book that is open on it.
 
 use crate::answer::{Answer, print_held};
-use crate::call::make_call;
+use crate::call::{make_call, refuse};
 use crate::files::read_file;
 use book::book::{Book, OpenFault};
 use book::shelf::Shelf;
 use device::DeviceFault;
 use rules::plan::Plan;
 use std::alloc::Global;
-use test_scripts::failure::Failure;
 use test_scripts::reported::Reported;
 use test_scripts::words::Words;
 
-/// A shelf, or the book that is open on it and has it then, or nothing. `Script`: a call wants another.
+/// A shelf, or the book that is open on it and has it then, or nothing. A line that wants another is refused.
 #[derive(Drop)]
 pub struct Desk<S: Shelf + Drop> {
     shelf: Option<S>,
@@ -26,23 +25,23 @@ impl<S: Shelf + Drop> Desk<S> {
     }
 
     /// The shelf, if no book is open.
-    pub fn shelf(&self) -> Result<&S, Failure> {
-        self.shelf.as_ref().ok_or(Failure::Script)
+    pub fn shelf(&self) -> Option<&S> {
+        self.shelf.as_ref()
     }
 
     /// Opens a book on the shelf.
-    pub fn open(&mut self, alloc: Global) -> Result<Answer, Failure> {
+    pub fn open(&mut self, alloc: Global, line: &mut Words<'_>) -> Answer {
         let Some(shelf) = self.shelf.take() else {
-            return Err(Failure::Script);
+            return refuse(line);
         };
         match Book::open(alloc, shelf) {
             Ok(book) => {
                 self.book = Some(book);
-                Ok(Answer::Done)
+                Answer::Done
             }
             Err(OpenFault { shelf, fault }) => {
                 self.shelf = Some(shelf);
-                Answer::of(Err(fault))
+                Answer::Fault(fault)
             }
         }
     }
@@ -54,32 +53,26 @@ impl<S: Shelf + Drop> Desk<S> {
         word: &str,
         line: &mut Words<'_>,
         plan: Option<&Plan>,
-    ) -> Result<Answer, Failure> {
+    ) -> Answer {
         match &mut self.book {
             Some(book) => make_call(alloc, book, word, line, plan),
-            None => Err(Failure::Script),
+            None => refuse(line),
         }
     }
 
     /// Takes the shelf from the book.
-    pub fn close(&mut self) -> Result<(), Failure> {
+    pub fn close(&mut self, line: &mut Words<'_>) {
         match self.book.take() {
-            Some(book) => {
-                self.shelf = Some(book.into_shelf());
-                Ok(())
-            }
-            None => Err(Failure::Script),
+            Some(book) => self.shelf = Some(book.into_shelf()),
+            None => line.refuse(),
         }
     }
 
     /// Opens the shelf again.
-    pub fn reopen(&mut self) -> Result<(), Failure> {
+    pub fn reopen(&mut self, line: &mut Words<'_>) {
         match &mut self.shelf {
-            Some(shelf) => {
-                shelf.reopen();
-                Ok(())
-            }
-            None => Err(Failure::Script),
+            Some(shelf) => shelf.reopen(),
+            None => line.refuse(),
         }
     }
 
@@ -91,53 +84,49 @@ impl<S: Shelf + Drop> Desk<S> {
         line: &mut Words<'_>,
         reported: &mut Reported,
         plan: Option<&Plan>,
-    ) -> Result<(), Failure> {
+    ) {
         match word {
-            "close" => return self.close(),
-            "reopen" => return self.reopen(),
-            _ => {}
-        }
-        reported.begin();
-        let is_reported = match word {
-            "open" => self.print_opened(alloc, reported),
-            "held" => self.print_held(reported),
-            _ => self.print_call(alloc, word, line, reported, plan),
-        };
-        reported.end();
-        is_reported
-    }
-
-    /// Opens a book, and prints what it says or why there is none.
-    pub fn print_opened(&mut self, alloc: Global, reported: &mut Reported) -> Result<(), Failure> {
-        match self.open(alloc)? {
-            Answer::Done => self.print_held(reported),
-            refused => {
-                refused.report(reported);
-                Ok(())
+            "close" => self.close(line),
+            "reopen" => self.reopen(line),
+            _ => {
+                reported.begin();
+                self.ask(alloc, word, line, reported, plan);
+                reported.end();
             }
         }
     }
 
-    fn print_call(
+    fn ask(
         &mut self,
         alloc: Global,
         word: &str,
         line: &mut Words<'_>,
         reported: &mut Reported,
         plan: Option<&Plan>,
-    ) -> Result<(), Failure> {
-        self.call(alloc, word, line, plan)?.report(reported);
-        reported.text("; ");
-        self.print_held(reported)
+    ) {
+        match word {
+            "open" => self.print_opened(alloc, line, reported),
+            "held" => self.print_held(line, reported),
+            _ => {
+                self.call(alloc, word, line, plan).report(reported);
+                reported.text("; ");
+                self.print_held(line, reported);
+            }
+        }
     }
 
-    fn print_held(&self, reported: &mut Reported) -> Result<(), Failure> {
+    /// Opens a book, and prints what it says or why there is none.
+    pub fn print_opened(&mut self, alloc: Global, line: &mut Words<'_>, reported: &mut Reported) {
+        match self.open(alloc, line) {
+            Answer::Done => self.print_held(line, reported),
+            refused => refused.report(reported),
+        }
+    }
+
+    fn print_held(&self, line: &mut Words<'_>, reported: &mut Reported) {
         match &self.book {
-            Some(book) => {
-                print_held(reported, book);
-                Ok(())
-            }
-            None => Err(Failure::Script),
+            Some(book) => print_held(reported, book),
+            None => line.refuse(),
         }
     }
 
@@ -148,46 +137,39 @@ impl<S: Shelf + Drop> Desk<S> {
         word: &str,
         line: &mut Words<'_>,
         reported: &mut Reported,
-    ) -> Result<(), Failure> {
+    ) {
         let Some(shelf) = &mut self.shelf else {
-            return Err(Failure::Script);
+            line.refuse();
+            return;
         };
         let file = read_file(line);
         match word {
             "read" => print_read(reported, shelf.read(file)),
-            "append" => print_done(reported, shelf.append(file, &line.bytes(alloc)?, true)),
-            "replace" => print_done(reported, shelf.replace(file, &line.bytes(alloc)?)),
+            "append" => print_done(reported, shelf.append(file, &line.said(alloc), true)),
+            "replace" => print_done(reported, shelf.replace(file, &line.said(alloc))),
             "remove" => print_done(reported, shelf.remove(file)),
-            _ => Err(Failure::Script),
+            _ => line.refuse(),
         }
     }
 }
 
 /// Prints the bytes that were read, or that the file is missing.
-fn print_read(
-    reported: &mut Reported,
-    read: Result<Option<Vec<u8>>, DeviceFault>,
-) -> Result<(), Failure> {
+fn print_read(reported: &mut Reported, read: Result<Option<Vec<u8>>, DeviceFault>) {
     match read {
         Ok(Some(bytes)) => {
             reported.begin();
             reported.quoted(&bytes);
             reported.end();
-            Ok(())
         }
-        Ok(None) => {
-            reported.answer("missing");
-            Ok(())
-        }
+        Ok(None) => reported.answer("missing"),
         Err(fault) => print_done(reported, Err(fault)),
     }
 }
 
-fn print_done(reported: &mut Reported, done: Result<(), DeviceFault>) -> Result<(), Failure> {
+fn print_done(reported: &mut Reported, done: Result<(), DeviceFault>) {
     match done {
         Ok(()) => reported.answer("ok"),
         Err(DeviceFault::Stopped) => reported.answer("stopped"),
-        Err(DeviceFault::NoMemory) => return Err(Failure::NoMemory),
+        Err(DeviceFault::NoMemory) => reported.lose(),
     }
-    Ok(())
 }

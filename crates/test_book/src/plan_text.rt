@@ -38,32 +38,34 @@ impl Draft {
         }
     }
 
-    /// Reads these lines. `Script`: one is no line of a plan.
-    pub fn read(&mut self, text: &[u8]) -> Result<(), Failure> {
+    /// Reads these lines. The line before them is bad if one is no line of a plan.
+    pub fn read(&mut self, text: &[u8], line: &mut Words<'_>) {
         let text = str::from_utf8(text).unwrap_or("(no text)");
-        for line in text.lines() {
-            self.read_line(line.as_bytes())?;
-        }
-        Ok(())
-    }
-
-    fn read_line(&mut self, line: &[u8]) -> Result<(), Failure> {
-        match line {
-            [b's', b' ', ..] => push_read(&mut self.steps, line, read_step),
-            [b'n', b' ', ..] => push_read(&mut self.notes, line, read_note),
-            _ => self.read_head(Words::new(line)),
+        for row in text.lines() {
+            self.read_row(row.as_bytes(), line);
         }
     }
 
-    fn read_head(&mut self, mut line: Words<'_>) -> Result<(), Failure> {
-        match line.word() {
-            "run" => self.run = line.long_number(),
-            "far" => self.far = read_side(&mut line),
-            "near" => self.near = read_side(&mut line),
-            "k" => line.keyword(&mut self.keywords),
-            _ => line.refuse(),
+    fn read_row(&mut self, row: &[u8], line: &mut Words<'_>) {
+        match row {
+            [b's', b' ', ..] => line.note(push_read(&mut self.steps, row, read_step)),
+            [b'n', b' ', ..] => line.note(push_read(&mut self.notes, row, read_note)),
+            _ => {
+                let mut words = Words::new(row);
+                self.read_head(&mut words);
+                line.note(words.end());
+            }
         }
-        line.end()
+    }
+
+    fn read_head(&mut self, words: &mut Words<'_>) {
+        match words.word() {
+            "run" => self.run = words.long_number(),
+            "far" => self.far = read_side(words),
+            "near" => self.near = read_side(words),
+            "k" => words.keyword(&mut self.keywords),
+            _ => words.refuse(),
+        }
     }
 
     /// The plan.

@@ -14,5 +14,7 @@ pub fn run(rt: &HostRuntime, script: &mut Script<'_>) -> Result<(), Failure> {
 
 fn play_cases(rt: &HostRuntime, script: &mut Script<'_>) -> Result<(), Failure> {
     let mut stage = Stage::new(rt);
-    play_all(rt, &mut stage, script)
+    let played = play_all(rt, &mut stage, script);
+    drop(stage);
+    played
 }

@@ -20,9 +20,9 @@ impl<'a> Rule<'a> {
         }
     }
 
-    /// Adds to what was printed of a beginning what is wrong with it by the rule, if anything is. `Script`: a row is none.
-    pub fn judge(self, beginning: &[u8], reported: &mut Reported) -> Result<(), Failure> {
-        match self.answer(beginning)? {
+    /// Adds to what was printed of a beginning what is wrong with it by the rule, if anything is. The line is bad if a row is none.
+    pub fn judge(self, beginning: &[u8], line: &mut Words<'_>, reported: &mut Reported) {
+        match self.answer(beginning, line) {
             Some(answer) if answer == reported.as_str() => {}
             Some(answer) => {
                 reported.text(", WRONG, by the rule ");
@@ -30,25 +30,27 @@ impl<'a> Rule<'a> {
             }
             None => reported.text(", WRONG, the rule says nothing of it"),
         }
-        Ok(())
     }
 
     /// How this beginning is to be read.
-    fn answer(self, beginning: &[u8]) -> Result<Option<&'a str>, Failure> {
+    fn answer(self, beginning: &[u8], line: &mut Words<'_>) -> Option<&'a str> {
         let lines = beginning.iter().filter(|byte| **byte == b'\n').count();
         let is_torn = !matches!(beginning, [] | [.., b'\n']);
         for row in self.rows.lines() {
-            let (head, answer) = row.split_once(": ").ok_or(Failure::Script)?;
-            if is_about(head, lines, is_torn)? {
-                return Ok(Some(answer));
+            let Some((head, answer)) = row.split_once(": ") else {
+                line.refuse();
+                break;
+            };
+            if is_about(head, lines, is_torn, line) {
+                return Some(answer);
             }
         }
-        Ok(None)
+        None
     }
 }
 
 /// Whether a row that begins so is about a beginning with so many whole lines, which a part of one follows or not.
-fn is_about(head: &str, lines: usize, is_torn: bool) -> Result<bool, Failure> {
+fn is_about(head: &str, lines: usize, is_torn: bool, line: &mut Words<'_>) -> bool {
     let mut words = Words::new(head.as_bytes());
     let first = words.count();
     let mut last = first;
@@ -60,6 +62,6 @@ fn is_about(head: &str, lines: usize, is_torn: bool) -> Result<bool, Failure> {
             _ => words.refuse(),
         }
     }
-    words.end()?;
-    Ok(first <= lines && lines <= last && (is_torn || !is_about_torn))
+    line.note(words.end());
+    first <= lines && lines <= last && (is_torn || !is_about_torn)
 }

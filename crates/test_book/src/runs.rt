@@ -3,7 +3,6 @@
 use device::schedule::Moment;
 use std::alloc::Global;
 use std::mem;
-use test_scripts::failure::Failure;
 use test_scripts::reported::Reported;
 
 /// Where an answer is given.
@@ -18,11 +17,11 @@ pub enum Place {
 impl Place {
     fn report(self, reported: &mut Reported) {
         match self {
-            Place::Length(length) => reported.shown(&length),
+            Place::Length(length) => reported.number(length as u64),
             Place::Stop(Moment::Before) => reported.text("before"),
             Place::Stop(Moment::Part(count)) => {
                 reported.text("behind ");
-                reported.shown(&count);
+                reported.number(count as u64);
             }
             Place::Stop(Moment::After) => reported.text("after"),
         }
@@ -40,7 +39,6 @@ pub struct Runs {
     answer: Reported,
     /// Where the next answer is printed.
     pub next: Reported,
-    is_lost: bool,
 }
 
 impl Runs {
@@ -53,14 +51,15 @@ impl Runs {
             is_single: true,
             answer: Reported::new(alloc),
             next: Reported::new(alloc),
-            is_lost: false,
         }
     }
 
     /// Adds the next answer, which is given at this place. If it is another than the last one, the run of that is printed.
     pub fn add(&mut self, reported: &mut Reported, place: Place) {
         let next = mem::replace(&mut self.next, Reported::new(self.alloc));
-        self.is_lost = self.is_lost || next.is_lost();
+        if next.is_lost() {
+            reported.lose();
+        }
         let is_same = next.as_str() == self.answer.as_str();
         match self.places {
             Some((first, _)) if is_same => {
@@ -76,17 +75,8 @@ impl Runs {
         }
     }
 
-    /// Prints the last run. `NoMemory`: an answer was lost.
-    pub fn finish(&self, reported: &mut Reported) -> Result<(), Failure> {
-        self.print_run(reported);
-        if self.is_lost {
-            Err(Failure::NoMemory)
-        } else {
-            Ok(())
-        }
-    }
-
-    fn print_run(&self, reported: &mut Reported) {
+    /// Prints the last run.
+    pub fn print_run(&self, reported: &mut Reported) {
         if let Some((first, last)) = self.places {
             reported.begin();
             reported.text(self.what);

@@ -37,7 +37,8 @@ pub struct Stage<'a> {
 impl Player for Stage<'_> {
     fn begin(&mut self) -> Result<(), Failure> {
         folder::clear(self.rt)?;
-        *self = Stage::new(self.rt);
+        let empty = Stage::new(self.rt);
+        drop(mem::replace(self, empty));
         Ok(())
     }
 
@@ -45,14 +46,19 @@ impl Player for Stage<'_> {
         match line.word() {
             "state" => self.take_file(ShelfFile::State, line, script),
             "journal" => self.take_file(ShelfFile::Journal, line, script),
-            "plan" => self.take_plan(script.block(b".")?),
+            "plan" => {
+                self.take_plan(script.block(b".")?, line);
+                Ok(())
+            }
             "beginnings" => self.print_beginnings(line, script),
-            "stop" => self.add_stop(line),
             "shelf" => self.stand(line, &mut script.reported),
             "folder" => Ok(folder::change(self.rt, line)?),
             "mode" => self.print_mode(line, &mut script.reported),
             "show" => self.print_shelf(&mut script.reported),
-            word => self.ask(word, line, &mut script.reported),
+            word => {
+                self.ask(word, line, &mut script.reported);
+                Ok(())
+            }
         }
     }
 }
@@ -103,55 +109,60 @@ impl<'a> Stage<'a> {
         Ok(())
     }
 
-    fn take_plan(&mut self, text: &[u8]) -> Result<(), Failure> {
+    fn take_plan(&mut self, text: &[u8], line: &mut Words<'_>) {
         let mut draft = Draft::new(self.rt.alloc());
-        draft.read(text)?;
+        draft.read(text, line);
         self.plan = Some(draft.finish());
-        Ok(())
     }
 
-    fn add_stop(&mut self, line: &mut Words<'_>) -> Result<(), Failure> {
+    fn add_stop(&mut self, line: &mut Words<'_>) {
         let moment = line.moment();
-        let call = match line.word() {
-            "read" => ShelfCall::Read,
-            "append" => ShelfCall::Append,
-            "replace" => ShelfCall::Replace,
-            "remove" => ShelfCall::Remove,
-            _ => return Err(Failure::Script),
+        let call = read_call(line);
+        let stop = CallStop {
+            call,
+            number: line.long_number(),
+            moment,
         };
-        let number = line.long_number();
-        Ok(
-            self.schedule.push(CallStop {
-                call,
-                number,
-                moment,
-            })?,
-        )
+        if self.schedule.push(stop).is_err() {
+            line.fail(Failure::NoMemory);
+        }
     }
 
     /// `memory` or `disk`: stands at such a shelf. Another word: makes that call of the shelf.
     fn stand(&mut self, line: &mut Words<'_>, reported: &mut Reported) -> Result<(), Failure> {
-        let alloc = self.rt.alloc();
         match line.word() {
             "memory" => self.stand_in_memory(),
             "disk" => self.stand_on_disk(),
-            word if self.is_on_disk => self.disk.use_shelf(alloc, word, line, reported),
-            word => self.memory.use_shelf(alloc, word, line, reported),
+            word => {
+                self.use_shelf(word, line, reported);
+                Ok(())
+            }
+        }
+    }
+
+    fn use_shelf(&mut self, word: &str, line: &mut Words<'_>, reported: &mut Reported) {
+        let alloc = self.rt.alloc();
+        if self.is_on_disk {
+            self.disk.use_shelf(alloc, word, line, reported);
+        } else {
+            self.memory.use_shelf(alloc, word, line, reported);
         }
     }
 
     fn stand_in_memory(&mut self) -> Result<(), Failure> {
         let alloc = self.rt.alloc();
         let schedule = mem::replace(&mut self.schedule, Vec::new(alloc));
-        self.memory = Desk::new(Some(shelf_with(alloc, &self.files, schedule)?));
+        let shelf = shelf_with(alloc, &self.files, schedule)?;
         self.is_on_disk = false;
+        drop(mem::replace(&mut self.memory, Desk::new(Some(shelf))));
         Ok(())
     }
 
     fn stand_on_disk(&mut self) -> Result<(), Failure> {
         folder::fill(self.rt, &self.files)?;
-        self.disk = Desk::new(Some(DiskShelf::new(self.rt.clone()?, folder::PATH)?));
+        let shelf = DiskShelf::new(*self.rt, folder::PATH)?;
         self.is_on_disk = true;
+        drop(mem::replace(&mut self.disk, Desk::new(Some(shelf))));
         Ok(())
     }
 
@@ -167,10 +178,12 @@ impl<'a> Stage<'a> {
             self.print_disk_file(reported, "state", folder::STATE)?;
             return self.print_disk_file(reported, "journal", folder::JOURNAL);
         }
-        let shelf = self.memory.shelf()?;
+        let Some(shelf) = self.memory.shelf() else {
+            return Err(Failure::Script);
+        };
         print_files(reported, shelf);
         reported.begin();
-        reported.shown(&shelf.stops());
+        reported.number(shelf.stops() as u64);
         reported.text(" calls have stopped");
         reported.end();
         Ok(())
@@ -190,13 +203,9 @@ impl<'a> Stage<'a> {
     }
 
     /// Plays a line that asks about the files and the plan, or one for the desk.
-    fn ask(
-        &mut self,
-        word: &str,
-        line: &mut Words<'_>,
-        reported: &mut Reported,
-    ) -> Result<(), Failure> {
+    fn ask(&mut self, word: &str, line: &mut Words<'_>, reported: &mut Reported) {
         match word {
+            "stop" => self.add_stop(line),
             "read" => self.print_reading(line, reported),
             "disagreement" => self.print_both(line, reported),
             "has_text" => self.print_has_text(line, reported),
@@ -204,9 +213,9 @@ impl<'a> Stage<'a> {
             _ => {
                 let (alloc, plan) = (self.rt.alloc(), self.plan.as_ref());
                 if self.is_on_disk {
-                    self.disk.play(alloc, word, line, reported, plan)
+                    self.disk.play(alloc, word, line, reported, plan);
                 } else {
-                    self.memory.play(alloc, word, line, reported, plan)
+                    self.memory.play(alloc, word, line, reported, plan);
                 }
             }
         }
@@ -223,12 +232,11 @@ impl<'a> Stage<'a> {
         }
     }
 
-    fn print_reading(&self, line: &mut Words<'_>, reported: &mut Reported) -> Result<(), Failure> {
+    fn print_reading(&self, line: &mut Words<'_>, reported: &mut Reported) {
         let file = read_file(line);
         reported.begin();
-        let is_reported = print_reading(self.rt.alloc(), reported, file, self.text(file, line));
+        print_reading(self.rt.alloc(), reported, file, self.text(file, line));
         reported.end();
-        is_reported
     }
 
     /// `FILE`, and a rule in the lines after it.
@@ -240,26 +248,26 @@ impl<'a> Stage<'a> {
         let file = read_file(line);
         let rule = Rule::read(script.block(b".")?)?;
         let text = self.text(file, line);
-        print_beginnings(self.rt.alloc(), &mut script.reported, file, text, rule)
+        let reported = &mut script.reported;
+        print_beginnings(self.rt.alloc(), reported, file, text, rule, line);
+        Ok(())
     }
 
-    fn print_both(&self, line: &mut Words<'_>, reported: &mut Reported) -> Result<(), Failure> {
-        let alloc = self.rt.alloc();
+    fn print_both(&self, line: &mut Words<'_>, reported: &mut Reported) {
         let state = self.text(ShelfFile::State, line);
         let journal = self.text(ShelfFile::Journal, line);
-        print_disagreement(alloc, reported, state, journal)
+        print_disagreement(self.rt.alloc(), reported, state, journal);
     }
 
-    fn print_has_text(&self, line: &mut Words<'_>, reported: &mut Reported) -> Result<(), Failure> {
+    fn print_has_text(&self, line: &mut Words<'_>, reported: &mut Reported) {
         match &self.plan {
             Some(plan) if has_text(plan) => reported.answer("it has a text"),
             Some(_) => reported.answer("it has no text"),
             None => line.refuse(),
         }
-        Ok(())
     }
 
-    fn print_stops(&self, line: &mut Words<'_>, reported: &mut Reported) -> Result<(), Failure> {
+    fn print_stops(&self, line: &mut Words<'_>, reported: &mut Reported) {
         let trial = Trial {
             alloc: self.rt.alloc(),
             before: &self.files,
@@ -267,6 +275,20 @@ impl<'a> Stage<'a> {
             call: *line,
         };
         line.rest();
-        trial.report(reported)
+        trial.report(line, reported);
+    }
+}
+
+/// The call of a shelf that a word means.
+fn read_call(line: &mut Words<'_>) -> ShelfCall {
+    match line.word() {
+        "read" => ShelfCall::Read,
+        "append" => ShelfCall::Append,
+        "replace" => ShelfCall::Replace,
+        "remove" => ShelfCall::Remove,
+        _ => {
+            line.refuse();
+            ShelfCall::Read
+        }
     }
 }

@@ -8,8 +8,7 @@ use book::mem_shelf::{MemShelf, ShelfCall};
 use book::shelf::ShelfFile;
 use device::schedule::{CallStop, Moment};
 use rules::plan::Plan;
-use std::alloc::Global;
-use test_scripts::failure::Failure;
+use std::alloc::{AllocError, Global};
 use test_scripts::reported::Reported;
 use test_scripts::words::Words;
 
@@ -40,64 +39,73 @@ pub struct Trial<'a> {
 }
 
 impl<'a> Trial<'a> {
-    /// Prints what is left of the call without a stop, and of the call with a stop at each call of its shelf. `Script`: it is not
-    /// done, though nothing stops.
-    pub fn report(&self, reported: &mut Reported) -> Result<(), Failure> {
-        let shelf = shelf_with(self.alloc, self.before, Vec::new(self.alloc))?;
+    /// Prints what is left of the call without a stop, and of the call with a stop at each call of its shelf. The line is bad if it is
+    /// not done, though nothing stops.
+    pub fn report(&self, line: &mut Words<'_>, reported: &mut Reported) {
         let mut held = Reported::new(self.alloc);
-        self.print_from(reported, &mut Desk::new(Some(shelf)), &mut held)
+        match shelf_with(self.alloc, self.before, Vec::new(self.alloc)) {
+            Ok(shelf) => {
+                let mut desk = Desk::new(Some(shelf));
+                self.print_from(&mut desk, &mut held, line, reported);
+                drop(desk);
+            }
+            Err(_) => reported.lose(),
+        }
     }
 
     fn print_from(
         &self,
-        reported: &mut Reported,
         desk: &mut Desk<MemShelf>,
         held: &mut Reported,
-    ) -> Result<(), Failure> {
-        self.make_unbroken(desk, held)?;
+        line: &mut Words<'_>,
+        reported: &mut Reported,
+    ) {
+        self.make_unbroken(desk, held, line);
         reported.begin();
         reported.text("unbroken: ");
-        reported.text(held.as_str());
+        reported.add(held);
         reported.end();
-        let after = desk.shelf()?;
-        print_files(reported, after);
-        let stopped = Stopped {
-            trial: *self,
-            after,
-            held: held.as_str(),
-        };
-        for (call, number, what) in CALLS {
-            stopped.print_moments(reported, what, call, number)?;
+        if let Some(after) = desk.shelf() {
+            print_files(reported, after);
+            let stopped = Stopped {
+                trial: *self,
+                after,
+                held: held.as_str(),
+            };
+            for (call, number, what) in CALLS {
+                stopped.print_moments(what, call, number, line, reported);
+            }
         }
-        Ok(())
     }
 
     /// Makes the call without a stop, and prints what a new book says then.
-    fn make_unbroken(&self, desk: &mut Desk<MemShelf>, held: &mut Reported) -> Result<(), Failure> {
-        let Answer::Done = self.open_and_call(desk)? else {
-            return Err(Failure::Script);
-        };
-        desk.close()?;
-        desk.print_opened(self.alloc, held)?;
-        desk.close()
+    fn make_unbroken(&self, desk: &mut Desk<MemShelf>, held: &mut Reported, line: &mut Words<'_>) {
+        let answer = self.open_and_call(desk, line);
+        if !answer.is_done() {
+            answer.report(held);
+            line.refuse();
+        }
+        desk.close(line);
+        desk.print_opened(self.alloc, line, held);
+        desk.close(line);
     }
 
     /// Opens a book and makes the call.
-    fn open_and_call(&self, desk: &mut Desk<MemShelf>) -> Result<Answer, Failure> {
-        match desk.open(self.alloc)? {
-            Answer::Done => self.make(desk),
-            refused => Ok(refused),
+    fn open_and_call(&self, desk: &mut Desk<MemShelf>, line: &mut Words<'_>) -> Answer {
+        match desk.open(self.alloc, line) {
+            Answer::Done => self.make(desk, line),
+            refused => refused,
         }
     }
 
     /// Makes the call of a book that is open.
-    fn make(&self, desk: &mut Desk<MemShelf>) -> Result<Answer, Failure> {
-        let mut line = self.call;
-        let answer = match line.word() {
-            "open" => Ok(Answer::Done),
-            word => desk.call(self.alloc, word, &mut line, self.plan),
+    fn make(&self, desk: &mut Desk<MemShelf>, line: &mut Words<'_>) -> Answer {
+        let mut call = self.call;
+        let answer = match call.word() {
+            "open" => Answer::Done,
+            word => desk.call(self.alloc, word, &mut call, self.plan),
         };
-        line.end()?;
+        line.note(call.end());
         answer
     }
 }
@@ -116,11 +124,12 @@ impl Stopped<'_> {
     /// Prints what is left for each moment of this call of the shelf.
     fn print_moments(
         &self,
-        reported: &mut Reported,
         what: &'static str,
         call: ShelfCall,
         number: u64,
-    ) -> Result<(), Failure> {
+        line: &mut Words<'_>,
+        reported: &mut Reported,
+    ) {
         let mut runs = Runs::new(self.trial.alloc, what);
         for place in 0..LONGEST + 3 {
             let moment = moment_at(place);
@@ -129,33 +138,58 @@ impl Stopped<'_> {
                 number,
                 moment,
             };
-            self.print_stop(&mut runs.next, stop)?;
+            self.print_stop(stop, line, &mut runs.next);
             runs.add(reported, Place::Stop(moment));
         }
-        runs.finish(reported)
+        runs.print_run(reported);
     }
 
     /// Makes the call with this stop, and prints what it answers and what is left.
-    fn print_stop(
-        &self,
-        reported: &mut Reported,
-        stop: CallStop<ShelfCall>,
-    ) -> Result<(), Failure> {
-        let alloc = self.trial.alloc;
-        let schedule = Vec::from_slice(alloc, &[stop])?;
-        let shelf = shelf_with(alloc, self.trial.before, schedule)?;
-        self.print_stop_at(reported, &mut Desk::new(Some(shelf)), stop)
+    fn print_stop(&self, stop: CallStop<ShelfCall>, line: &mut Words<'_>, reported: &mut Reported) {
+        match self.stopping(stop) {
+            Ok(shelf) => {
+                let mut desk = Desk::new(Some(shelf));
+                self.print_stop_at(&mut desk, stop, line, reported);
+                drop(desk);
+            }
+            Err(_) => reported.lose(),
+        }
+    }
+
+    /// A shelf with the files before the call, and this stop.
+    fn stopping(&self, stop: CallStop<ShelfCall>) -> Result<MemShelf, AllocError> {
+        let schedule = Vec::from_slice(self.trial.alloc, &[stop])?;
+        shelf_with(self.trial.alloc, self.trial.before, schedule)
     }
 
     fn print_stop_at(
         &self,
-        reported: &mut Reported,
         desk: &mut Desk<MemShelf>,
         stop: CallStop<ShelfCall>,
-    ) -> Result<(), Failure> {
-        let answer = self.trial.open_and_call(desk)?;
-        let later = self.close(desk, answer)?;
-        let shelf = desk.shelf()?;
+        line: &mut Words<'_>,
+        reported: &mut Reported,
+    ) {
+        let answer = self.trial.open_and_call(desk, line);
+        let later = self.close(desk, answer, line);
+        if let Some(shelf) = desk.shelf() {
+            self.print_left(shelf, stop, answer, later, reported);
+        }
+        desk.reopen(line);
+        desk.print_opened(self.trial.alloc, line, reported);
+        if !reported.as_str().ends_with(self.held) {
+            self.print_again(desk, stop, line, reported);
+        }
+    }
+
+    /// Prints what was answered, and what is left on the shelf.
+    fn print_left(
+        &self,
+        shelf: &MemShelf,
+        stop: CallStop<ShelfCall>,
+        answer: Answer,
+        later: Option<Answer>,
+        reported: &mut Reported,
+    ) {
         if shelf.stops() == 0 {
             reported.text("not made, ");
         }
@@ -167,53 +201,57 @@ impl Stopped<'_> {
         reported.text("; ");
         reported.text(self.left_on(shelf, stop));
         reported.text("; ");
-        desk.reopen()?;
-        desk.print_opened(self.trial.alloc, reported)?;
-        if reported.as_str().ends_with(self.held) {
-            Ok(())
-        } else {
-            self.print_again(reported, desk, stop)
-        }
     }
 
     /// Closes the book, if one is open. Gives what it answers to `discard` before, if the call was not done.
-    fn close(&self, desk: &mut Desk<MemShelf>, answer: Answer) -> Result<Option<Answer>, Failure> {
-        if desk.shelf().is_ok() {
-            return Ok(None);
+    fn close(
+        &self,
+        desk: &mut Desk<MemShelf>,
+        answer: Answer,
+        line: &mut Words<'_>,
+    ) -> Option<Answer> {
+        if desk.shelf().is_some() {
+            return None;
         }
-        let later = match answer {
-            Answer::Done => None,
-            _ => Some(self.make_plain(desk, "discard")?),
+        let later = if answer.is_done() {
+            None
+        } else {
+            Some(self.make_plain(desk, "discard", line))
         };
-        desk.close()?;
-        Ok(later)
+        desk.close(line);
+        later
     }
 
     /// Resumes the call, as a run does, where a new book does not say what it says after the unbroken call: where a plan is
     /// to be begun, a journal without one is discarded before, and where a step is to be logged, a torn line is mended.
     fn print_again(
         &self,
-        reported: &mut Reported,
         desk: &mut Desk<MemShelf>,
         stop: CallStop<ShelfCall>,
-    ) -> Result<(), Failure> {
+        line: &mut Words<'_>,
+        reported: &mut Reported,
+    ) {
         let mut words = self.trial.call;
-        match words.word() {
-            "begin" => self.make_plain(desk, "discard")?,
-            "done" | "void" | "log" => self.make_plain(desk, "mend")?,
+        let mended = match words.word() {
+            "begin" => self.make_plain(desk, "discard", line),
+            "done" | "void" | "log" => self.make_plain(desk, "mend", line),
             _ => Answer::Done,
         };
+        if mended.wants_memory() {
+            reported.lose();
+        }
         reported.text("; again ");
-        self.trial.make(desk)?.report(reported);
-        desk.close()?;
+        self.trial.make(desk, line).report(reported);
+        desk.close(line);
         reported.text(", ");
-        reported.text(self.left_on(desk.shelf()?, stop));
-        Ok(())
+        if let Some(shelf) = desk.shelf() {
+            reported.text(self.left_on(shelf, stop));
+        }
     }
 
     /// Makes a call that is one word.
-    fn make_plain(&self, desk: &mut Desk<MemShelf>, word: &str) -> Result<Answer, Failure> {
-        desk.call(self.trial.alloc, word, &mut Words::new(b""), None)
+    fn make_plain(&self, desk: &mut Desk<MemShelf>, word: &str, line: &mut Words<'_>) -> Answer {
+        desk.call(self.trial.alloc, word, line, None)
     }
 
     /// What the files of this shelf are, seen from the call.

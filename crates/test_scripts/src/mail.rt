@@ -3,9 +3,12 @@
 use crate::failure::Failure;
 use crate::reported::Reported;
 use crate::words::Words;
+use mailcore::flags::Flags;
+use mailcore::listing::Item;
 use mailcore::mailbox::{Message, StoredMailbox};
 use mailcore::mailbox_name::MailboxName;
 use mailcore::octets::Octets;
+use mailcore::uid::Uid;
 use std::alloc::Global;
 
 /// `VALIDITY NEXT NAME`: an empty mailbox. `Script`: the name is outside the limits.
@@ -79,10 +82,8 @@ pub fn print_lines(reported: &mut Reported, words: &str, lines: &[u8]) {
 pub fn print_mailbox(reported: &mut Reported, mailbox: &StoredMailbox) {
     reported.begin();
     reported.bytes(mailbox.name.as_str().as_bytes());
-    reported.text(": validity ");
-    reported.number(u64::from(mailbox.validity));
-    reported.text(", next ");
-    reported.number(u64::from(mailbox.next));
+    reported.text(": ");
+    print_numbers(reported, mailbox.validity, mailbox.next);
     for message in mailbox.messages.as_slice() {
         reported.text("; ");
         print_message(reported, message);
@@ -90,11 +91,32 @@ pub fn print_mailbox(reported: &mut Reported, mailbox: &StoredMailbox) {
     reported.end();
 }
 
+/// A UIDVALIDITY and a UIDNEXT.
+pub fn print_numbers(reported: &mut Reported, validity: u32, next: u32) {
+    reported.text("validity ");
+    reported.number(u64::from(validity));
+    reported.text(", next ");
+    reported.number(u64::from(next));
+}
+
+/// A UID and flags.
+fn print_flagged(reported: &mut Reported, uid: Uid, flags: Flags) {
+    reported.number(u64::from(uid.get()));
+    reported.text(" ");
+    reported.flags(flags);
+}
+
+/// A message of a listing: its UID and its flags, and `unfit` where it is not fit to be copied.
+pub fn print_item(reported: &mut Reported, item: &Item) {
+    print_flagged(reported, item.uid, item.flags);
+    if !item.fit {
+        reported.text(" unfit");
+    }
+}
+
 /// A message: its UID, its flags and its bytes.
 pub fn print_message(reported: &mut Reported, message: &Message) {
-    reported.number(u64::from(message.uid.get()));
-    reported.text(" ");
-    reported.flags(message.flags);
+    print_flagged(reported, message.uid, message.flags);
     reported.text(" \"");
     reported.bytes(message.bytes.as_slice());
     reported.text("\"");

@@ -85,6 +85,7 @@ fn play_line<P: Player>(
     let number = script.number();
     let mut words = Words::new(line);
     let played = match player.play(&mut words, script) {
+        Ok(()) if script.reported.is_lost() => Err(Failure::NoMemory),
         Ok(()) => words.end(),
         failed => failed,
     };

@@ -42,6 +42,17 @@ impl Reported {
         self.is_lost = true;
     }
 
+    /// Empties it. What was lost stays noted.
+    pub fn clear(&mut self) {
+        self.text.clear();
+    }
+
+    /// Adds what another one has, and notes what it has lost.
+    pub fn add(&mut self, other: &Reported) {
+        self.text(other.as_str());
+        self.is_lost = self.is_lost || other.is_lost;
+    }
+
     /// Adds a text as it stands.
     pub fn text(&mut self, text: &str) {
         if self.text.push_str(text).is_err() {

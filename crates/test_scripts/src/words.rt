@@ -47,6 +47,13 @@ impl<'a> Words<'a> {
         }
     }
 
+    /// Notes why this failed, if it failed.
+    pub fn note(&mut self, done: Result<(), Failure>) {
+        if let Err(failure) = done {
+            self.fail(failure);
+        }
+    }
+
     /// The next word; an empty one, and the line is bad, where there is none.
     pub fn word(&mut self) -> &'a str {
         let text = self.rest();
