@@ -1,10 +1,8 @@
 -- Chunks of bytes, of which the first is the last in a vector, and what is handed out of them.
-use Rattle.std.proofs.Common.{◌≡◌, ℕ, ◌+◌, ◌-◌, ◌<◌, ◌≤◌, refl, subst, List, [], ◌∷◌, ◌++◌, length, take, drop, sym, ap, ◌∙◌, append_assoc, arith, length-append, length-drop}
+use Rattle.std.proofs.Common.{◌≡◌, ℕ, ◌+◌, ◌-◌, ◌<◌, refl, subst, List, [], ◌∷◌, ◌++◌, length, take, drop, sym, ap, ◌∙◌, append_assoc, arith}
 use Rattle.std.specs.Prelude.{Vec, Option, Some, None, MatchOption, option_to_list}
 use Rattle.std.specs.Global.{Global}
 use Rattle.std.proofs.lemmas.List.{append-nil}
-use Rattle.std.proofs.Math.Logic.{⊎_elim}
-use Rattle.std.proofs.Math.Nat.{eq-or-lt_of_le}
 use Rattle.link_face.specs.Chunks.{AreSome, from_last}
 use Rattle.link_face.proofs.Pieces.{took}
 
@@ -42,17 +40,6 @@ pub rest-are_some : (old new : List (Vec ℕ Global)) (result : Option (Vec ℕ 
 rest-are_some old new None some same = let P : List (Vec ℕ Global) → Type 0 = AreSome in subst P (same ∙ append-nil new) some
 rest-are_some old new (Some chunk) some same = let P : List (Vec ℕ Global) → Type 0 = AreSome in (snoc-are_some new chunk (subst P same some)).0
 
--- where something is left, the first bytes are not all handed out
-pub some_left : (bytes later now : List ℕ) (given : ℕ) → drop given bytes ++ later ≡ now → given ≤ length bytes → (given ≡ length bytes → later ≡ []) → 0 < length now → given < length bytes
-some_left bytes later now given is within none some = ⊎_elim (λ e. absurd (nothing_left (none e) (drop_all e))) (λ lt. lt) (eq-or-lt_of_le within)
-  where
-    drop_all : given ≡ length bytes → length (drop given bytes) ≡ 0
-    drop_all e = omega (arith, length-drop given bytes)
-
-    nothing_left : later ≡ [] → length (drop given bytes) ≡ 0 → ⊥
-    nothing_left nil gone = let long : length (drop given bytes) + length later ≡ length now = sym (length-append (drop given bytes) later) ∙ ap length is in
-        let none' : length later ≡ 0 = ap length nil in omega arith
-
 -- a copy of the front was handed out, and the rest is left, before what comes later
 pub took_before : (bytes lent piece now later left : List ℕ) (given n : ℕ) → drop given bytes ++ later ≡ now → lent ≡ bytes → take n piece ≡ take n (take (length lent - given) (drop given lent))
     → left ≡ drop (given + n) bytes ++ later → now ≡ take n piece ++ left
@@ -61,14 +48,3 @@ took_before bytes lent piece now later left given n is same copied rest =
     ∙ ap (λ (l : List ℕ). l ++ later) (took bytes lent piece (drop given bytes) given n refl same copied)
     ∙ append_assoc (take n piece) (drop (given + n) bytes) later
     ∙ ap (λ (l : List ℕ). take n piece ++ l) (sym rest)
-
--- once the first bytes are all handed out, the next chunk is what comes
-pub next_chunk : (bytes later chunk rest : List ℕ) (given : ℕ) → length bytes ≤ given → later ≡ chunk ++ rest → chunk ++ rest ≡ drop given bytes ++ later
-next_chunk bytes later chunk rest given over same = sym same ∙ ap (λ (l : List ℕ). l ++ later) (sym (none_left bytes given over))
-  where
-    none : (xs : List ℕ) → length xs ≡ 0 → xs ≡ []
-    none [] e = refl
-    none (x ∷ xs) e = absurd (omega arith)
-
-    none_left : (xs : List ℕ) (n : ℕ) → length xs ≤ n → drop n xs ≡ []
-    none_left xs n le = none (drop n xs) (omega (arith, length-drop n xs))

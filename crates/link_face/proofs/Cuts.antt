@@ -1,5 +1,5 @@
 -- A text is cut at the first such byte in one way, and a command into its parts.
-use Rattle.std.proofs.Common.{◌≡◌, ◌≢◌, ◌<◌, ℕ, zero, suc, Bool, true, false, Option, None, Some, List, [], ◌∷◌, ◌++◌, All, length, refl, sym, ap, subst, ◌∙◌, arith}
+use Rattle.std.proofs.Common.{◌≡◌, ◌≢◌, ℕ, suc, Bool, true, false, Option, None, Some, List, [], ◌∷◌, ◌++◌, All, refl, sym, ap, subst, ◌∙◌, arith}
 use Rattle.link_face.specs.Commands.{IsInParts}
 use Rattle.std.specs.Option.{MatchOption}
 

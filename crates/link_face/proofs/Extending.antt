@@ -5,7 +5,7 @@ use Rattle.std.specs.Prelude.{OnOk}
 use Rattle.std.specs.declared.alloc.AllocError.{AllocError}
 use Rattle.wire_reader.specs.Spelling.{Is, crlf}
 use Rattle.wire_tokens.specs.Writing.{Appended, Extended}
-use Rattle.link_face.specs.Heads.{first_word, BeginsWith}
+use Rattle.link_face.specs.Heads.{BeginsWith}
 use Rattle.wire_tokens.proofs.WritingLemmas.{extended_twice}
 use Rattle.link_face.proofs.HeadLemmas.{more_after, begun_status}
 
@@ -77,8 +77,8 @@ appended_extends_if P old new (Err _) a = tt
 pub list_begun : (old new : List ℕ) → old ≡ codes "* LIST () " → Extended old new → BeginsWith (codes "* LIST") new
 list_begun old new o e = begun_extends (codes "* LIST") (codes "() ") old new o e
 
-pub flags_begun : (old mid new : List ℕ) → old ≡ codes "* FLAGS " → Extended old mid → Appended (Is crlf) mid new → BeginsWith (codes "* FLAGS") new
-flags_begun old mid new o e a = begun_extends (codes "* FLAGS") [] old new o (then_is crlf old mid new e a)
+pub flags_begun : (flags old mid new : List ℕ) → old ≡ codes "* FLAGS " → Appended (Is flags) old mid → Appended (Is crlf) mid new → BeginsWith (codes "* FLAGS") new
+flags_begun flags old mid new o e a = begun_extends (codes "* FLAGS") [] old new o (then_is crlf old mid new (is_extends flags old mid e) a)
 
 pub counted_begun : (number event new : List ℕ) → new ≡ codes "* " ++ (number ++ 32 ∷ (event ++ crlf)) → BeginsWith (codes "* " ++ (number ++ 32 ∷ event)) new
 counted_begun number event new e = record {

@@ -1,11 +1,11 @@
 -- Words at the front of a reply.
-use Rattle.std.proofs.Common.{◌≡◌, ◌≢◌, ◌==◌, ◌&&◌, ◌<◌, ◌≤◌, inl, inr, ℕ, suc, ◌+◌, Bool, true, false, cond, not, List, [], ◌∷◌, ◌++◌, length, take, drop, map, codes, Option, None, Some, Vec, refl, sym, ap, subst, ◌∙◌, arith, append_assoc}
-use Rattle.std.specs.Prelude.{unwrap_or, nat_le}
+use Rattle.std.proofs.Common.{◌≡◌, inl, inr, ℕ, suc, ◌+◌, Bool, true, false, cond, List, [], ◌∷◌, ◌++◌, length, take, drop, map, codes, refl, sym, ap, ◌∙◌, arith, append_assoc}
+use Rattle.std.specs.Prelude.{unwrap_or}
 use Rattle.std.specs.Char.{to_ascii_lowercase}
 use Rattle.std.specs.List.{position_from}
 use Rattle.std.proofs.lemmas.Bool.{cases_Bool, false≢true}
 use Rattle.std.proofs.lemmas.Bool.Decides.{nat_tests}
-use Rattle.link_face.specs.Heads.{is_gap, first_word, after_word, after_space, following, second_word, third_word, is_number, asks, SameWord, SameWords, BeginsAs, BeginsWith, IsUntagged, IsStatus, IsNumbered}
+use Rattle.link_face.specs.Heads.{is_gap, first_word, after_word, after_space, following, second_word, third_word, is_number, SameWord, SameWords, BeginsAs, BeginsWith, IsUntagged, IsStatus, IsNumbered}
 
 -- ---- where a word ends
 
@@ -53,10 +53,6 @@ rest_is (b ∷ bs) =
     ]
 
 -- ---- a word, and bytes after it that begin with none
-
--- it has no gap
-pub record IsWord (word : List ℕ) : Type 0 where
-  pub whole : first_word word ≡ word
 
 open_word : (b : ℕ) (bs : List ℕ) → first_word (b ∷ bs) ≡ b ∷ bs → is_gap b ≡ false
 open_word b bs e =

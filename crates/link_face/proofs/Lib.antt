@@ -16,3 +16,5 @@ pub mod HeadLemmas
 pub mod Extending
 pub mod TurnLemmas
 pub mod RowLemmas
+pub mod FlagLemmas
+pub mod TokenLemmas

@@ -1,5 +1,5 @@
 -- Each name in UTF-8 without control characters is read back from its modified UTF-7.
-use Rattle.std.proofs.Common.{◌≡◌, ◌<◌, ◌≤◌, ℕ, ◌+◌, ◌==◌, Bool, true, false, ◌&&◌, not, List, [], ◌∷◌, ◌++◌, map, codes, Option, None, Some, refl, sym, ap, subst, ◌∙◌, arith, inl, inr, append-nil, append_assoc}
+use Rattle.std.proofs.Common.{◌≡◌, ◌≤◌, ℕ, ◌==◌, Bool, true, false, not, List, [], ◌∷◌, ◌++◌, map, codes, Option, None, Some, refl, sym, ap, subst, ◌∙◌, arith, inl, inr, append-nil, append_assoc}
 use Rattle.std.specs.Prelude.{if◌then◌else◌, nat_le}
 use Rattle.std.specs.List.{list_all, flat_map}
 use Rattle.std.specs.Option.{option_and_then}
@@ -12,7 +12,7 @@ use Rattle.std.proofs.lemmas.Str.{IsUtf8-from_is_utf8, scalars-chars, encodes-ch
 use Rattle.base64.specs.Engines.{standard_no_pad}
 use Rattle.base64.specs.GeneralPurpose.{encode_of}
 use Rattle.wire_strings.specs.Texts.{is_text}
-use Rattle.link_face.specs.Names.{is_printable, swapped, plain, utf16_octets, unit_octets, run_text, written, is_name_text, near_name, units_after, text_of, joined, read, far_name, IsName}
+use Rattle.link_face.specs.Names.{is_printable, swapped, plain, utf16_octets, run_text, written, is_name_text, units_after, text_of, joined, read, IsName}
 use Rattle.link_face.proofs.Utf16Back.{AllBelow, units_back, octets_are, text_back, chars_below}
 use Rattle.link_face.proofs.RunsBack.{is_fine, run_fine, run_read}
 use Rattle.std.specs.Char.Escape.{encode_utf16}

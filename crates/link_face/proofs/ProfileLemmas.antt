@@ -6,7 +6,6 @@ use Rattle.std.specs.List.{list_all, find, fold}
 use Rattle.std.proofs.lemmas.List.Folds.{list_all-append, list_all-map}
 use Rattle.mailcore.specs.declared.keywords.Keyword.{Keyword}
 use Rattle.mailcore.specs.declared.mailbox.Message.{Message}
-use Rattle.mailcore.specs.Stores.{Store}
 use Rattle.mailcore.specs.MailboxNames.{is_mailbox_name}
 use Rattle.mailcore.specs.MailboxPatterns.{matches}
 use Rattle.wire_tokens.specs.Names.{has_name}

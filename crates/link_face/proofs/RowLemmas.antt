@@ -1,154 +1,306 @@
--- The UID of a row that is written anew is that of the raw one.
-use Rattle.std.proofs.Common.{◌≡◌, ◌==◌, ℕ, suc, ◌+◌, Bool, true, false, cond, not, List, [], ◌∷◌, ◌++◌, length, take, drop, map, codes, Option, None, Some, Vec, Result, Ok, Err, IfOk, IfSome, refl, sym, ap, subst, ◌∙◌, arith, inl, inr, append_assoc, take-append-drop}
-use Rattle.std.specs.Prelude.{unwrap_or}
+-- A row that is written anew says what the raw one said.
+use Rattle.std.proofs.Common.{◌≡◌, ◌≢◌, ◌==◌, ◌⊎◌, ◌||◌, ◌+◌, ℕ, Bool, true, false, cond, List, [], ◌∷◌, ◌++◌, length, take, drop, map, codes, Option, None, Some, Vec, Result, Ok, Err, IfOk, refl, sym, ap, subst, ◌∙◌, arith, inl, inr, append_assoc}
+use Rattle.std.specs.Prelude.{nat_eq, is_some}
+use Rattle.std.specs.Borrow.{Bor}
 use Rattle.std.specs.Global.{Global}
-use Rattle.std.specs.Char.{is_ascii_digit, to_ascii_lowercase}
-use Rattle.std.specs.List.{position_from}
+use Rattle.std.specs.Option.{option_or}
+use Rattle.std.specs.Cmp.Lexicographic.{pointwise}
+use Rattle.std.specs.Char.{to_ascii_lowercase}
 use Rattle.std.specs.declared.alloc.AllocError.{AllocError}
 use Rattle.std.proofs.lemmas.Bool.{cases_Bool, eqb-true, false≢true}
+use Rattle.std.proofs.lemmas.Bool.Decides.{Decides-eqb}
+use Rattle.std.proofs.lemmas.Slice.Eq.{starts_is, strip_prefix_is}
+use Rattle.wire_reader.specs.Spelling.{Is}
+use Rattle.wire_tokens.specs.Numbers.{NumberText}
+use Rattle.wire_tokens.specs.Writing.{Appended}
+use Rattle.link_face.specs.FlagWords.{listed_flags}
 use Rattle.link_face.specs.declared.row.FetchRow.{FetchRow}
+use Rattle.link_face.specs.declared.row.ItemName.{ItemName}
+use Rattle.link_face.specs.declared.row.ItemName.TheVariants.{Uid, Flags, Size, Body, Head}
 use Rattle.link_face.specs.declared.turning.Turn.{Turn}
 use Rattle.link_face.specs.declared.turning.Turn.TheVariants.{Keep, Replace, Omit, Stop}
-use Rattle.link_face.specs.Heads.{is_gap, first_word, after_word, after_space, following, second_word, third_word, is_number, asks, SameWord, IsBack, IsUntagged, IsStatus, IsNumbered, GivesSome, BeginsWith}
-use Rattle.wire_reader.specs.Spelling.{Is}
-use Rattle.wire_tokens.specs.Writing.{Appended, Extended}
-use Rattle.link_face.proofs.Extending.{then_is}
+use Rattle.link_face.specs.Heads.{is_gap, first_word, after_space, after_event, second_word, is_number, asks, SameWord, IsUntagged, IsStatus, IsNumbered, BeginsWith, GivesSome, HasFront}
+use Rattle.link_face.specs.Rows.{BeginsValue, Item, ItemText, ItemsText, RowText, name_of, same_name, value_of, has, has_all_items, ends_value, is_name, Holds, IsRowOf, ReadsRow, IsUidOf, ItemsWritten, ListingWritten, IsRowWritten, number_in, IsFetch, KeepsRow, LacksItems, GivesRow}
 use Rattle.link_face.proofs.HeadLemmas.{head_is}
-use Rattle.link_face.specs.Rows.{digits_of, StandsAfter, IsRowOf, IsUidIn, IsRowText, HasUid, KeepsUid, IsFetch}
 
--- ---- digits
+-- ---- what is kept of items
 
-pub digits_end : (bytes : List ℕ) (i : ℕ) → unwrap_or (position_from (λ (b : ℕ). not (is_ascii_digit b)) i bytes) (i + length bytes) ≡ i + length (digits_of bytes)
-digits_end [] i = refl
-digits_end (b ∷ bs) i =
-    elim (cases_Bool (is_ascii_digit b)) [
-      | inl e ↦
-          let h : (i + 1) + length bs ≡ i + suc (length bs) = omega arith in
-          let k : (i + 1) + length (digits_of bs) ≡ i + suc (length (digits_of bs)) = omega arith in
-          rw e (ap (unwrap_or (position_from (λ (b : ℕ). not (is_ascii_digit b)) (i + 1) bs)) (sym h) ∙ (digits_end bs (i + 1) ∙ k))
-      | inr e ↦ rw e (omega arith)
+field_in : (found : Option (List ℕ)) (old : Option (Bor (List ℕ))) (value : Bor (List ℕ)) (name : ItemName) (items : List Item) → value_of name items ≡ found → Holds name items old
+    → (item : Item) → item.value ≡ value.now → same_name name (name_of item.name) ≡ true → Holds name (item ∷ items) (option_or old (Some value))
+field_in found None value name items f h item v s =
+    ap (λ (o : Option (List ℕ)). option_or o (cond (same_name name (name_of item.name)) (Some item.value) None)) h
+    ∙ (ap (λ (t : Bool). cond t (let o : Option (List ℕ) = Some item.value in o) None) s ∙ ap (λ (l : List ℕ). let o : Option (List ℕ) = Some l in o) v)
+field_in found (Some w) value name items f h item v s = ap (λ (o : Option (List ℕ)). option_or o (cond (same_name name (name_of item.name)) (Some item.value) None)) h
+
+or_none : (o : Option (List ℕ)) → option_or o None ≡ o
+or_none None = refl
+or_none (Some x) = refl
+
+field_out : (old : Option (Bor (List ℕ))) (name : ItemName) (items : List Item) (item : Item) → same_name name (name_of item.name) ≡ false → Holds name items old → Holds name (item ∷ items) old
+field_out None name items item s h = ap (λ (t : Bool). option_or (value_of name items) (cond t (let o : Option (List ℕ) = Some item.value in o) None)) s ∙ (or_none (value_of name items) ∙ h)
+field_out (Some w) name items item s h = ap (λ (t : Bool). option_or (value_of name items) (cond t (let o : Option (List ℕ) = Some item.value in o) None)) s ∙ (or_none (value_of name items) ∙ h)
+
+field : (name kind : ItemName) (items : List Item) (item : Item) (old : Option (Bor (List ℕ))) (value : Bor (List ℕ)) → name_of item.name ≡ kind → item.value ≡ value.now → Holds name items old
+    → (same : Bool) → same_name name kind ≡ same → Holds name (item ∷ items) (cond same (option_or old (Some value)) old)
+field name kind items item old value k v h true s = field_in (value_of name items) old value name items refl h item v (ap (same_name name) k ∙ s)
+field name kind items item old value k v h false s = field_out old name items item (ap (same_name name) k ∙ s) h
+
+abbrev pub took : ItemName → FetchRow → Bor (List ℕ) → FetchRow
+took kind row value = record {
+  uid = cond (same_name Uid kind) (option_or row.uid (Some value)) row.uid;
+  flags = cond (same_name Flags kind) (option_or row.flags (Some value)) row.flags;
+  size = cond (same_name Size kind) (option_or row.size (Some value)) row.size;
+  body = cond (same_name Body kind) (option_or row.body (Some value)) row.body;
+  head = cond (same_name Head kind) (option_or row.head (Some value)) row.head;
+}
+
+pub takes : (kind : ItemName) (items : List Item) (item : Item) (row : FetchRow) (value : Bor (List ℕ)) → name_of item.name ≡ kind → item.value ≡ value.now → IsRowOf items row
+    → IsRowOf (item ∷ items) (took kind row value)
+takes kind items item row value k v h = record {
+  uid = field Uid kind items item row.uid value k v h.uid (same_name Uid kind) refl;
+  flags = field Flags kind items item row.flags value k v h.flags (same_name Flags kind) refl;
+  size = field Size kind items item row.size value k v h.size (same_name Size kind) refl;
+  body = field Body kind items item row.body value k v h.body (same_name Body kind) refl;
+  head = field Head kind items item row.head value k v h.head (same_name Head kind) refl;
+}
+
+pub holds_has : (name : ItemName) (items : List Item) (kept : Option (Bor (List ℕ))) → Holds name items kept → is_some kept ≡ has name items
+holds_has name items None h = sym (ap is_some h)
+holds_has name items (Some v) h = sym (ap is_some h)
+
+-- ---- items, one after another
+
+-- one item more, and what follows it
+pub record Further (item : Item) (items : List Item) (front rest following : List ℕ) : Type 0 where
+  pub text : List ℕ
+  pub parts : front ++ rest ≡ text ++ following
+  pub is : ItemsText (item ∷ items) text
+
+nil_name : (name rest : List ℕ) (A : Type 0) → [] ≡ name ++ 32 ∷ rest → A
+nil_name [] rest A e = absurd (cc)
+nil_name (b ∷ bs) rest A e = absurd (cc)
+
+item_text : (name value : List ℕ) → is_name false name ≡ true → (bytes rest : List ℕ) → BeginsValue bytes value rest → ItemText (record { name = name; value = value }) (name ++ 32 ∷ value)
+item_text name value n bytes rest v = record { parts = refl; name = n; value = v.is }
+
+item_parts : (bytes name tail value following : List ℕ) → bytes ≡ name ++ 32 ∷ tail → tail ≡ value ++ following → bytes ≡ (name ++ 32 ∷ value) ++ following
+item_parts bytes name tail value following e t = e ∙ (ap (λ (l : List ℕ). name ++ 32 ∷ l) t ∙ sym (append_assoc name (32 ∷ value) following))
+
+with_space : (items : List Item) (item : Item) (front text : List ℕ) → ItemsText items front → ItemText item text → ItemsText (item ∷ items) (front ++ 32 ∷ text)
+with_space [] item front text f t = inr (record { front = 32 ∷ []; back = text; parts = ap (λ (l : List ℕ). l ++ 32 ∷ text) f; first = refl; second = t })
+with_space (other ∷ before) item front text f t = record {
+  front = front;
+  back = 32 ∷ text;
+  parts = refl;
+  first = f;
+  second = record { front = 32 ∷ []; back = text; parts = refl; first = refl; second = t };
+}
+
+-- before the first item, or where a value ends
+abbrev pub MayEnd : List Item → List ℕ → Type 0
+MayEnd items rest = (items ≡ []) ⊎ (ends_value rest ≡ true)
+
+pub at_first : (rest : List ℕ) → MayEnd [] rest
+at_first rest = inl refl
+
+pub at_end : (items : List Item) (rest : List ℕ) → ends_value rest ≡ true → MayEnd items rest
+at_end items rest e = inr e
+
+no_bracket : (b : ℕ) → (b == 32) ≡ false → (b == 41) ≡ false → (b == 32 || b == 41) ≡ true → ⊥
+no_bracket b s c e = false≢true (sym (ap (λ (t : Bool). t || b == 41) s ∙ c) ∙ e)
+
+without_space : (items : List Item) (item : Item) (front text rest : List ℕ) (b : ℕ) (bs : List ℕ) → MayEnd items (b ∷ bs) → (b == 32) ≡ false → (b == 41) ≡ false → ItemsText items front → ItemText item text
+    → (front ≡ []) × ItemsText (item ∷ items) text
+without_space [] item front text rest b bs m s c f t = (f, inl t)
+without_space (other ∷ before) item front text rest b bs (inl e) s c f t = absurd (cc)
+without_space (other ∷ before) item front text rest b bs (inr e) s c f t = absurd (no_bracket b s c e)
+
+pub further : (items : List Item) (front rest name tail value following : List ℕ) → ItemsText items front → MayEnd items rest → pointwise nat_eq (41 ∷ []) (take 1 rest) ≡ false → after_space rest ≡ name ++ 32 ∷ tail
+    → is_name false name ≡ true → BeginsValue tail value following → Further (record { name = name; value = value }) items front rest following
+further items front [] name tail value following f m c a n v = nil_name name tail _ a
+further items front (b ∷ bs) name tail value following f m c a n v =
+    let text = name ++ 32 ∷ value in
+    let t = item_text name value n tail following v in
+    elim (cases_Bool (b == 32)) [
+      | inl s ↦
+          let is : bs ≡ text ++ following = item_parts bs name tail value following (sym (ap (λ (t : Bool). cond t bs (b ∷ bs)) s) ∙ a) v.parts in
+          let space : b ≡ 32 = eqb-true b 32 s in
+          record {
+            text = front ++ 32 ∷ text;
+            parts = ap (λ (k : ℕ). front ++ k ∷ bs) space ∙ (ap (λ (l : List ℕ). front ++ 32 ∷ l) is ∙ sym (append_assoc front (32 ∷ text) following));
+            is = with_space items _ front text f t;
+          }
+      | inr s ↦
+          let is : b ∷ bs ≡ text ++ following = item_parts (b ∷ bs) name tail value following (sym (ap (λ (t : Bool). cond t bs (b ∷ bs)) s) ∙ a) v.parts in
+          let first = without_space items (record { name = name; value = value }) front text bs b bs m s (no_close b bs c) f t in
+          record { text = text; parts = ap (λ (l : List ℕ). l ++ (b ∷ bs)) first.0 ∙ is; is = first.1 }
     ]
-
-pub digits_count : (bytes : List ℕ) → unwrap_or (position_from (λ (b : ℕ). not (is_ascii_digit b)) 0 bytes) (length bytes) ≡ length (digits_of bytes)
-digits_count bytes =
-    let e : length bytes ≡ 0 + length bytes = omega arith in
-    let k : 0 + length (digits_of bytes) ≡ length (digits_of bytes) = omega arith in
-    ap (unwrap_or (position_from (λ (b : ℕ). not (is_ascii_digit b)) 0 bytes)) e ∙ (digits_end bytes 0 ∙ k)
-
-pub digits_front : (bytes : List ℕ) → take (length (digits_of bytes)) bytes ≡ digits_of bytes
-digits_front [] = refl
-digits_front (b ∷ bs) =
-    elim (cases_Bool (is_ascii_digit b)) [
-      | inl e ↦ rw e (ap (λ (l : List ℕ). b ∷ l) (digits_front bs))
-      | inr e ↦ rw e refl
-    ]
-
--- ---- ends of bytes
-
-pub back_whole : (bytes : List ℕ) → IsBack bytes bytes
-back_whole bytes = record { front = []; parts = refl }
-
-pub back_of_back : (a b c : List ℕ) → IsBack a b → IsBack b c → IsBack a c
-back_of_back a b c x y = record { front = x.front ++ y.front; parts = x.parts ∙ (ap (λ (l : List ℕ). x.front ++ l) y.parts ∙ sym (append_assoc x.front y.front c)) }
-
-more_front : (b : ℕ) (bs back : List ℕ) → IsBack bs back → IsBack (b ∷ bs) back
-more_front b bs back x = record { front = b ∷ x.front; parts = ap (λ (l : List ℕ). b ∷ l) x.parts }
-
-pub back_after_word : (bytes : List ℕ) → IsBack bytes (after_word bytes)
-back_after_word [] = back_whole []
-back_after_word (b ∷ bs) =
-    elim (cases_Bool (is_gap b)) [
-      | inl e ↦ rw e (back_whole (b ∷ bs))
-      | inr e ↦ rw e (more_front b bs (after_word bs) (back_after_word bs))
-    ]
-
-pub back_after_space : (bytes : List ℕ) → IsBack bytes (after_space bytes)
-back_after_space [] = back_whole []
-back_after_space (b ∷ bs) = go (b == 32)
   where
-    go : (t : Bool) → IsBack (b ∷ bs) (cond t bs (b ∷ bs))
-    go true = more_front b bs bs (back_whole bs)
-    go false = back_whole (b ∷ bs)
+    no_close : (b : ℕ) (bs : List ℕ) → pointwise nat_eq (41 ∷ []) (take 1 (b ∷ bs)) ≡ false → (b == 41) ≡ false
+    no_close b bs c =
+        elim (cases_Bool (b == 41)) [
+          | inl t ↦ absurd (false≢true (sym c ∙ (starts_is Decides-eqb (b ∷ bs) (41 ∷ []) (pointwise nat_eq (41 ∷ []) (take 1 (b ∷ bs))) refl).1 bs (ap (λ (k : ℕ). k ∷ bs) (eqb-true b 41 t))))
+          | inr f ↦ f
+        ]
 
-back_following : (bytes : List ℕ) → IsBack bytes (following bytes)
-back_following bytes = back_of_back bytes (after_word bytes) (following bytes) (back_after_word bytes) (back_after_space (after_word bytes))
+-- ---- a row so far
 
-pub rest_back : (raw : List ℕ) → IsBack raw (after_word (following (following raw)))
-rest_back raw =
-    let two = following (following raw) in
-    back_of_back raw (following raw) (after_word two) (back_following raw)
-    (back_of_back (following raw) two (after_word two) (back_following (following raw)) (back_after_word two))
+pub record RowSoFar (bytes : List ℕ) (row : FetchRow) (rest : List ℕ) : Type 0 where
+  pub items : List Item
+  pub front : List ℕ
+  pub parts : bytes ≡ codes " (" ++ (front ++ rest)
+  pub text : ItemsText items front
+  pub ends : MayEnd items rest
+  pub is : IsRowOf items row
 
--- ---- items
+pub row_begins : (bytes : List ℕ) (row : FetchRow) (items : Bor (List ℕ)) → (pointwise nat_eq (take 2 bytes) (codes " (") ≡ true) × (items.now ≡ drop 2 bytes) × (length items.now + 2 ≡ length bytes) → IsRowOf [] row
+    → RowSoFar bytes row items.now
+row_begins bytes row items cases is = record {
+  items = [];
+  front = [];
+  parts = strip_prefix_is Decides-eqb bytes (codes " (") (Some items) cases;
+  text = refl;
+  ends = at_first items.now;
+  is = is;
+}
 
-pub stands : (name word bytes value : List ℕ) → IsBack bytes (word ++ 32 ∷ value) → SameWord word name → StandsAfter name bytes value
-stands name word bytes value b s = record { word = word; same = s; back = b }
+close_first : (rest : List ℕ) → pointwise nat_eq (41 ∷ []) (take 1 rest) ≡ true → rest ≡ 41 ∷ drop 1 rest
+close_first rest c = (starts_is Decides-eqb rest (41 ∷ []) (pointwise nat_eq (41 ∷ []) (take 1 rest)) refl).0 c
 
-further : (name bytes items value : List ℕ) → IsBack bytes items → StandsAfter name items value → StandsAfter name bytes value
-further name bytes items value b s = record { word = s.word; same = s.same; back = back_of_back bytes items (s.word ++ 32 ∷ value) b s.back }
-
--- ---- rows
-
-pub begun_uid : (items number digits old new text : List ℕ) → IsUidIn items digits → old ≡ codes "* " ++ (number ++ (codes " FETCH (UID " ++ (digits ++ 32 ∷ []))) → new ≡ old ++ text
-    → HasUid items number new
-begun_uid items number digits old new text u o n = record {
-  digits = digits;
-  uid = u;
+pub row_ends : (bytes : List ℕ) (row : FetchRow) (rest : List ℕ) → RowSoFar bytes row rest → pointwise nat_eq (41 ∷ []) (take 1 rest) ≡ true → ReadsRow bytes row
+row_ends bytes row rest h c = record {
+  items = h.items;
   text = record {
-    rest = text;
-    parts = n ∙ (ap (λ (l : List ℕ). l ++ text) o
-        ∙ (append_assoc (codes "* ") (number ++ (codes " FETCH (UID " ++ (digits ++ 32 ∷ []))) text
-        ∙ ap (λ (l : List ℕ). codes "* " ++ l) (append_assoc number (codes " FETCH (UID " ++ (digits ++ 32 ∷ [])) text
-        ∙ ap (λ (l : List ℕ). number ++ l) (append_assoc (codes " FETCH (UID ") (digits ++ 32 ∷ []) text
-        ∙ ap (λ (l : List ℕ). codes " FETCH (UID " ++ l) (append_assoc digits (32 ∷ []) text)))));
+    text = h.front;
+    following = drop 1 rest;
+    parts = h.parts ∙ ap (λ (l : List ℕ). codes " (" ++ (h.front ++ l)) (close_first rest c);
+    items_text = h.text;
+  };
+  is = h.is;
+}
+
+pub row_goes_on : (bytes : List ℕ) (old new : FetchRow) (rest after name tail value following : List ℕ) → RowSoFar bytes old rest → pointwise nat_eq (41 ∷ []) (take 1 rest) ≡ false → after ≡ after_space rest
+    → after ≡ name ++ 32 ∷ tail → is_name false name ≡ true → BeginsValue tail value following
+    → ((items : List Item) → IsRowOf items old → IsRowOf (record { name = name; value = value } ∷ items) new) → RowSoFar bytes new following
+row_goes_on bytes old new rest after name tail value following h c a p n v took =
+    let more = further h.items h.front rest name tail value following h.text h.ends c (sym a ∙ p) n v in
+    record {
+      items = record { name = name; value = value } ∷ h.items;
+      front = more.text;
+      parts = h.parts ∙ ap (λ (l : List ℕ). codes " (" ++ l) more.parts;
+      text = more.is;
+      ends = at_end _ following v.ends;
+      is = took h.items h.is;
+    }
+
+-- ---- rows that are written anew
+
+pub front_uid : (number uid old new : List ℕ) → old ≡ codes "* " ++ (number ++ codes " FETCH (UID ") → new ≡ old ++ (uid ++ 32 ∷ [])
+    → new ≡ codes "* " ++ (number ++ (codes " FETCH (UID " ++ (uid ++ 32 ∷ [])))
+front_uid number uid old new o n =
+    n ∙ (ap (λ (l : List ℕ). l ++ (uid ++ 32 ∷ [])) o
+    ∙ (append_assoc (codes "* ") (number ++ codes " FETCH (UID ") (uid ++ 32 ∷ [])
+    ∙ ap (λ (l : List ℕ). codes "* " ++ l) (append_assoc number (codes " FETCH (UID ") (uid ++ 32 ∷ []))))
+
+pub listing_written : (list words digits old one two three new : List ℕ) (size : ℕ) → list ≡ 40 ∷ (words ++ 41 ∷ []) → (is_number digits ≡ true) × (size ≡ number_in digits) → Appended (Is (codes "FLAGS ")) old one
+    → Appended (Is (listed_flags false words)) one two → Appended (Is (codes " RFC822.SIZE ")) two three → Appended (NumberText size) three new → Appended (ListingWritten list digits) old new
+listing_written list words digits old one two three new size l s a b c d = record {
+  text = a.text ++ (b.text ++ (c.text ++ d.text));
+  parts = d.parts
+      ∙ (ap (λ (x : List ℕ). x ++ d.text) (c.parts ∙ ap (λ (x : List ℕ). x ++ c.text) (b.parts ∙ ap (λ (x : List ℕ). x ++ b.text) a.parts))
+      ∙ (append_assoc ((old ++ a.text) ++ b.text) c.text d.text ∙ (append_assoc (old ++ a.text) b.text (c.text ++ d.text) ∙ append_assoc old a.text (b.text ++ (c.text ++ d.text)))));
+  spelled = record {
+    front = a.text;
+    back = b.text ++ (c.text ++ d.text);
+    parts = refl;
+    first = a.spelled;
+    second = record {
+      front = b.text;
+      back = c.text ++ d.text;
+      parts = refl;
+      first = record { words = words; parts = l; is = b.spelled };
+      second = record {
+        front = c.text;
+        back = d.text;
+        parts = refl;
+        first = c.spelled;
+        second = record { number = s.0; is = subst (λ (n : ℕ). NumberText n d.text) s.1 d.spelled };
+      };
+    };
   };
 }
 
-pub row_uid : (items number digits old mid new : List ℕ) → IsUidIn items digits → old ≡ codes "* " ++ (number ++ (codes " FETCH (UID " ++ (digits ++ 32 ∷ []))) → Extended old mid
-    → Appended (Is (codes ")\r\n")) mid new → HasUid items number new
-row_uid items number digits old mid new u o e b =
-    let all = then_is (codes ")\r\n") old mid new e b in
-    begun_uid items number digits old new all.text u o all.parts
+pub row_written : (items : List Item) (number uid old mid new : List ℕ) → IsUidOf items uid → old ≡ codes "* " ++ (number ++ (codes " FETCH (UID " ++ (uid ++ 32 ∷ []))) → Appended (ItemsWritten items) old mid
+    → Appended (Is (codes ")\r\n")) mid new → IsRowWritten number items new
+row_written items number uid old mid new u o e b =
+    let more : List ℕ = e.text ++ codes ")\r\n" in
+    record {
+      uid = uid;
+      is_uid = u;
+      written = e.text;
+      parts = b.parts ∙ (ap (λ (l : List ℕ). mid ++ l) b.spelled ∙ (ap (λ (l : List ℕ). l ++ codes ")\r\n") e.parts ∙ (append_assoc old e.text (codes ")\r\n") ∙ (ap (λ (l : List ℕ). l ++ more) o
+          ∙ (append_assoc (codes "* ") (number ++ (codes " FETCH (UID " ++ (uid ++ 32 ∷ []))) more
+          ∙ ap (λ (l : List ℕ). codes "* " ++ l) (append_assoc number (codes " FETCH (UID " ++ (uid ++ 32 ∷ [])) more
+          ∙ ap (λ (l : List ℕ). number ++ l) (append_assoc (codes " FETCH (UID ") (uid ++ 32 ∷ []) more
+          ∙ ap (λ (l : List ℕ). codes " FETCH (UID " ++ l) (append_assoc uid (32 ∷ []) more))))))));
+      values = e.spelled;
+    }
+
+written_begins : (items : List Item) (number bytes : List ℕ) → IsRowWritten number items bytes → BeginsWith (codes "* " ++ (number ++ codes " FETCH")) bytes
+written_begins items number bytes h =
+    let more : List ℕ = codes " (UID " ++ (h.uid ++ 32 ∷ (h.written ++ codes ")\r\n")) in
+    record {
+      rest = more;
+      parts = h.parts ∙ sym (append_assoc (codes "* ") (number ++ codes " FETCH") more ∙ ap (λ (l : List ℕ). codes "* " ++ l) (append_assoc number (codes " FETCH") more));
+      ends = refl;
+    }
+
+row_front : (items : List Item) (number : List ℕ) (turn : Turn) → GivesRow number items turn → HasFront (codes "* " ++ (number ++ codes " FETCH")) turn
+row_front items number Keep t = t
+row_front items number (Replace row) t = written_begins items number row.items t
+row_front items number Omit t = absurd t
+row_front items number Stop t = tt
+
+row_kept : (bytes number : List ℕ) (items : List Item) (turn : Turn) → RowText items bytes → GivesRow number items turn → KeepsRow bytes number turn
+row_kept bytes number items Keep r t = absurd t
+row_kept bytes number items (Replace row) r t = record { items = items; raw = r; written = t }
+row_kept bytes number items Omit r t = absurd t
+row_kept bytes number items Stop r t = tt
+
+pub row_front_if : (bytes number : List ℕ) (row : FetchRow) (result : Result Turn AllocError) → ReadsRow bytes row → ((items : List Item) → IsRowOf items row → IfOk result (GivesRow number items))
+    → IfOk result (HasFront (codes "* " ++ (number ++ codes " FETCH")))
+row_front_if bytes number row (Ok turn) r t = row_front r.items number turn (t r.items r.is)
+row_front_if bytes number row (Err e) r t = tt
+
+pub row_kept_if : (bytes number : List ℕ) (row : FetchRow) (result : Result Turn AllocError) → ReadsRow bytes row → ((items : List Item) → IsRowOf items row → IfOk result (GivesRow number items))
+    → IfOk result (KeepsRow bytes number)
+row_kept_if bytes number row (Ok turn) r t = row_kept bytes number r.items turn r.text (t r.items r.is)
+row_kept_if bytes number row (Err e) r t = tt
 
 some_is : (x y : Vec ℕ Global) → Some x ≡ Some y → x ≡ y
 some_is x y e = cc
 
-none_is_some : (x : Vec ℕ Global) (A : Type 0) → (let o : Option (Vec ℕ Global) = None in o) ≡ Some x → A
-none_is_some x A e = absurd (cc)
+gives_row : (number : List ℕ) (items : List Item) (out : Vec ℕ Global) (turn : Turn) → IsRowWritten number items out.items → GivesSome (Some out) turn → turn ≢ Omit → GivesRow number items turn
+gives_row number items out Keep i g o = g
+gives_row number items out (Replace bytes) i g o = subst (λ (v : Vec ℕ Global). IsRowWritten number items v.items) (some_is out bytes g) i
+gives_row number items out Omit i g o = o refl
+gives_row number items out Stop i g o = tt
 
-uid_given : (items number : List ℕ) (text : Option (Vec ℕ Global)) (turn : Turn) → IfSome text (λ out. HasUid items number out.items) → GivesSome text turn → KeepsUid items number turn
-uid_given items number text Keep h g = tt
-uid_given items number (Some out) (Replace bytes) h g = subst (λ (v : Vec ℕ Global). HasUid items number v.items) (some_is out bytes g) h
-uid_given items number None (Replace bytes) h g = none_is_some bytes _ g
-uid_given items number text Omit h g = tt
-uid_given items number text Stop h g = tt
+pub gives_row_if : (number : List ℕ) (items : List Item) (out : Vec ℕ Global) (result : Result Turn AllocError) → IsRowWritten number items out.items → IfOk result (GivesSome (Some out))
+    → IfOk result (λ (turn : Turn). turn ≢ Omit) → IfOk result (GivesRow number items)
+gives_row_if number items out (Ok turn) i g o = gives_row number items out turn i g o
+gives_row_if number items out (Err e) i g o = tt
 
-pub uid_given_if : (items number : List ℕ) (text : Option (Vec ℕ Global)) (result : Result Turn AllocError) → IfSome text (λ out. HasUid items number out.items) → IfOk result (GivesSome text)
-    → IfOk result (KeepsUid items number)
-uid_given_if items number text (Ok turn) h g = uid_given items number text turn h g
-uid_given_if items number text (Err e) h g = tt
+pub lacking : (bytes : List ℕ) (row : FetchRow) (is : (items : List Item) → IsRowOf items row → has_all_items items ≡ false) → ReadsRow bytes row → LacksItems bytes
+lacking bytes row is r = record { items = r.items; raw = r.text; lacks = is r.items r.is }
 
 -- ---- in the reply
 
-uid_of_raw : (raw items number : List ℕ) (turn : Turn) → IsBack raw items → number ≡ second_word raw → KeepsUid items number turn → KeepsUid raw (second_word raw) turn
-uid_of_raw raw items number Keep b n h = tt
-uid_of_raw raw items number (Replace bytes) b n h = record {
-  digits = h.digits;
-  uid = record { value = h.uid.value; stands = further (codes "UID") raw items h.uid.value b h.uid.stands; is = h.uid.is; number = h.uid.number };
-  text = subst (λ (l : List ℕ). IsRowText l h.digits bytes.items) n h.text;
-}
-uid_of_raw raw items number Omit b n h = tt
-uid_of_raw raw items number Stop b n h = tt
-
-uid_of_raw_if : (raw items number : List ℕ) (result : Result Turn AllocError) → IsBack raw items → number ≡ second_word raw → IfOk result (KeepsUid items number)
-    → IfOk result (KeepsUid raw (second_word raw))
-uid_of_raw_if raw items number (Ok turn) b n h = uid_of_raw raw items number turn b n h
-uid_of_raw_if raw items number (Err e) b n h = tt
-
-pub numbered_uid : (raw number event items : List ℕ) (result : Result Turn AllocError) → IsFetch raw → IsNumbered raw number event × IsBack raw items
-    → (SameWord event (codes "FETCH") → IfOk result (KeepsUid items number)) → IfOk result (KeepsUid raw (second_word raw))
-numbered_uid raw number event items result f h k =
-    uid_of_raw_if raw items number result h.1 h.0.second (k (ap (map to_ascii_lowercase) h.0.third ∙ f.event))
+pub numbered_row : (raw number event bytes : List ℕ) (result : Result Turn AllocError) → IsFetch raw → IsNumbered raw number event × (bytes ≡ after_event raw)
+    → (SameWord event (codes "FETCH") → IfOk result (KeepsRow bytes number)) → IfOk result (KeepsRow (after_event raw) (second_word raw))
+numbered_row raw number event bytes result f h k =
+    let kept = k (ap (map to_ascii_lowercase) h.0.third ∙ f.event) in
+    subst (λ (l : List ℕ). IfOk result (KeepsRow l (second_word raw))) h.1 (subst (λ (l : List ℕ). IfOk result (KeepsRow bytes l)) h.0.second kept)
 
 -- ---- no row
 
@@ -161,49 +313,18 @@ star_asks (b ∷ bs) s a =
     let k : b ≡ 42 = head_is b 42 (first_word bs) [] h in
     absurd (omega arith)
 
-pub asking_no_row : (raw : List ℕ) (result : Result Turn AllocError) → IsFetch raw → asks raw ≡ true → IfOk result (KeepsUid raw (second_word raw))
+pub asking_no_row : (raw : List ℕ) (result : Result Turn AllocError) → IsFetch raw → asks raw ≡ true → IfOk result (KeepsRow (after_event raw) (second_word raw))
 asking_no_row raw result f a = absurd (star_asks raw f.star a)
 
-pub status_no_row : (raw tag word : List ℕ) (result : Result Turn AllocError) → IsFetch raw → IsStatus raw tag word → IfOk result (KeepsUid raw (second_word raw))
+pub status_no_row : (raw tag word : List ℕ) (result : Result Turn AllocError) → IsFetch raw → IsStatus raw tag word → IfOk result (KeepsRow (after_event raw) (second_word raw))
 status_no_row raw tag word result f h = absurd (false≢true (sym h.no_number ∙ f.number))
 
-pub untagged_no_row : (raw word : List ℕ) (result : Result Turn AllocError) → IsFetch raw → IsUntagged raw word → IfOk result (KeepsUid raw (second_word raw))
+pub untagged_no_row : (raw word : List ℕ) (result : Result Turn AllocError) → IsFetch raw → IsUntagged raw word → IfOk result (KeepsRow (after_event raw) (second_word raw))
 untagged_no_row raw word result f h = absurd (false≢true (sym h.no_number ∙ f.number))
 
--- ---- what is cut off
+no_zero : (n : ℕ) → n ≡ 0 → n ≡ 1 → ⊥
+no_zero n z o = omega arith
 
-pub split_back : (bytes front back : List ℕ) (n : ℕ) → front ≡ take n bytes → back ≡ drop n bytes → IsBack bytes back
-split_back bytes front back n f b = record { front = take n bytes; parts = sym (take-append-drop n bytes) ∙ ap (λ (l : List ℕ). take n bytes ++ l) (sym b) }
-
-pub front_uid : (number uid old new : List ℕ) → old ≡ codes "* " ++ (number ++ codes " FETCH (UID ") → new ≡ old ++ (uid ++ 32 ∷ [])
-    → new ≡ codes "* " ++ (number ++ (codes " FETCH (UID " ++ (uid ++ 32 ∷ [])))
-front_uid number uid old new o n =
-    n ∙ (ap (λ (l : List ℕ). l ++ (uid ++ 32 ∷ [])) o
-    ∙ (append_assoc (codes "* ") (number ++ codes " FETCH (UID ") (uid ++ 32 ∷ [])
-    ∙ ap (λ (l : List ℕ). codes "* " ++ l) (append_assoc number (codes " FETCH (UID ") (uid ++ 32 ∷ []))))
-
-uid_begins : (items number bytes : List ℕ) → HasUid items number bytes → BeginsWith (codes "* " ++ (number ++ codes " FETCH")) bytes
-uid_begins items number bytes h =
-    let more : List ℕ = codes " (UID " ++ (h.digits ++ 32 ∷ h.text.rest) in
-    record {
-      rest = more;
-      parts = h.text.parts
-          ∙ sym (append_assoc (codes "* ") (number ++ codes " FETCH") more ∙ ap (λ (l : List ℕ). codes "* " ++ l) (append_assoc number (codes " FETCH") more));
-      ends = refl;
-    }
-
-pub uid_front : (items number : List ℕ) (text : Option (Vec ℕ Global)) → IfSome text (λ out. HasUid items number out.items)
-    → IfSome text (λ out. BeginsWith (codes "* " ++ (number ++ codes " FETCH")) out.items)
-uid_front items number (Some out) h = uid_begins items number out.items h
-uid_front items number None h = tt
-
-pub drop_back : (bytes rest : List ℕ) (n : ℕ) → rest ≡ drop n bytes → IsBack bytes rest
-drop_back bytes rest n e = split_back bytes (take n bytes) rest n refl e
-
-pub named_back : (bytes rest after name value : List ℕ) → IsBack bytes rest → after ≡ after_space rest → after ≡ name ++ 32 ∷ value → IsBack bytes (name ++ 32 ∷ value)
-named_back bytes rest after name value b e n = subst (IsBack bytes) (sym e ∙ n) (back_of_back bytes rest (after_space rest) b (back_after_space rest))
-
-pub value_back : (bytes rest after name value more : List ℕ) → IsBack bytes rest → after ≡ after_space rest → after ≡ name ++ 32 ∷ value → IsBack value more → IsBack bytes more
-value_back bytes rest after name value more b e n m =
-    let named = named_back bytes rest after name value b e n in
-    back_of_back bytes value more (record { front = named.front ++ (name ++ 32 ∷ []); parts = named.parts ∙ sym (append_assoc named.front (name ++ 32 ∷ []) value ∙ ap (λ (l : List ℕ). named.front ++ l) (append_assoc name (32 ∷ []) value)) }) m
+pub other_no_row : (raw : List ℕ) → IsFetch raw → ((first_word raw ≡ codes "*") × (is_number (second_word raw) ≡ false)) ⊎ (first_word raw ≡ []) → LacksItems (after_event raw)
+other_no_row raw f (inl h) = absurd (false≢true (sym h.1 ∙ f.number))
+other_no_row raw f (inr h) = absurd (no_zero (length (first_word raw)) (ap length h) (ap length f.star))

@@ -1,5 +1,5 @@
 -- The next place of a scanner stands within the bytes.
-use Rattle.std.proofs.Common.{◌≡◌, ◌≤◌, ℕ, ◌+◌, ◌-◌, List, length, take, drop, arith, refl, ap, ◌∙◌, length-drop, Option, Some}
+use Rattle.std.proofs.Common.{◌≡◌, ◌≤◌, ℕ, ◌+◌, ◌-◌, List, length, take, drop, arith, refl, ap, ◌∙◌, length-drop, Some}
 use Rattle.wire_reader.specs.declared.scanner.Scanner.{Scanner}
 use Rattle.wire_reader.specs.Scanning.{first_place}
 use Rattle.imap_link.proofs.BufferExits.{slice_is}

@@ -1,11 +1,11 @@
 -- What a client hears instead of a reply begins as the reply.
-use Rattle.std.proofs.Common.{◌≡◌, ◌≢◌, ◌⊎◌, inl, inr, ℕ, true, List, [], ◌∷◌, ◌++◌, map, codes, Option, None, Some, Vec, Result, Ok, Err, IfOk, IfSome, refl, sym, ap, subst, ◌∙◌}
+use Rattle.std.proofs.Common.{◌≡◌, ◌≢◌, ◌⊎◌, inl, inr, ℕ, true, false, List, [], ◌∷◌, ◌++◌, map, codes, Option, None, Some, Vec, Result, Ok, Err, IfOk, IfSome, refl, sym, ap, subst, ◌∙◌}
 use Rattle.std.specs.Global.{Global}
 use Rattle.std.specs.Char.{to_ascii_lowercase}
 use Rattle.std.specs.declared.alloc.AllocError.{AllocError}
 use Rattle.link_face.specs.declared.turning.Turn.{Turn}
 use Rattle.link_face.specs.declared.turning.Turn.TheVariants.{Keep, Replace, Omit, Stop}
-use Rattle.link_face.specs.Heads.{first_word, asks, SameWord, BeginsAs, BeginsWith, KeepsWords, IsBack, IsTagged, IsUntagged, IsStatus, IsNumbered, GivesSome, HasFront, HasEvent}
+use Rattle.link_face.specs.Heads.{first_word, second_word, after_event, is_number, asks, SameWord, BeginsWith, KeepsWords, IsTagged, IsUntagged, IsStatus, IsNumbered, GivesSome, HasFront, HasEvent}
 use Rattle.link_face.proofs.HeadLemmas.{untagged_same, status_same, numbered_same}
 
 some_is : (x y : Vec ℕ Global) → Some x ≡ Some y → x ≡ y
@@ -22,11 +22,6 @@ given front (Some out) (Replace bytes) b g = subst (λ (v : Vec ℕ Global). Beg
 given front None (Replace bytes) b g = none_is_some bytes _ g
 given front text Omit b g = tt
 given front text Stop b g = tt
-
-pub given_if : (front : List ℕ) (text : Option (Vec ℕ Global)) (result : Result Turn AllocError) → IfSome text (λ out. BeginsWith front out.items) → IfOk result (GivesSome text)
-    → IfOk result (HasFront front)
-given_if front text (Ok turn) b g = given front text turn b g
-given_if front text (Err e) b g = tt
 
 pub bytes_given_if : (front : List ℕ) (out : Vec ℕ Global) (result : Result Turn AllocError) → BeginsWith front out.items → IfOk result (GivesSome (Some out)) → IfOk result (HasFront front)
 bytes_given_if front out (Ok turn) b g = given front (Some out) turn b g
@@ -61,7 +56,7 @@ numbered raw number event word (Replace bytes) h s f = numbered_same raw bytes.i
 numbered raw number event word Omit h s f = tt
 numbered raw number event word Stop h s f = tt
 
-pub numbered_kept : (raw number event items : List ℕ) (result : Result Turn AllocError) → IsNumbered raw number event × IsBack raw items → IfOk result (HasEvent number event) → IfOk result (KeepsWords raw)
+pub numbered_kept : (raw number event items : List ℕ) (result : Result Turn AllocError) → IsNumbered raw number event × (items ≡ after_event raw) → IfOk result (HasEvent number event) → IfOk result (KeepsWords raw)
 numbered_kept raw number event items (Ok turn) h f = numbered raw number event f.0 turn h.0 f.1 f.2
 numbered_kept raw number event items (Err e) h f = tt
 
@@ -82,16 +77,16 @@ pub event_given : (number event : List ℕ) (text : Option (Vec ℕ Global)) (re
 event_given number event text (Ok turn) b g = (event, refl, given (codes "* " ++ (number ++ 32 ∷ event)) text turn b g)
 event_given number event text (Err e) b g = tt
 
-pub fetch_given : (number event : List ℕ) (text : Option (Vec ℕ Global)) (result : Result Turn AllocError) → map to_ascii_lowercase event ≡ map to_ascii_lowercase (codes "FETCH")
-    → IfSome text (λ out. BeginsWith (codes "* " ++ (number ++ codes " FETCH")) out.items) → IfOk result (GivesSome text) → IfOk result (HasEvent number event)
-fetch_given number event text (Ok turn) s b g = (codes "FETCH", sym s, given (codes "* " ++ (number ++ codes " FETCH")) text turn b g)
-fetch_given number event text (Err e) s b g = tt
+pub fetch_given : (number event : List ℕ) (result : Result Turn AllocError) → map to_ascii_lowercase event ≡ map to_ascii_lowercase (codes "FETCH")
+    → IfOk result (HasFront (codes "* " ++ (number ++ codes " FETCH"))) → IfOk result (HasEvent number event)
+fetch_given number event (Ok turn) s f = (codes "FETCH", sym s, f)
+fetch_given number event (Err e) s f = tt
 
 -- ---- a tagged reply is no other one
 
 pub no_star : (raw : List ℕ) (result : Result Turn AllocError) → IsTagged raw → first_word raw ≡ codes "*" → IfOk result (λ (turn : Turn). turn ≢ Omit)
 no_star raw result t s = absurd (t.no_star s)
 
-pub no_other : (raw : List ℕ) (result : Result Turn AllocError) → IsTagged raw → (first_word raw ≡ codes "*") ⊎ (first_word raw ≡ []) → IfOk result (λ (turn : Turn). turn ≢ Omit)
-no_other raw result t (inl s) = absurd (t.no_star s)
+pub no_other : (raw : List ℕ) (result : Result Turn AllocError) → IsTagged raw → ((first_word raw ≡ codes "*") × (is_number (second_word raw) ≡ false)) ⊎ (first_word raw ≡ []) → IfOk result (λ (turn : Turn). turn ≢ Omit)
+no_other raw result t (inl s) = absurd (t.no_star s.0)
 no_other raw result t (inr s) = absurd (t.some s)

@@ -1,17 +1,22 @@
 -- A link that hands out to a client only replies that the client reads.
 use Rattle.std.specs.Prelude.{◌≡◌, ◌≤◌, ℕ, List, ◌++◌}
 use Rattle.wire_reader.specs.Lexical.{outside}
+use Rattle.wire_reader.specs.declared.limit.TheConstants.{LINE_MAX}
 use Rattle.imap_replies.specs.declared.reply.Reply.{Reply}
 use Rattle.imap_replies.specs.Replies.{ReplyText}
 use Rattle.imap_session.specs.Lines.{Line, Stays}
 use Rattle.link_face.specs.declared.turning.Turn.{Turn}
 use Rattle.link_face.specs.declared.turning.Turn.TheVariants.{Keep, Replace, Omit, Stop}
 
+-- so many bytes have room in a line, octets of literals apart
+abbrev pub FitsLine : List ℕ → Type 0
+FitsLine bytes = outside bytes ≤ LINE_MAX
+
 -- one reply, with room for it in a line
 pub record IsSpelled (bytes : List ℕ) : Type 0 where
   pub reply : Reply
   pub spelled : ReplyText reply bytes
-  pub fits : outside bytes ≤ 65536
+  pub fits : FitsLine bytes
 
 -- what a client hears of a reply is a reply
 abbrev pub Turns : (raw : List ℕ) → Turn → Type 0

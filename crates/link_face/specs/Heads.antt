@@ -37,6 +37,10 @@ second_word bytes = first_word (following bytes)
 abbrev pub third_word : List ℕ → List ℕ
 third_word bytes = second_word (following bytes)
 
+-- what stands after the third word
+abbrev pub after_event : List ℕ → List ℕ
+after_event bytes = after_word (following (following bytes))
+
 -- digits, and at least one
 abbrev pub is_number : List ℕ → Bool
 is_number word = not (length word == 0) && list_all is_ascii_digit word
@@ -93,11 +97,6 @@ pub record IsStatus (raw tag word : List ℕ) : Type 0 where
   pub second : word ≡ second_word raw
   pub no_number : is_number (second_word raw) ≡ false
 
--- these bytes end so
-pub record IsBack (bytes back : List ℕ) : Type 0 where
-  pub front : List ℕ
-  pub parts : bytes ≡ front ++ back
-
 pub record IsNumbered (raw number event : List ℕ) : Type 0 where
   pub star : first_word raw ≡ codes "*"
   pub second : number ≡ second_word raw
@@ -110,8 +109,8 @@ HeadIs raw (Status s) = IsStatus raw s.tag.now s.word.now
 HeadIs raw (Names word rest) = IsUntagged raw word.now
 HeadIs raw (Listed rest) = IsUntagged raw (codes "LIST")
 HeadIs raw (Flags rest) = IsUntagged raw (codes "FLAGS")
-HeadIs raw (Numbered number event rest) = IsNumbered raw number.now event.now × IsBack raw rest.now
-HeadIs raw Other = (first_word raw ≡ codes "*") ⊎ (first_word raw ≡ [])
+HeadIs raw (Numbered number event rest) = IsNumbered raw number.now event.now × (rest.now ≡ after_event raw)
+HeadIs raw Other = ((first_word raw ≡ codes "*") × (is_number (second_word raw) ≡ false)) ⊎ (first_word raw ≡ [])
 HeadIs raw NoReply = Unit {0}
 
 -- this text in place of the reply, or nothing

@@ -1,7 +1,6 @@
 -- Which replies of the profile a client hears as they came.
-use Rattle.std.specs.Prelude.{◌≡◌, ◌≤◌, ◌==◌, ◌&&◌, ◌||◌, not, nat_lt, ℕ, Bool, true, false, List, codes, Option, None, Some, if◌then◌else◌}
+use Rattle.std.specs.Prelude.{◌≡◌, ◌==◌, ◌&&◌, ◌||◌, not, nat_lt, ℕ, Bool, true, false, List, codes, Option, None, Some, if◌then◌else◌}
 use Rattle.std.specs.List.{list_all, list_any}
-use Rattle.wire_reader.specs.Lexical.{outside}
 use Rattle.wire_reader.specs.declared.answer.Read.{Read}
 use Rattle.wire_reader.specs.declared.answer.Read.TheVariants.{Whole, WantsLiteral, Partial}
 use Rattle.wire_tokens.specs.Names.{has_name}
@@ -14,6 +13,7 @@ use Rattle.imap_replies.specs.declared.fetch.FetchItem.TheVariants as items
 use Rattle.imap_replies.specs.declared.reply.Reply.{Reply}
 use Rattle.imap_replies.specs.declared.reply.Reply.TheVariants.{Continue, Tagged, Notice, Capability, Enabled, List as Listed, Flags, Exists, Expunge, Fetch, Other, OtherNumbered}
 use Rattle.imap_replies.specs.Replies.{ReplyText}
+use Rattle.link_face.specs.Faces.{FitsLine}
 
 -- ---- LIST: a mailbox that can be selected, whose name stands for itself in modified UTF-7
 
@@ -89,7 +89,7 @@ is_heard (OtherNumbered n event text) = true
 pub record IsPassed (raw : List ℕ) : Type 0 where
   pub reply : Reply
   pub spelled : ReplyText reply raw
-  pub fits : outside raw ≤ 65536
+  pub fits : FitsLine raw
   pub heard : is_heard reply ≡ true
 
 -- the reply that was read, if it has so many bytes

@@ -2,6 +2,7 @@ pub mod Chunks
 pub mod Commands
 pub mod Extents
 pub mod Faces
+pub mod FlagWords
 pub mod Heads
 pub mod Hearing
 pub mod Listing

@@ -1,6 +1,5 @@
 -- How much a server may send in answer to one command.
-use Rattle.std.specs.Prelude.{◌≡◌, ◌<◌, ◌≤◌, ℕ, ◌+◌, Bool, true, false, List, [], ◌∷◌, length}
-use Rattle.wire_reader.specs.Lexical.{outside}
+use Rattle.std.specs.Prelude.{◌≡◌, ◌<◌, ℕ, ◌+◌, Bool, true, false, List, [], ◌∷◌, length}
 use Rattle.wire_reader.specs.Spelling.{is_digit}
 use Rattle.imap_replies.specs.declared.reply.Reply.{Reply}
 use Rattle.imap_replies.specs.declared.reply.Reply.TheVariants.{Continue, Tagged, Notice, Capability, Enabled, List as Listed, Flags, Exists, Expunge, Fetch, Other, OtherNumbered}
@@ -8,6 +7,7 @@ use Rattle.imap_replies.specs.Replies.{ReplyText}
 use Rattle.imap_link.specs.declared.uses.Uses.{Uses}
 use Rattle.imap_link.specs.UsedReplies.{is_used}
 use Rattle.link_face.specs.declared.room.Room.{Room}
+use Rattle.link_face.specs.Faces.{FitsLine}
 
 -- before the first reply to a command
 abbrev pub whole_room : Room
@@ -47,5 +47,5 @@ Counts true part len old new false = part old < len
 
 -- these bytes, if they are a reply without a number
 abbrev pub CountsReply : List ℕ → (old new : Room) → (has_room : Bool) → Type 0
-CountsReply bytes old new has_room = (reply : Reply) → ReplyText reply bytes → outside bytes ≤ 65536 → is_numbered bytes ≡ false
+CountsReply bytes old new has_room = (reply : Reply) → ReplyText reply bytes → FitsLine bytes → is_numbered bytes ≡ false
     → Counts (is_used every_use reply) (part_of reply) (length bytes) old new has_room

@@ -5,13 +5,11 @@ ghost use Rattle.link_face.specs.Extents.{IsWithin};
 
 use crate::head::{is_line, is_number};
 use memchr::memrchr;
+use wire_reader::limit::{LINE_MAX, LITERAL_MAX};
 use wire_reader::scanner::Scanner;
 
-/// The greatest number of octets of a literal.
-const LITERAL_MAX: usize = 16777238;
-
 /// The greatest number of bytes of a reply: of its lines and of all its literals.
-const REPLY_MAX: usize = 65536 + LITERAL_MAX;
+const REPLY_MAX: usize = LINE_MAX as usize + LITERAL_MAX as usize;
 
 /// How far the reply at the front of bytes goes.
 #[derive(Clone, Copy, PartialEq, Eq)]
@@ -20,7 +18,7 @@ pub(crate) enum Extent {
     Begun,
     /// It has so many bytes.
     Whole(usize),
-    /// Its lines have more than 65536 bytes, or its literals more than 16777238 octets.
+    /// Its lines have more than `LINE_MAX` bytes, or its literals more than `LITERAL_MAX` octets.
     TooLong,
 }
 
@@ -111,7 +109,7 @@ impl ReplyExtent {
         if owed == 0 {
             digits.iter().all(|b| *b == b'0')
         } else {
-            owed <= LITERAL_MAX && len.saturating_add(owed) <= REPLY_MAX
+            owed <= LITERAL_MAX as usize && len.saturating_add(owed) <= REPLY_MAX
         }
     }
 }

@@ -20,8 +20,8 @@ const PIECE_BYTES: usize = 16_384;
 /// A link over another, from which a client hears only replies of the profile that it reads.
 ///
 /// A reply of the profile is handed out byte for byte. Another is replaced by one that says the same to the client, or left out with
-/// all its octets. A reply whose lines have more than 65536 bytes, or whose literals have more than 16777238 octets, is a stop, and
-/// nothing more is read of that connection. So much is kept of a reply that has not come whole, and no more.
+/// all its octets. A reply whose lines have more than `LINE_MAX` bytes, or whose literals have more than `LITERAL_MAX` octets
+/// (`wire_reader::limit`), is a stop, and nothing more is read of that connection. So much is kept of a reply that has not come whole, and no more.
 ///
 /// A client may keep the replies to a command until the tagged one, so as many bytes come in answer to one command, and a reply beyond
 /// them is a stop, too: 16777216 of LIST replies, 33685548 of FETCH replies with a whole message, and 1048576 of others without a number, as

@@ -98,7 +98,7 @@ fn append_coded(text: &[u8], out: &mut Vec<u8>) -> Result<(), AllocError>
 }
 
 /// Appends a code and a space: of PERMANENTFLAGS those words that are flags, and `\*`.
-#[tactic(auto, using(crate::proofs::Extending::is_extends, crate::proofs::Extending::then_extended, crate::proofs::Extending::then_is_if))]
+#[tactic(auto, using(crate::proofs::Extending::is_extends, crate::proofs::Extending::then_is, crate::proofs::Extending::then_is_if))]
 fn append_code(code: &[u8], out: &mut Vec<u8>) -> Result<(), AllocError>
     ensures { OnOk result (Extended out.old.items out.new.items) }
 {

@@ -1,14 +1,13 @@
 //! What a client hears of a reply.
 
-ghost use Rattle.std.specs.Prelude.{◌≡◌, ◌≢◌, ◌≤◌, ◌++◌, ◌∷◌, codes, true, None, Some, IfOk, IfSome, IsErr};
-ghost use Rattle.wire_reader.specs.Lexical.{outside};
+ghost use Rattle.std.specs.Prelude.{◌≡◌, ◌≢◌, ◌++◌, ◌∷◌, List, codes, true, None, Some, IfOk, IfSome, IsErr};
 ghost use Rattle.imap_replies.specs.declared.reply.Reply.{Reply};
 ghost use Rattle.imap_replies.specs.Replies.{ReplyText};
 ghost use Rattle.link_face.specs.declared.turning.Turn.TheVariants.{Keep};
-ghost use Rattle.link_face.specs.Faces.{IsSpelled, Turns, IsHeard};
+ghost use Rattle.link_face.specs.Faces.{FitsLine, IsSpelled, Turns, IsHeard};
 ghost use Rattle.wire_reader.specs.declared.answer.WireFault.TheVariants.{NoMemory};
-ghost use Rattle.link_face.specs.Heads.{second_word, BeginsWith, GivesSome, HasEvent, HasFront, IsTagged, KeepsWords, SameWord};
-ghost use Rattle.link_face.specs.Rows.{IsFetch, KeepsUid};
+ghost use Rattle.link_face.specs.Heads.{after_event, second_word, BeginsWith, GivesSome, HasEvent, HasFront, IsTagged, KeepsWords, SameWord};
+ghost use Rattle.link_face.specs.Rows.{IsFetch, IsRowOf, Item, KeepsRow, GivesRow};
 ghost use Rattle.link_face.specs.Hearing.{IsPassed, whole_in};
 
 use crate::head::{ReplyHead, StatusLine, head_of};
@@ -36,8 +35,8 @@ pub enum Turn {
 
 /// What a client hears of this reply. It is a reply of the profile, whatever the server sent. One that the server of the profile
 /// says passes byte for byte (`laws::the_profile_is_heard`). Another begins with the words of what the server sent: the tag, the word of
-/// a status, so that a NO is never an OK, a number and its event. A tagged reply is never left out, and a row of a message has the UID
-/// that stands in what the server sent.
+/// a status, so that a NO is never an OK, a number and its event. A tagged reply is never left out. A row of a message has the UID, the
+/// flags and the size of what the server sent, and is left out only where it lacks one of them.
 ///
 /// `AllocError`: memory ran out.
 pub fn turned(alloc: Global, raw: &[u8]) -> Result<Turn, AllocError>
@@ -45,7 +44,7 @@ pub fn turned(alloc: Global, raw: &[u8]) -> Result<Turn, AllocError>
     ensures passes { IsPassed raw.now → IfOk result (λ turn. turn ≡ Keep) }
     ensures word { IfOk result (KeepsWords raw.now) }
     ensures tagged { IsTagged raw.now → IfOk result (λ turn. turn ≢ Turn.Omit) }
-    ensures uid { IsFetch raw.now → IfOk result (KeepsUid raw.now (second_word raw.now)) }
+    ensures row { IsFetch raw.now → IfOk result (KeepsRow (after_event raw.now) (second_word raw.now)) }
 {
     if is_kept(alloc, raw)? {
         Ok(Turn::Keep)
@@ -69,7 +68,7 @@ fn is_kept(alloc: Global, raw: &[u8]) -> Result<bool, AllocError>
 #[tactic(auto, using(crate::proofs::TakenLemmas::found_whole, crate::proofs::TakenLemmas::spelled_whole, crate::proofs::TakenLemmas::memory_alone))]
 pub(crate) fn reply_of(alloc: Global, bytes: &[u8]) -> Result<Option<Reply<'_>>, AllocError>
     ensures spelled { IfOk result (λ found. IfSome found (λ _. IsSpelled bytes.now)) }
-    ensures found { (reply : Reply) → ReplyText reply bytes.now → outside bytes.now ≤ 65536 → IfOk result (λ found. found ≡ Some reply) }
+    ensures found { (reply : Reply) → ReplyText reply bytes.now → FitsLine bytes.now → IfOk result (λ found. found ≡ Some reply) }
 {
     match read_reply(alloc, bytes) {
         Ok(read) => Ok(whole(read, bytes.len())),
@@ -99,12 +98,12 @@ fn no_reply<'a>(fault: WireFault) -> Result<Option<Reply<'a>>, AllocError>
 }
 
 /// What a client hears instead of this reply.
-#[tactic(auto, using(crate::proofs::TurnLemmas::asking_kept, crate::proofs::TurnLemmas::status_kept, crate::proofs::TurnLemmas::untagged_kept, crate::proofs::TurnLemmas::numbered_kept, crate::proofs::TurnLemmas::no_star, crate::proofs::TurnLemmas::no_other, crate::proofs::RowLemmas::asking_no_row, crate::proofs::RowLemmas::status_no_row, crate::proofs::RowLemmas::untagged_no_row, crate::proofs::RowLemmas::numbered_uid))]
+#[tactic(auto, using(crate::proofs::TurnLemmas::asking_kept, crate::proofs::TurnLemmas::status_kept, crate::proofs::TurnLemmas::untagged_kept, crate::proofs::TurnLemmas::numbered_kept, crate::proofs::TurnLemmas::no_star, crate::proofs::TurnLemmas::no_other, crate::proofs::RowLemmas::asking_no_row, crate::proofs::RowLemmas::status_no_row, crate::proofs::RowLemmas::untagged_no_row, crate::proofs::RowLemmas::numbered_row))]
 fn rewritten(alloc: Global, raw: &[u8]) -> Result<Turn, AllocError>
     ensures heard { IfOk result IsHeard }
     ensures word { IfOk result (KeepsWords raw.now) }
     ensures tagged { IsTagged raw.now → IfOk result (λ turn. turn ≢ Turn.Omit) }
-    ensures uid { IsFetch raw.now → IfOk result (KeepsUid raw.now (second_word raw.now)) }
+    ensures row { IsFetch raw.now → IfOk result (KeepsRow (after_event raw.now) (second_word raw.now)) }
 {
     match head_of(raw) {
         ReplyHead::Continue => reported(alloc, Vec::from_slice(alloc, b"+ go\r\n")?),
@@ -142,29 +141,35 @@ fn list_line(alloc: Global, rest: &[u8]) -> Result<Option<Vec<u8>>, AllocError>
 }
 
 /// What a client hears of a reply with a number.
-#[tactic(auto, using(crate::proofs::TurnLemmas::event_given, crate::proofs::TurnLemmas::fetch_given))]
+#[tactic(auto, using(crate::proofs::TurnLemmas::event_given))]
 fn numbered(alloc: Global, number: &[u8], event: &[u8], rest: &[u8]) -> Result<Turn, AllocError>
     ensures heard { IfOk result IsHeard }
     ensures word { IfOk result (HasEvent number.now event.now) }
-    ensures uid { SameWord event.now (codes "FETCH") → IfOk result (KeepsUid rest.now number.now) }
+    ensures row { SameWord event.now (codes "FETCH") → IfOk result (KeepsRow rest.now number.now) }
 {
     if !event.eq_ignore_ascii_case(b"FETCH") {
         return replaced(alloc, counted(alloc, number, event, rest)?);
     }
-    match FetchRow::read(rest) {
-        Some(row) => row_of(alloc, row.written(alloc, number)?),
-        None => Ok(Turn::Stop),
+    let Some(row) = FetchRow::read(rest) else {
+        return Ok(Turn::Stop);
+    };
+    if row.has_all_items() {
+        whole_row(alloc, number, row)
+    } else {
+        Ok(Turn::Omit)
     }
 }
 
-/// What a client hears of this row, if it has the items of a command. A text that is no reply is never left out: the connection is given up.
-fn row_of(alloc: Global, text: Option<Vec<u8>>) -> Result<Turn, AllocError>
+/// What a client hears of a row with all items of one of its commands. It is never left out: where one of their values cannot be read, the
+/// connection is given up.
+#[tactic(auto, using(crate::proofs::RowLemmas::gives_row_if))]
+fn whole_row(alloc: Global, number: &[u8], row: FetchRow<'_>) -> Result<Turn, AllocError>
     ensures heard { IfOk result IsHeard }
-    ensures same { IfOk result (GivesSome text) }
+    ensures row { (items : List Item) → IsRowOf items row.entry → IfOk result (GivesRow number.now items) }
 {
-    match text {
+    match row.written(alloc, number)? {
         Some(bytes) => reported(alloc, bytes),
-        None => Ok(Turn::Omit),
+        None => Ok(Turn::Stop),
     }
 }
 

@@ -1,4 +1,4 @@
-use Rattle.std.proofs.Common.{◌≡◌, List, ℕ, sym, subst, ap, ◌∙◌, rules}
+use Rattle.std.proofs.Common.{◌≡◌, List, ℕ, sym, subst, ◌∙◌, rules}
 use Rattle.link_face.specs.Names.{IsName}
 use Rattle.link_face.proofs.Cuts.{same_name, none_case, some_case}
 use Rattle.link_face.proofs.OneToOne.{one_far}

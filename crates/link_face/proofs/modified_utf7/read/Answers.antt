@@ -1,4 +1,4 @@
-use Rattle.std.proofs.Common.{◌≡◌, ◌<◌, suc, false, Ok, drop, length, sym, ap, ◌∙◌, arith, rules}
+use Rattle.std.proofs.Common.{◌<◌, suc, drop, length, sym, ap, ◌∙◌, arith, rules}
 use Rattle.std.proofs.Math.Seq.{drop-cons}
 use Rattle.link_face.specs.Reading.{name_with}
 use Rattle.link_face.proofs.modified_utf7.read.Goals as goal
