@@ -8,7 +8,7 @@ and 100,000 messages, or up to N. After each pull and each flag all messages hav
 
 isync does not speak the profile of IMAP4rev2 that trial-imapd takes. So it goes through a go-between in this process, which puts what it
 asks into the profile's words, and mbsync is measured through it once more, so that the two can be compared. If isync is missing, that is
-printed. Run it with nothing beside it."""
+printed. TMPDIR names the folder in which it measures. Run it with nothing beside it."""
 import os
 import pathlib
 import sys
