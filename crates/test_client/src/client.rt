@@ -69,7 +69,8 @@ impl<L: Link + Drop> Client<L> {
             line.refuse();
         }
         let client = mem::replace(self, Client::Nothing);
-        *self = client.after(alloc, word, line, reported);
+        let after = client.after(alloc, word, line, reported);
+        drop(mem::replace(self, after));
     }
 
     /// What the client has after a call.

@@ -26,7 +26,7 @@ struct CutCalls {
 
 impl Player for CutCalls {
     fn begin(&mut self) -> Result<(), Failure> {
-        self.lines = Reported::new(self.alloc);
+        self.lines.clear();
         Ok(())
     }
 

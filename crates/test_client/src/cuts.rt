@@ -27,6 +27,7 @@ pub fn print_cuts(alloc: Global, lines: &str, reported: &mut Reported) {
         reported.lose();
     }
     print_runs(alloc, lines, &whole, reported);
+    drop(whole);
 }
 
 fn print_runs(alloc: Global, lines: &str, whole: &Record, reported: &mut Reported) {
@@ -43,6 +44,7 @@ fn print_runs(alloc: Global, lines: &str, whole: &Record, reported: &mut Reporte
             reported.lose();
         }
         let effect = effect_of(whole, &cut);
+        drop(cut);
         if effect.place != run.effect.place || effect.stops != run.effect.stops {
             run.report(reported, whole, room);
             run = Run { from: room, effect };
@@ -54,31 +56,33 @@ fn print_runs(alloc: Global, lines: &str, whole: &Record, reported: &mut Reporte
 /// What an end of the bytes does.
 fn effect_of(whole: &Record, cut: &Record) -> Effect {
     let answers = cut.answers.as_str().lines();
-    let mut pairs = whole.answers.as_str().lines().zip(answers);
-    match pairs.position(|(before, after)| before != after) {
-        Some(place) => Effect {
-            place,
-            stops: stops_at(cut, place),
-        },
-        None => Effect {
-            place: usize::MAX,
-            stops: false,
-        },
+    let pairs = whole.answers.as_str().lines().zip(answers);
+    for (place, (before, after)) in pairs.enumerate() {
+        if before != after {
+            return Effect {
+                place,
+                stops: stops_at(cut, place),
+            };
+        }
+    }
+    Effect {
+        place: usize::MAX,
+        stops: false,
     }
 }
 
 /// Whether the call at this place stops, and those after it are stuck.
 fn stops_at(cut: &Record, place: usize) -> bool {
-    let mut answers = cut.answers.as_str().lines().skip(place);
-    let stops = match answers.next() {
-        Some(answer) => answer.as_bytes().starts_with(b"Stopped"),
-        None => false,
-    };
-    let mut calls = cut.calls.as_str().lines().skip(place.saturating_add(1));
+    let answers = cut.answers.as_str().lines();
+    let mut stops = false;
+    for (index, (call, answer)) in cut.calls.as_str().lines().zip(answers).enumerate() {
+        if index == place {
+            stops = answer.as_bytes().starts_with(b"Stopped");
+        } else if place < index {
+            stops = stops && is_stuck(call, answer);
+        }
+    }
     stops
-        && calls
-            .zip(answers)
-            .all(|(call, answer)| is_stuck(call, answer))
 }
 
 /// Whether the call was stopped, or not made, and sent nothing. What only hands a session on has to be done.

@@ -4,7 +4,7 @@ use crate::answers::{print_listing, print_name};
 use mailcore::listing::Listing;
 use mailcore::mailbox::StoredMailbox;
 use mailcore::side::Side;
-use std::alloc::{AllocError, Global};
+use std::alloc::Global;
 use test_scripts::reported::Reported;
 
 /// What a server holds, as a client that lists it reports it.
@@ -32,27 +32,26 @@ impl Held {
     }
 
     /// Adds what a server with these mailboxes holds.
-    pub fn report(&mut self, alloc: Global, mailboxes: &[StoredMailbox]) -> Result<(), AllocError> {
-        self.print_names(alloc, mailboxes)?;
+    pub fn report(&mut self, alloc: Global, mailboxes: &[StoredMailbox]) {
+        self.print_names(alloc, mailboxes);
         for mailbox in mailboxes {
-            let listing = mailbox.listing(alloc, Side::Far)?;
-            self.print_mailbox(mailbox, &listing);
+            match mailbox.listing(alloc, Side::Far) {
+                Ok(listing) => self.print_mailbox(mailbox, &listing),
+                Err(_) => self.listings.lose(),
+            }
         }
-        Ok(())
     }
 
     /// The login, and the names in the order of their bytes.
-    fn print_names(
-        &mut self,
-        alloc: Global,
-        mailboxes: &[StoredMailbox],
-    ) -> Result<(), AllocError> {
+    fn print_names(&mut self, alloc: Global, mailboxes: &[StoredMailbox]) {
         self.calls
             .text("into_session\nreconnect\nopen\nlogin u p\nnames\n");
         self.answers.answer("done");
-        let mut names = Vec::with_capacity(alloc, mailboxes.len())?;
+        let mut names = Vec::new(alloc);
         for mailbox in mailboxes {
-            names.push(mailbox.name.as_str())?;
+            if names.push(mailbox.name.as_str()).is_err() {
+                self.answers.lose();
+            }
         }
         names.sort_unstable();
         self.answers.begin();
@@ -63,7 +62,6 @@ impl Held {
             print_name(&mut self.answers, place, name);
         }
         self.answers.end();
-        Ok(())
     }
 
     fn print_mailbox(&mut self, mailbox: &StoredMailbox, listing: &Listing) {
@@ -99,11 +97,19 @@ impl Held {
             || self.bodies.is_lost()
     }
 
+    fn has_line(&self, line: &str) -> bool {
+        for other in self.listings.as_str().lines() {
+            if other == line {
+                return true;
+            }
+        }
+        false
+    }
+
     /// Reports the mailboxes that have changed.
     pub fn print_change(&self, before: &Held, reported: &mut Reported) {
         for line in self.listings.as_str().lines() {
-            let mut others = before.listings.as_str().lines();
-            if !others.any(|other| other == line) {
+            if !before.has_line(line) {
                 reported.begin();
                 reported.text("leaves ");
                 reported.text(line);

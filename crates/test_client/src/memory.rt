@@ -48,20 +48,19 @@ impl Memory {
     }
 
     /// Plays a line: one of the server, or a call, whose answer is reported.
-    pub fn play_line(
-        &mut self,
-        line: &mut Words<'_>,
-        reported: &mut Reported,
-    ) -> Result<(), Failure> {
+    pub fn play_line(&mut self, line: &mut Words<'_>, reported: &mut Reported) {
         match line.word() {
-            "mailbox" => add_mailbox(self.alloc, &mut self.mailboxes, line),
-            "message" => add_message(self.alloc, &mut self.mailboxes, line),
-            "messages" => self.fill(line.number()),
-            "body" => self.push_body(line.count()),
-            "pieces" => {
-                self.piece = line.count();
-                Ok(())
+            "mailbox" => {
+                let added = add_mailbox(self.alloc, &mut self.mailboxes, line);
+                line.note(added);
             }
+            "message" => {
+                let added = add_message(self.alloc, &mut self.mailboxes, line);
+                line.note(added);
+            }
+            "messages" => self.fill(line),
+            "body" => self.push_body(line),
+            "pieces" => self.piece = line.count(),
             word => self.call(word, line, reported),
         }
     }
@@ -74,59 +73,70 @@ impl Memory {
         }
     }
 
-    fn fill(&mut self, count: u32) -> Result<(), Failure> {
-        for before in 0..count {
+    fn fill(&mut self, line: &mut Words<'_>) {
+        for before in 0..line.number() {
             let number = before.saturating_add(1);
-            let text = format!(in self.alloc; "X-TUID: {number:012}\r\n\r\ntext\r\n")?;
-            self.push_plain(number, text.into_bytes())?;
+            match format!(in self.alloc; "X-TUID: {number:012}\r\n\r\ntext\r\n") {
+                Ok(text) => self.push_plain(number, text.into_bytes(), line),
+                Err(_) => line.fail(Failure::NoMemory),
+            }
         }
-        Ok(())
     }
 
-    fn push_body(&mut self, size: usize) -> Result<(), Failure> {
-        let bytes = vec![in self.alloc; b'x'; size]?;
-        self.push_plain(1, bytes)
+    fn push_body(&mut self, line: &mut Words<'_>) {
+        match vec![in self.alloc; b'x'; line.count()] {
+            Ok(bytes) => self.push_plain(1, bytes, line),
+            Err(_) => line.fail(Failure::NoMemory),
+        }
     }
 
     /// Adds a message without flags.
-    fn push_plain(&mut self, number: u32, bytes: Vec<u8>) -> Result<(), Failure> {
-        let Some(uid) = Uid::new(number) else {
-            return Err(Failure::Script);
-        };
-        let message = Message {
-            uid,
-            flags: Flags::none(),
-            bytes: Octets::from_vec(bytes),
-        };
-        push_message(&mut self.mailboxes, message)
+    fn push_plain(&mut self, number: u32, bytes: Vec<u8>, line: &mut Words<'_>) {
+        match Uid::new(number) {
+            Some(uid) => {
+                let message = Message {
+                    uid,
+                    flags: Flags::none(),
+                    bytes: Octets::from_vec(bytes),
+                };
+                line.note(push_message(&mut self.mailboxes, message));
+            }
+            None => line.refuse(),
+        }
     }
 
-    fn call(
-        &mut self,
-        word: &str,
-        line: &mut Words<'_>,
-        reported: &mut Reported,
-    ) -> Result<(), Failure> {
+    fn call(&mut self, word: &str, line: &mut Words<'_>, reported: &mut Reported) {
         if self.client.is_none() {
-            self.client = Some(self.connected()?);
+            self.connect(line);
         }
         if let Some(client) = &mut self.client {
             reported.begin();
             client.make(self.alloc, word, line, reported);
             reported.end();
         }
-        Ok(())
     }
 
-    /// A client that has a link to a server with these mailboxes.
-    fn connected(&mut self) -> Result<Client<MemLink>, Failure> {
+    /// Makes a client that has a link to a server with these mailboxes. The line is bad where it cannot serve them.
+    fn connect(&mut self, line: &mut Words<'_>) {
+        match server_of(self.alloc, &mut self.mailboxes) {
+            Ok(server) => {
+                let schedule = Schedule::new(self.stops(line));
+                let link = MemLink::new(self.alloc, server, schedule);
+                let client = Client::Link(link.in_pieces(self.piece));
+                drop(self.client.replace(client));
+            }
+            Err(failure) => line.fail(failure),
+        }
+    }
+
+    fn stops(&self, line: &mut Words<'_>) -> Vec<LinkStop> {
         let mut stops = Vec::new(self.alloc);
         if let Some(stop) = self.stop {
-            stops.push(stop)?;
+            if stops.push(stop).is_err() {
+                line.fail(Failure::NoMemory);
+            }
         }
-        let server = server_of(self.alloc, &mut self.mailboxes)?;
-        let link = MemLink::new(self.alloc, server, Schedule::new(stops));
-        Ok(Client::Link(link.in_pieces(self.piece)))
+        stops
     }
 }
 
@@ -136,7 +146,8 @@ impl Player for Memory {
     }
 
     fn play(&mut self, line: &mut Words<'_>, script: &mut Script<'_>) -> Result<(), Failure> {
-        self.play_line(line, &mut script.reported)
+        self.play_line(line, &mut script.reported);
+        Ok(())
     }
 }
 

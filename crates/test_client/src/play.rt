@@ -19,14 +19,26 @@ use test_scripts::words::Words;
 /// Plays the lines of a script.
 pub fn run(rt: &HostRuntime, script: &mut Script<'_>) -> Result<(), Failure> {
     let tape = RefCell::new(Tape::new(rt.alloc(), usize::MAX));
+    let played = play_over(rt, &tape, script);
+    drop(tape);
+    played
+}
+
+fn play_over(
+    rt: &HostRuntime,
+    tape: &RefCell<Tape>,
+    script: &mut Script<'_>,
+) -> Result<(), Failure> {
     let mut player = Calls {
         rt,
-        tape: &tape,
-        stage: Stage::new(rt.alloc(), &tape),
+        tape,
+        stage: Stage::new(rt.alloc(), tape),
         lines: Reported::new(rt.alloc()),
         kept: Vec::new(rt.alloc()),
     };
-    play_all(rt, &mut player, script)
+    let played = play_all(rt, &mut player, script);
+    drop(player);
+    played
 }
 
 /// A case that others go on from.
@@ -52,8 +64,9 @@ impl Player for Calls<'_, '_> {
         if let Ok(mut tape) = self.tape.try_borrow_mut() {
             tape.begin_anew();
         }
-        self.stage = Stage::new(self.rt.alloc(), self.tape);
-        self.lines = Reported::new(self.rt.alloc());
+        let stage = Stage::new(self.rt.alloc(), self.tape);
+        drop(mem::replace(&mut self.stage, stage));
+        self.lines.clear();
         Ok(())
     }
 
@@ -88,14 +101,10 @@ impl Calls<'_, '_> {
     /// Goes on from the case that was kept by this name.
     fn go_on_after(&mut self, line: &mut Words<'_>) {
         let name = line.text();
-        match self.kept.iter().find(|kept| kept.name.as_str() == name) {
-            Some(kept) => {
-                self.lines.text(kept.lines.as_str());
-                let mut record = Record::new(self.rt.alloc());
-                record.play(&mut self.stage, kept.lines.as_str());
-                if record.is_lost() {
-                    line.fail(Failure::NoMemory);
-                }
+        match lines_of(&self.kept, name) {
+            Some(lines) => {
+                self.lines.text(lines);
+                play_unseen(self.rt.alloc(), &mut self.stage, lines, line);
             }
             None => line.refuse(),
         }
@@ -116,6 +125,26 @@ impl Calls<'_, '_> {
         reported.end();
         let _ = self.stage.end_call(reported);
     }
+}
+
+/// The lines of the case that was kept by this name.
+fn lines_of<'a>(all: &'a [Kept], name: &str) -> Option<&'a str> {
+    for kept in all {
+        if kept.name.as_str() == name {
+            return Some(kept.lines.as_str());
+        }
+    }
+    None
+}
+
+/// Plays lines that were played before, of which nothing is reported.
+fn play_unseen(alloc: Global, stage: &mut Stage<'_>, lines: &str, line: &mut Words<'_>) {
+    let mut record = Record::new(alloc);
+    record.play(stage, lines);
+    if record.is_lost() {
+        line.fail(Failure::NoMemory);
+    }
+    drop(record);
 }
 
 /// Plays the lines after this one in its case: calls over another link.

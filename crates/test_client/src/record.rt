@@ -35,8 +35,12 @@ impl Record {
     pub fn of(alloc: Global, lines: &str, room: usize) -> Record {
         let tape = RefCell::new(Tape::new(alloc, room));
         let mut record = Record::new(alloc);
-        record.play(&mut Stage::new(alloc, &tape), lines);
-        record.spoken = tape.into_inner().spoken();
+        let mut stage = Stage::new(alloc, &tape);
+        record.play(&mut stage, lines);
+        drop(stage);
+        let tape = tape.into_inner();
+        record.spoken = tape.spoken();
+        drop(tape);
         record
     }
 

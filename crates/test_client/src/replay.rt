@@ -3,7 +3,7 @@
 use crate::held::Held;
 use crate::memory::Memory;
 use mem_link::schedule::LinkStop;
-use std::alloc::{AllocError, Global};
+use std::alloc::Global;
 use test_scripts::failure::Failure;
 use test_scripts::reported::Reported;
 use test_scripts::words::Words;
@@ -36,7 +36,10 @@ pub fn replay(alloc: Global, lines: &str, call: &str, look: &str, stop: Option<L
         failure: None,
     };
     let mut memory = Memory::new(alloc, stop);
-    came.failure = came.play(alloc, &mut memory, lines, call, look).err();
+    if let Err(failure) = came.play(&mut memory, lines, call, look) {
+        came.failure = Some(failure);
+    }
+    came.hold(alloc, &mut memory);
     drop(memory);
     came
 }
@@ -44,7 +47,6 @@ pub fn replay(alloc: Global, lines: &str, call: &str, look: &str, stop: Option<L
 impl Came {
     fn play(
         &mut self,
-        alloc: Global,
         memory: &mut Memory,
         lines: &str,
         call: &str,
@@ -52,22 +54,21 @@ impl Came {
     ) -> Result<(), Failure> {
         play_lines(memory, lines, &mut self.earlier)?;
         play_lines(memory, call, &mut self.last)?;
-        play_lines(memory, look, &mut self.look)?;
-        self.hold(alloc, memory)?;
-        if self.is_lost() {
-            return Err(Failure::NoMemory);
-        }
-        Ok(())
+        play_lines(memory, look, &mut self.look)
     }
 
     /// Looks what the server holds.
-    fn hold(&mut self, alloc: Global, memory: &mut Memory) -> Result<(), AllocError> {
+    fn hold(&mut self, alloc: Global, memory: &mut Memory) {
         match memory.take_link() {
             Some(link) => {
                 self.stops = link.stops();
-                self.held.report(alloc, link.server().mailboxes())
+                self.held.report(alloc, link.server().mailboxes());
+                drop(link);
             }
             None => self.held.report(alloc, &memory.mailboxes),
+        }
+        if self.is_lost() {
+            self.failure = Some(Failure::NoMemory);
         }
     }
 
@@ -79,7 +80,7 @@ impl Came {
 fn play_lines(memory: &mut Memory, lines: &str, reported: &mut Reported) -> Result<(), Failure> {
     for line in lines.lines() {
         let mut words = Words::new(line.as_bytes());
-        memory.play_line(&mut words, reported)?;
+        memory.play_line(&mut words, reported);
         words.end()?;
     }
     Ok(())

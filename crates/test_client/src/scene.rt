@@ -32,7 +32,9 @@ impl Scene<'_> {
     /// Reports what comes of the call, unbroken and cut.
     pub fn report(self, reported: &mut Reported) -> Result<(), Failure> {
         let before = replay(self.alloc, self.lines, "", "", None);
-        self.report_after(&before.held, reported)
+        let reported = self.report_after(&before.held, reported);
+        drop(before);
+        reported
     }
 
     fn report_after(self, before: &Held, reported: &mut Reported) -> Result<(), Failure> {
@@ -41,7 +43,9 @@ impl Scene<'_> {
             before,
             whole: &whole,
         };
-        self.print_cuts(unbroken, reported)
+        let reported = self.print_cuts(unbroken, reported);
+        drop(whole);
+        reported
     }
 
     /// `Script`: a call of the link stops without a cut.
@@ -77,7 +81,9 @@ impl Scene<'_> {
 
     fn cut_at(self, unbroken: Unbroken<'_>, stop: LinkStop) -> Cut {
         let cut = replay(self.alloc, self.lines, self.call, "", Some(stop));
-        self.judge(unbroken, &cut, stop)
+        let judged = self.judge(unbroken, &cut, stop);
+        drop(cut);
+        judged
     }
 
     fn judge(self, unbroken: Unbroken<'_>, cut: &Came, stop: LinkStop) -> Cut {
@@ -110,6 +116,9 @@ impl Scene<'_> {
         let look = cut.held.calls.as_str();
         let again = replay(self.alloc, self.lines, self.call, look, Some(stop));
         let answers = again.look.as_str().as_bytes();
-        again.held.is_as(&cut.held) && answers.ends_with(cut.held.answers.as_str().as_bytes())
+        let is_listed = again.held.is_as(&cut.held)
+            && answers.ends_with(cut.held.answers.as_str().as_bytes());
+        drop(again);
+        is_listed
     }
 }

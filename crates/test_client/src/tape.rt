@@ -66,7 +66,7 @@ impl Tape {
 
     /// A tape over which nothing went, and that has no end.
     pub fn begin_anew(&mut self) {
-        *self = Tape::new(self.alloc, usize::MAX);
+        drop(mem::replace(self, Tape::new(self.alloc, usize::MAX)));
     }
 
     /// Takes a line of what goes over the link in the next call; returns whether it is one. `Script`: it is bad.

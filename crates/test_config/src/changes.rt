@@ -20,7 +20,7 @@ pub fn change(rt: &HostRuntime, word: &str, line: &mut Words<'_>) -> Option<io::
 }
 
 fn make_mailbox(rt: &HostRuntime, path: &str) -> io::Result<()> {
-    for part in ["cur", "new", "tmp"] {
+    for part in ["cur", "new", "tmp"].iter() {
         let part = format!(in rt.alloc(); "{path}/{part}")?;
         fs::create_dir_all(rt, part.as_str())?;
     }

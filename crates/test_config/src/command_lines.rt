@@ -27,30 +27,35 @@ impl Player for Shell {
 
     fn play(&mut self, line: &mut Words<'_>, script: &mut Script<'_>) -> Result<(), Failure> {
         let text = line.text();
-        match text.strip_prefix("closed ") {
-            Some(text) => print_line(self.0, &mut script.reported, text, true),
-            None => print_line(self.0, &mut script.reported, text, false),
+        let (text, is_closed) = match text.strip_prefix("closed ") {
+            Some(text) => (text, true),
+            None => (text, false),
+        };
+        if text == "mbsync" || text.starts_with("mbsync ") {
+            print_line(self.0, &mut script.reported, text, is_closed);
+        } else {
+            line.refuse();
         }
+        Ok(())
     }
 }
 
 /// Prints what a command line asks for, or why it asks for nothing. Where all is closed nothing can be written of it.
-fn print_line(
-    alloc: Global,
-    reported: &mut Reported,
-    line: &str,
-    is_closed: bool,
-) -> Result<(), Failure> {
-    let words = line.split(' ').map(word_of).collect::<Vec<_>>(alloc)?;
-    if words.first().copied() != Some("mbsync") {
-        return Err(Failure::Script);
+fn print_line(alloc: Global, reported: &mut Reported, line: &str, is_closed: bool) {
+    let mut words = Vec::new(alloc);
+    for word in line.split(' ') {
+        if words.push(word_of(word)).is_err() {
+            reported.lose();
+        }
     }
     match read_words(alloc, &words) {
-        Ok(request) => print_request(alloc, reported, &request),
-        Err(UsageFault::NoMemory) => Err(Failure::NoMemory),
+        Ok(request) => {
+            print_request(alloc, reported, &request);
+            drop(request);
+        }
         Err(fault) => {
             report_fault(alloc, reported, &fault, is_closed);
-            Ok(())
+            drop(fault);
         }
     }
 }
@@ -60,7 +65,7 @@ fn word_of(word: &str) -> &str {
     if word == "''" { "" } else { word }
 }
 
-/// Prints what is written of words that name no request, and the status.
+/// Prints what is written of words that name no request, and the status. Want of memory counts as a loss.
 fn report_fault(alloc: Global, reported: &mut Reported, fault: &UsageFault, is_closed: bool) {
     let mut out = Vec::new(alloc);
     let mut err = Vec::new(alloc);
@@ -75,6 +80,9 @@ fn report_fault(alloc: Global, reported: &mut Reported, fault: &UsageFault, is_c
     reported.text("status ");
     reported.number(u64::from(status));
     reported.end();
+    if matches!(fault, UsageFault::NoMemory) {
+        reported.lose();
+    }
 }
 
 /// Prints each line that was written, after the name of where it was.

@@ -1,27 +1,33 @@
 //! What is printed of configurations.
 
+use crate::advised::print_advice;
 use config::config::{Boxes, Channel, Config, Group};
 use config::read::read_config;
 use config_words::fault::{ConfigFault, FaultKind};
 use rules::options::{Cells, Sides};
 use std::alloc::Global;
-use test_scripts::failure::Failure;
 use test_scripts::reported::Reported;
 
-/// Prints what a text says as a configuration, or its fault.
-pub fn print_read(alloc: Global, reported: &mut Reported, text: &[u8]) -> Result<(), Failure> {
+/// Prints what a text says as a configuration, or its fault. Where advice is asked, prints what to do about the fault alone.
+pub fn print_read(alloc: Global, reported: &mut Reported, text: &[u8], is_advised: bool) {
     match read_config(alloc, text) {
         Ok(config) => {
-            print_config(reported, &config);
-            Ok(())
+            if is_advised {
+                reported.answer("nothing");
+            } else {
+                print_config(reported, &config);
+            }
+            drop(config);
         }
+        Err(fault) if is_advised => print_advice(alloc, reported, text, fault),
         Err(fault) => report_fault(reported, fault),
     }
 }
 
-fn report_fault(reported: &mut Reported, fault: ConfigFault) -> Result<(), Failure> {
-    if fault.kind == FaultKind::NoMemory {
-        return Err(Failure::NoMemory);
+/// Prints a fault. Want of memory counts as a loss.
+fn report_fault(reported: &mut Reported, fault: ConfigFault) {
+    if matches!(fault.kind, FaultKind::NoMemory) {
+        reported.lose();
     }
     reported.begin();
     reported.text("line ");
@@ -32,7 +38,6 @@ fn report_fault(reported: &mut Reported, fault: ConfigFault) -> Result<(), Failu
     reported.shown(&fault.kind);
     reported.text(")");
     reported.end();
-    Ok(())
 }
 
 fn print_config(reported: &mut Reported, config: &Config) {
@@ -108,13 +113,19 @@ fn add_cells(reported: &mut Reported, cells: Cells) {
         (cells.gone.push, " PushGone"),
         (cells.flags.push, " PushFlags"),
     ];
+    let mut count = 0usize;
+    for (is_on, _) in words.iter() {
+        if *is_on {
+            count = count.saturating_add(1);
+        }
+    }
     reported.text(" sync");
-    match words.iter().filter(|(is_on, _)| *is_on).count() {
+    match count {
         0 => reported.text(" none"),
         6 => reported.text(" all"),
         _ => {
-            for (is_on, word) in words {
-                reported.text(if is_on { word } else { "" });
+            for (is_on, word) in words.iter() {
+                reported.text(if *is_on { word } else { "" });
             }
         }
     }

@@ -33,6 +33,7 @@ use near_places::home::Home;
 use near_places::lock::{Lock, LockFault};
 use near_places::refusal::PlaceRefusal;
 use std::alloc::{AllocError, Global};
+use std::mem;
 use test_scripts::failure::Failure;
 use test_scripts::play::{Player, play_all};
 use test_scripts::reported::Reported;
@@ -42,14 +43,23 @@ use test_scripts::words::Words;
 /// Plays a script of where near mailboxes are.
 pub fn run(rt: &HostRuntime, script: &mut Script<'_>) -> Result<(), Failure> {
     let ground = Ground::new(rt)?;
+    let played = play_on(rt, &ground, script);
+    drop(ground);
+    played
+}
+
+fn play_on(rt: &HostRuntime, ground: &Ground, script: &mut Script<'_>) -> Result<(), Failure> {
+    let store = store_at(rt.alloc(), "mail/", "inbox")?;
     let mut scene = Scene {
         rt: *rt,
-        ground: &ground,
+        ground,
         home: Home::new(None),
-        store: store_at(rt.alloc(), "mail/", "inbox")?,
+        store,
         locks: Vec::new(rt.alloc()),
     };
-    play_all(rt, &mut scene, script)
+    let played = play_all(rt, &mut scene, script);
+    drop(scene);
+    played
 }
 
 /// A folder, a home, a store, and the locks that are held.
@@ -65,98 +75,90 @@ struct Scene<'a> {
 impl Player for Scene<'_> {
     fn begin(&mut self) -> Result<(), Failure> {
         let alloc = self.rt.alloc();
-        self.home = Home::new(None);
-        self.store = store_at(alloc, "mail/", "inbox")?;
-        self.locks = Vec::new(alloc);
+        let store = store_at(alloc, "mail/", "inbox")?;
+        drop(mem::replace(&mut self.home, Home::new(None)));
+        drop(mem::replace(&mut self.store, store));
+        drop(mem::replace(&mut self.locks, Vec::new(alloc)));
         Ok(self.ground.clear()?)
     }
 
     fn play(&mut self, line: &mut Words<'_>, script: &mut Script<'_>) -> Result<(), Failure> {
         let word = line.word();
         match change(&self.rt, word, line) {
-            Some(done) => Ok(done?),
+            Some(done) => return Ok(done?),
             None => self.ask(word, line, &mut script.reported),
         }
+        Ok(())
     }
 }
 
 impl Scene<'_> {
-    fn ask(
-        &mut self,
-        word: &str,
-        line: &mut Words<'_>,
-        reported: &mut Reported,
-    ) -> Result<(), Failure> {
+    fn ask(&mut self, word: &str, line: &mut Words<'_>, reported: &mut Reported) {
         match word {
             "home" => self.set_home(line),
             "store" => self.set_store(line),
             "boxes" => self.print_boxes(reported),
-            "where" => self.print_folder(line.text(), reported),
-            "lock" => self.lock(line.text(), reported),
-            "unlock" => {
-                let _ = self.locks.pop();
-                Ok(())
-            }
-            "validity" => {
-                reported.say(&fresh_validity(line.long_number()));
-                Ok(())
-            }
-            _ => Err(Failure::Script),
+            "where" => self.print_folder(line, reported),
+            "lock" => self.lock(line, reported),
+            "unlock" => drop(self.locks.pop()),
+            "validity" => reported.say(&fresh_validity(line.long_number())),
+            _ => line.refuse(),
         }
     }
 
-    fn set_home(&mut self, line: &mut Words<'_>) -> Result<(), Failure> {
-        let path = if line.is_over() {
-            None
-        } else {
-            Some(String::from_str(self.rt.alloc(), line.text())?)
-        };
-        self.home = Home::new(path);
-        Ok(())
+    fn set_home(&mut self, line: &mut Words<'_>) {
+        let mut path = None;
+        if !line.is_over() {
+            match String::from_str(self.rt.alloc(), line.text()) {
+                Ok(text) => path = Some(text),
+                Err(_) => line.fail(Failure::NoMemory),
+            }
+        }
+        drop(mem::replace(&mut self.home, Home::new(path)));
     }
 
-    fn set_store(&mut self, line: &mut Words<'_>) -> Result<(), Failure> {
+    fn set_store(&mut self, line: &mut Words<'_>) {
         let path = line.word();
-        self.store = store_at(self.rt.alloc(), path, line.text())?;
-        Ok(())
+        match store_at(self.rt.alloc(), path, line.text()) {
+            Ok(store) => drop(mem::replace(&mut self.store, store)),
+            Err(_) => line.fail(Failure::NoMemory),
+        }
     }
 
-    fn print_boxes(&self, reported: &mut Reported) -> Result<(), Failure> {
+    fn print_boxes(&self, reported: &mut Reported) {
         match near_boxes(&self.rt, &self.home, &self.store) {
             Ok(boxes) => {
                 for name in &boxes.names {
                     reported.answer(name.as_str());
                 }
                 print_skipped(reported, &boxes.skipped);
-                Ok(())
+                drop(boxes);
             }
             Err(refusal) => print_refusal(reported, refusal),
         }
     }
 
-    fn print_folder(&self, name: &str, reported: &mut Reported) -> Result<(), Failure> {
-        let alloc = self.rt.alloc();
-        let name = MailboxName::from_bytes(alloc, name.as_bytes())?.ok_or(Failure::Script)?;
-        match near_folder(&self.rt, &self.home, &self.store, &name) {
-            Ok(folder) => {
-                reported.answer(&folder);
-                Ok(())
-            }
-            Err(refusal) => print_refusal(reported, refusal),
+    fn print_folder(&self, line: &mut Words<'_>, reported: &mut Reported) {
+        match MailboxName::from_bytes(self.rt.alloc(), line.text().as_bytes()) {
+            Ok(Some(name)) => match near_folder(&self.rt, &self.home, &self.store, &name) {
+                Ok(folder) => reported.answer(&folder),
+                Err(refusal) => print_refusal(reported, refusal),
+            },
+            Ok(None) => line.refuse(),
+            Err(_) => line.fail(Failure::NoMemory),
         }
     }
 
-    fn lock(&mut self, folder: &str, reported: &mut Reported) -> Result<(), Failure> {
-        match Lock::take(&self.rt, folder) {
+    fn lock(&mut self, line: &mut Words<'_>, reported: &mut Reported) {
+        match Lock::take(&self.rt, line.text()) {
             Ok(lock) => {
                 reported.answer("held");
-                Ok(self.locks.push(lock)?)
+                if self.locks.push(lock).is_err() {
+                    line.fail(Failure::NoMemory);
+                }
             }
             Err(LockFault::Refused(refusal)) => print_refusal(reported, refusal),
-            Err(LockFault::Held) => {
-                reported.say(&LockFault::Held);
-                Ok(())
-            }
+            Err(LockFault::Held) => reported.say(&LockFault::Held),
         }
     }
 }
@@ -171,12 +173,12 @@ fn print_skipped(reported: &mut Reported, skipped: &[String]) {
     }
 }
 
-fn print_refusal(reported: &mut Reported, refusal: PlaceRefusal) -> Result<(), Failure> {
-    if let PlaceRefusal::NoMemory = refusal {
-        return Err(Failure::NoMemory);
-    }
+/// Prints a refusal. Want of memory counts as a loss.
+fn print_refusal(reported: &mut Reported, refusal: PlaceRefusal) {
     reported.say(&refusal);
-    Ok(())
+    if matches!(refusal, PlaceRefusal::NoMemory) {
+        reported.lose();
+    }
 }
 
 /// A store with these words of Path and Inbox.

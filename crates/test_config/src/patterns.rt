@@ -4,12 +4,18 @@ use config_words::patterns::{Pattern, Patterns, matches};
 use std::alloc::Global;
 use test_scripts::failure::Failure;
 use test_scripts::reported::Reported;
+use test_scripts::words::Words;
 
 /// Of `WORD .. : NAME ..` prints for each name whether the words choose it.
-pub fn print_chosen(alloc: Global, reported: &mut Reported, text: &str) -> Result<(), Failure> {
-    let (words, names) = text.split_once(" : ").ok_or(Failure::Script)?;
+pub fn print_chosen(alloc: Global, line: &mut Words<'_>, reported: &mut Reported) {
+    let Some((words, names)) = line.text().split_once(" : ") else {
+        line.refuse();
+        return;
+    };
     let mut patterns = Patterns::new(alloc);
-    add_words(alloc, &mut patterns, words)?;
+    for word in words.split(' ') {
+        add_word(alloc, &mut patterns, word, line);
+    }
     for name in names.split(' ') {
         reported.begin();
         reported.text(name);
@@ -20,16 +26,19 @@ pub fn print_chosen(alloc: Global, reported: &mut Reported, text: &str) -> Resul
         });
         reported.end();
     }
-    Ok(())
+    drop(patterns);
 }
 
-fn add_words(alloc: Global, patterns: &mut Patterns, words: &str) -> Result<(), Failure> {
-    for word in words.split(' ') {
-        let text = String::from_str(alloc, word)?;
-        match Pattern::from_string(text) {
-            Some(word) => patterns.push(word)?,
-            None => return Err(Failure::Script),
-        }
+fn add_word(alloc: Global, patterns: &mut Patterns, word: &str, line: &mut Words<'_>) {
+    match String::from_str(alloc, word) {
+        Ok(text) => match Pattern::from_string(text) {
+            Some(word) => {
+                if patterns.push(word).is_err() {
+                    line.fail(Failure::NoMemory);
+                }
+            }
+            None => line.refuse(),
+        },
+        Err(_) => line.fail(Failure::NoMemory),
     }
-    Ok(())
 }

@@ -1,6 +1,5 @@
 //! How a script of configurations is played.
 
-use crate::advised::print_advice;
 use crate::configs::print_read;
 use crate::patterns::print_chosen;
 use std::alloc::Global;
@@ -39,51 +38,41 @@ impl Player for Shorts {
     }
 
     fn play(&mut self, line: &mut Words<'_>, script: &mut Script<'_>) -> Result<(), Failure> {
-        match line.word() {
+        let reported = &mut script.reported;
+        let word = line.word();
+        match word {
             "let" => self.keep(line),
-            "read" => self.read(line.text(), 0, &mut script.reported),
-            "advise" => self.advise(line.text(), &mut script.reported),
-            "long" => {
-                let letters = line.count();
-                self.read(line.text(), letters, &mut script.reported)
+            "read" | "long" | "advise" => {
+                let letters = if word == "long" { line.count() } else { 0 };
+                let text = self.text_of(line.text(), letters);
+                if text.is_lost() {
+                    reported.lose();
+                }
+                let text = text.as_str().as_bytes();
+                print_read(self.alloc, reported, text, word == "advise");
             }
-            "bytes" => print_read(self.alloc, &mut script.reported, &line.bytes(self.alloc)?),
-            "advise_bytes" => print_advice(
-                self.alloc,
-                &mut script.reported,
-                &line.bytes(self.alloc)?,
-            ),
-            "choose" => print_chosen(self.alloc, &mut script.reported, line.text()),
-            _ => Err(Failure::Script),
+            "bytes" | "advise_bytes" => {
+                let text = line.said(self.alloc);
+                print_read(self.alloc, reported, &text, word == "advise_bytes");
+            }
+            "choose" => print_chosen(self.alloc, line, reported),
+            _ => line.refuse(),
         }
+        Ok(())
     }
 }
 
 impl Shorts {
     /// Keeps lines under a name.
-    fn keep(&mut self, line: &mut Words<'_>) -> Result<(), Failure> {
-        let name = String::from_str(self.alloc, line.word())?;
-        let text = self.text_of(line.text(), 0);
-        Ok(self.kept.push(Short { name, text })?)
-    }
-
-    /// Prints what the configuration of these lines says.
-    fn read(&self, lines: &str, letters: usize, reported: &mut Reported) -> Result<(), Failure> {
-        let text = self.text_of(lines, letters);
-        if text.is_lost() {
-            Err(Failure::NoMemory)
-        } else {
-            print_read(self.alloc, reported, text.as_str().as_bytes())
-        }
-    }
-
-    /// Prints what to do about the configuration of these lines.
-    fn advise(&self, lines: &str, reported: &mut Reported) -> Result<(), Failure> {
-        let text = self.text_of(lines, 0);
-        if text.is_lost() {
-            Err(Failure::NoMemory)
-        } else {
-            print_advice(self.alloc, reported, text.as_str().as_bytes())
+    fn keep(&mut self, line: &mut Words<'_>) {
+        match String::from_str(self.alloc, line.word()) {
+            Ok(name) => {
+                let text = self.text_of(line.text(), 0);
+                if self.kept.push(Short { name, text }).is_err() {
+                    line.fail(Failure::NoMemory);
+                }
+            }
+            Err(_) => line.fail(Failure::NoMemory),
         }
     }
 
@@ -94,7 +83,7 @@ impl Shorts {
             let line = line.strip_prefix(" ").unwrap_or(line);
             let line = line.strip_suffix(" ").unwrap_or(line);
             match self.short(line) {
-                Some(lines) => text.text(lines),
+                Some(lines) => text.add(lines),
                 None => add_line(&mut text, line, letters),
             }
         }
@@ -102,11 +91,11 @@ impl Shorts {
     }
 
     /// The lines that a line stands for.
-    fn short(&self, line: &str) -> Option<&str> {
+    fn short(&self, line: &str) -> Option<&Reported> {
         let name = line.strip_prefix("$")?;
         for short in &self.kept {
             if short.name.as_str() == name {
-                return Some(short.text.as_str());
+                return Some(&short.text);
             }
         }
         None

@@ -4,15 +4,10 @@ use config::cells::{CellsFault, cells};
 use config::request::{Chosen, RunRequest};
 use rules::options::{Cells, Directions};
 use std::alloc::Global;
-use test_scripts::failure::Failure;
 use test_scripts::reported::Reported;
 
 /// Prints what a request asks for, on one line.
-pub fn print_request(
-    alloc: Global,
-    reported: &mut Reported,
-    request: &RunRequest,
-) -> Result<(), Failure> {
+pub fn print_request(alloc: Global, reported: &mut Reported, request: &RunRequest) {
     reported.begin();
     add_chosen(reported, &request.chosen);
     if let Some(file) = &request.file {
@@ -22,16 +17,11 @@ pub fn print_request(
     if request.lists {
         reported.text(", only listed");
     }
-    let is_whole = add_sync(alloc, reported, request);
+    add_sync(alloc, reported, request);
     if request.expunges {
         reported.text(", expunge both");
     }
     reported.end();
-    if is_whole {
-        Ok(())
-    } else {
-        Err(Failure::NoMemory)
-    }
 }
 
 fn add_chosen(reported: &mut Reported, chosen: &Chosen) {
@@ -52,8 +42,8 @@ fn add_name(reported: &mut Reported, name: &str) {
     reported.text("'");
 }
 
-/// Adds the Sync words, if there are some, and the cells that they choose. False: memory ran out.
-fn add_sync(alloc: Global, reported: &mut Reported, request: &RunRequest) -> bool {
+/// Adds the Sync words, if there are some, and the cells that they choose.
+fn add_sync(alloc: Global, reported: &mut Reported, request: &RunRequest) {
     if !request.sync_words.is_empty() {
         reported.text(", sync");
     }
@@ -62,16 +52,10 @@ fn add_sync(alloc: Global, reported: &mut Reported, request: &RunRequest) -> boo
         reported.bytes(word.text());
     }
     match cells(alloc, &request.sync_words) {
-        Ok(None) => true,
-        Ok(Some(cells)) => {
-            add_cells(reported, cells);
-            true
-        }
-        Err(CellsFault::Refused(_)) => {
-            reported.text(" (refused)");
-            true
-        }
-        Err(CellsFault::NoMemory) => false,
+        Ok(None) => {}
+        Ok(Some(cells)) => add_cells(reported, cells),
+        Err(CellsFault::Refused(_)) => reported.text(" (refused)"),
+        Err(CellsFault::NoMemory) => reported.lose(),
     }
 }
 

@@ -1,5 +1,6 @@
-//! Lines about a folder on a disk, in which the process stands.
+//! A folder on a disk, in which the process stands.
 
+use crate::noted_folder::NotedFolder;
 use crate::seat::Seat;
 use maildir::disk_folder::DiskFolder;
 use std::fs::{DirBuilder, FileType};
@@ -7,43 +8,60 @@ use std::os::unix::fs::{DirBuilderExt, PermissionsExt, symlink};
 use std::os::unix::net::UnixListener;
 use std::{fs, io};
 use test_scripts::failure::Failure;
+use test_scripts::play::Player;
 use test_scripts::reported::Reported;
 use test_scripts::script::Script;
 use test_scripts::words::Words;
 
-/// Plays a line with this first word.
-pub fn play_on_disk(
-    rt: &HostRuntime,
-    seat: &mut Seat<DiskFolder<HostRuntime>>,
-    word: &str,
-    line: &mut Words<'_>,
-    script: &mut Script<'_>,
-) -> Result<(), Failure> {
-    match word {
-        "put" => put(rt, line),
-        "create" => create(rt),
-        "kind" => Ok(print_kind(rt, line.word(), &mut script.reported)?),
-        _ => match change(rt, word, line) {
+/// A folder on a disk, and its mailbox.
+#[derive(Drop)]
+pub struct OnDisk {
+    rt: HostRuntime,
+    seat: Seat<NotedFolder<DiskFolder<HostRuntime>>>,
+}
+
+impl Player for OnDisk {
+    fn begin(&mut self) -> Result<(), Failure> {
+        Ok(())
+    }
+
+    fn play(&mut self, line: &mut Words<'_>, script: &mut Script<'_>) -> Result<(), Failure> {
+        let word = line.word();
+        match change(&self.rt, word, line) {
             Some(done) => Ok(done?),
-            None => seat.play(rt, word, line, script),
-        },
+            None => self.ask(word, line, &mut script.reported),
+        }
     }
 }
 
-fn put(rt: &HostRuntime, line: &mut Words<'_>) -> Result<(), Failure> {
-    let path = line.word();
-    let bytes = line.bytes(rt.alloc())?;
-    Ok(fs::write(rt, path, bytes.as_slice())?)
-}
+impl OnDisk {
+    /// This folder.
+    pub fn new(rt: &HostRuntime, folder: DiskFolder<HostRuntime>) -> Self {
+        OnDisk {
+            rt: *rt,
+            seat: Seat::Folder(NotedFolder::new(rt.alloc(), folder)),
+        }
+    }
 
-fn create(rt: &HostRuntime) -> Result<(), Failure> {
-    DiskFolder::create(*rt, ".")?;
-    Ok(())
+    fn ask(
+        &mut self,
+        word: &str,
+        line: &mut Words<'_>,
+        reported: &mut Reported,
+    ) -> Result<(), Failure> {
+        match word {
+            "create" => drop(DiskFolder::create(self.rt, ".")?),
+            "kind" => print_kind(&self.rt, line.word(), reported)?,
+            _ => self.seat.play(&self.rt, word, line, reported),
+        }
+        Ok(())
+    }
 }
 
 /// Takes or makes what a line with this first word says, or nothing if it says nothing of that.
 fn change(rt: &HostRuntime, word: &str, line: &mut Words<'_>) -> Option<io::Result<()>> {
     match word {
+        "put" => Some(put(rt, line)),
         "take" => Some(fs::remove_file(rt, line.word())),
         "rmdir" => Some(fs::remove_dir(rt, line.word())),
         "mkdir" => Some(make_folder(rt, line.word())),
@@ -58,6 +76,13 @@ fn change(rt: &HostRuntime, word: &str, line: &mut Words<'_>) -> Option<io::Resu
         }
         _ => None,
     }
+}
+
+/// `PATH "BYTES"`: puts a file there.
+fn put(rt: &HostRuntime, line: &mut Words<'_>) -> io::Result<()> {
+    let path = line.word();
+    let bytes = line.said(rt.alloc());
+    fs::write(rt, path, bytes.as_slice())
 }
 
 fn make_folder(rt: &HostRuntime, path: &str) -> io::Result<()> {

@@ -6,10 +6,15 @@ use maildir::disk_folder::DiskFolder;
 use maildir::folder::{Folder, Place};
 use maildir::mem_folder::MemFolder;
 use maildir::visited_folder::VisitedFolder;
-use std::alloc::{AllocError, Global};
-use std::fs;
+use std::alloc::Global;
+use std::fs::DirEntry;
+use std::{fs, io};
 use test_scripts::failure::Failure;
 use test_scripts::reported::Reported;
+use test_scripts::words::Words;
+
+/// The folders of a folder on a disk in which files may stand, and what their paths begin with.
+const FOLDERS: [(&str, &str); 4] = [(".", ""), ("cur", "cur/"), ("new", "new/"), ("tmp", "tmp/")];
 
 /// A file that stands in a folder.
 #[derive(Drop)]
@@ -25,10 +30,10 @@ pub trait OpenFolder: Folder + Drop {
     fn stop_count(&self) -> usize;
 
     /// Prints where it stopped and which files it left out, as far as it notes that.
-    fn print_notes(&self, reported: &mut Reported);
+    fn print_notes(&self, _reported: &mut Reported) {}
 
     /// Adds all files that stand there, in any order.
-    fn add_files(&self, rt: &HostRuntime, files: &mut Vec<Standing>) -> Result<(), Failure>;
+    fn add_files(&self, rt: &HostRuntime, files: &mut Vec<Standing>, line: &mut Words<'_>);
 }
 
 impl OpenFolder for MemFolder {
@@ -36,28 +41,19 @@ impl OpenFolder for MemFolder {
         self.stops()
     }
 
-    /// It notes nothing.
-    fn print_notes(&self, _: &mut Reported) {}
-
-    fn add_files(&self, rt: &HostRuntime, files: &mut Vec<Standing>) -> Result<(), Failure> {
+    fn add_files(&self, rt: &HostRuntime, files: &mut Vec<Standing>, line: &mut Words<'_>) {
         let alloc = rt.alloc();
         for file in self.files() {
             let folder = match file.place {
                 Place::New => "new/",
                 Place::Cur => "cur/",
             };
-            add_file(
-                alloc,
-                files,
-                folder,
-                file.name.as_slice(),
-                file.bytes.as_slice(),
-            )?;
+            let (name, bytes) = (file.name.as_slice(), file.bytes.as_slice());
+            add_file(alloc, files, folder, name, bytes, line);
         }
         if let Some(text) = self.meta() {
-            add_file(alloc, files, "", b".uidvalidity", text)?;
+            add_file(alloc, files, "", b".uidvalidity", text, line);
         }
-        Ok(())
     }
 }
 
@@ -66,12 +62,9 @@ impl OpenFolder for VisitedFolder<NoMarks> {
         self.folder().stops()
     }
 
-    /// It notes nothing.
-    fn print_notes(&self, _: &mut Reported) {}
-
     /// Those of which the names were read.
-    fn add_files(&self, rt: &HostRuntime, files: &mut Vec<Standing>) -> Result<(), Failure> {
-        self.folder().add_files(rt, files)
+    fn add_files(&self, rt: &HostRuntime, files: &mut Vec<Standing>, line: &mut Words<'_>) {
+        self.folder().add_files(rt, files, line);
     }
 }
 
@@ -85,11 +78,12 @@ impl OpenFolder for DiskFolder<HostRuntime> {
     }
 
     /// The process stands in the folder.
-    fn add_files(&self, rt: &HostRuntime, files: &mut Vec<Standing>) -> Result<(), Failure> {
-        for (folder, prefix) in [(".", ""), ("cur", "cur/"), ("new", "new/"), ("tmp", "tmp/")] {
-            add_files_in(rt, files, folder, prefix)?;
+    fn add_files(&self, rt: &HostRuntime, files: &mut Vec<Standing>, line: &mut Words<'_>) {
+        for (folder, prefix) in FOLDERS.iter() {
+            if let Err(fault) = add_files_in(rt, files, folder, prefix, line) {
+                line.fail(Failure::from(fault));
+            }
         }
-        Ok(())
     }
 }
 
@@ -99,19 +93,29 @@ fn add_files_in(
     files: &mut Vec<Standing>,
     folder: &str,
     prefix: &str,
-) -> Result<(), Failure> {
+    line: &mut Words<'_>,
+) -> io::Result<()> {
     for entry in fs::read_dir(rt, folder)? {
-        let entry = entry?;
-        if entry.file_type()?.is_file() {
-            let bytes = fs::read(rt, entry.path())?;
-            add_file(
-                rt.alloc(),
-                files,
-                prefix,
-                entry.file_name().as_bytes(),
-                &bytes,
-            )?;
+        if let Err(fault) = add_entry(rt, files, prefix, entry, line) {
+            line.fail(Failure::from(fault));
         }
+    }
+    Ok(())
+}
+
+/// Adds what stands in a folder, if it is a file.
+fn add_entry(
+    rt: &HostRuntime,
+    files: &mut Vec<Standing>,
+    prefix: &str,
+    entry: io::Result<DirEntry<HostRuntime>>,
+    line: &mut Words<'_>,
+) -> io::Result<()> {
+    let entry = entry?;
+    if entry.file_type()?.is_file() {
+        let bytes = fs::read(rt, entry.path())?;
+        let name = entry.file_name().as_bytes();
+        add_file(rt.alloc(), files, prefix, name, &bytes, line);
     }
     Ok(())
 }
@@ -122,11 +126,19 @@ fn add_file(
     folder: &str,
     name: &[u8],
     bytes: &[u8],
-) -> Result<(), AllocError> {
-    let mut path = Vec::from_slice(alloc, folder.as_bytes())?;
-    path.extend_from_slice(name)?;
-    let bytes = Vec::from_slice(alloc, bytes)?;
-    Ok(files.push(Standing { path, bytes })?)
+    line: &mut Words<'_>,
+) {
+    let mut file = Standing {
+        path: Vec::new(alloc),
+        bytes: Vec::new(alloc),
+    };
+    if file.path.extend_from_slice(folder.as_bytes()).is_err()
+        || file.path.extend_from_slice(name).is_err()
+        || file.bytes.extend_from_slice(bytes).is_err()
+        || files.push(file).is_err()
+    {
+        line.fail(Failure::NoMemory);
+    }
 }
 
 /// Adds all files that stand in a folder to none, in the order of their paths.
@@ -134,17 +146,31 @@ pub fn gather<F: OpenFolder>(
     rt: &HostRuntime,
     folder: &F,
     files: &mut Vec<Standing>,
-) -> Result<(), Failure> {
-    folder.add_files(rt, files)?;
-    Ok(files.sort_by(|a, b| a.path.as_slice().cmp(b.path.as_slice()))?)
+    line: &mut Words<'_>,
+) {
+    folder.add_files(rt, files, line);
+    let sorted = files.sort_by(|a, b| a.path.as_slice().cmp(b.path.as_slice()));
+    if sorted.is_err() {
+        line.fail(Failure::NoMemory);
+    }
 }
 
-/// Prints files, each as ` PATH "BYTES"`.
-pub fn print_files(reported: &mut Reported, files: &[Standing]) {
-    for file in files {
+/// An answer with the files that stand in a folder, each as ` PATH "BYTES"`.
+pub fn print_files_in<F: OpenFolder>(
+    rt: &HostRuntime,
+    folder: &F,
+    line: &mut Words<'_>,
+    reported: &mut Reported,
+) {
+    let mut files = Vec::new(rt.alloc());
+    gather(rt, folder, &mut files, line);
+    reported.text("  files:");
+    for file in files.iter() {
         reported.text(" ");
         print_file(reported, file);
     }
+    reported.end();
+    drop(files);
 }
 
 fn print_file(reported: &mut Reported, file: &Standing) {

@@ -25,16 +25,12 @@ impl Drop for Ground {
 }
 
 impl Ground {
-    /// A place where nothing stands yet; the process's number keeps it apart from those of other runs.
+    /// A place where nothing stands yet.
     pub fn new(rt: &HostRuntime) -> Result<Ground, Failure> {
-        let before = env::current_dir(rt)?;
-        let root = env::temp_dir(rt)?;
-        let root = root.as_path().as_str();
-        let id = process::id(rt.process());
         Ok(Ground {
             rt: *rt,
-            path: format!(in rt.alloc(); "{root}/test_near_mailbox_{id}")?,
-            before,
+            path: path_of(rt)?,
+            before: env::current_dir(rt)?,
         })
     }
 
@@ -43,8 +39,13 @@ impl Ground {
         let path = self.path.as_str();
         self.clear();
         let folder = DiskFolder::create(self.rt, path)?;
-        env::set_current_dir(&self.rt, path)?;
-        Ok(folder)
+        match env::set_current_dir(&self.rt, path) {
+            Ok(()) => Ok(folder),
+            Err(fault) => {
+                drop(folder);
+                Err(Failure::from(fault))
+            }
+        }
     }
 
     /// Takes away what stands there. Where memory runs out, it may be there the second time.
@@ -54,4 +55,12 @@ impl Ground {
             let _ = fs::remove_dir_all(&self.rt, path);
         }
     }
+}
+
+/// Where the folder stands; the process's number keeps it apart from those of other runs.
+fn path_of(rt: &HostRuntime) -> Result<String, Failure> {
+    let root = env::temp_dir(rt)?;
+    let root = root.as_path().as_str();
+    let id = process::id(rt.process());
+    Ok(format!(in rt.alloc(); "{root}/test_near_mailbox_{id}")?)
 }

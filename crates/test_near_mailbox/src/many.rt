@@ -9,7 +9,8 @@ use mailcore::spared::Spared;
 use mailcore::tuid::{TUID_LENGTH, Tuid};
 use maildir::folder::Folder;
 use near_box::{NearBox, NearFault};
-use std::alloc::{AllocError, Global};
+use std::alloc::Global;
+use test_scripts::failure::Failure;
 use test_scripts::reported::Reported;
 use test_scripts::words::Words;
 
@@ -34,12 +35,11 @@ pub fn count<F: Folder>(
     line: &mut Words<'_>,
     reported: &mut Reported,
 ) -> Option<NearFault> {
-    let Ok(spared) = spared(alloc, line) else {
-        return Some(NearFault::NoMemory);
-    };
+    let spared = read_spared(alloc, line);
     match near.list_sparing(&spared) {
         Ok(listing) => {
             reported.number(listing.items.as_slice().len() as u64);
+            drop(listing);
             None
         }
         Err(fault) => report_fault(reported, fault),
@@ -47,33 +47,22 @@ pub fn count<F: Folder>(
 }
 
 /// Which messages are not asked whether they are fit.
-fn spared(alloc: Global, line: &mut Words<'_>) -> Result<Spared, AllocError> {
+fn read_spared(alloc: Global, line: &mut Words<'_>) -> Spared {
     if line.is_over() {
-        return Ok(Spared::none(alloc));
+        return Spared::none(alloc);
     }
-    if line.word() != "above" {
-        line.refuse();
-    }
+    line.expect("above");
     let from = line.number();
     let mut others = Vec::new(alloc);
     if !line.is_over() {
-        if line.word() != "except" {
-            line.refuse();
+        line.expect("except");
+        for uid in read_uids(alloc, line).iter() {
+            if others.push(uid.get()).is_err() {
+                line.fail(Failure::NoMemory);
+            }
         }
-        others = numbers(alloc, line)?;
     }
-    Ok(Spared::of(from, others))
-}
-
-/// The UIDs of the next word, as numbers.
-fn numbers(alloc: Global, line: &mut Words<'_>) -> Result<Vec<u32>, AllocError> {
-    let mut uids = Vec::new(alloc);
-    read_uids(line, &mut uids)?;
-    let mut numbers = Vec::new(alloc);
-    for uid in &uids {
-        numbers.push(uid.get())?;
-    }
-    Ok(numbers)
+    Spared::of(from, others)
 }
 
 /// Appends so many copies of a far message, under the mark `000000000000`, and syncs the names.

@@ -1,6 +1,7 @@
 //! Folders in memory.
 
-use crate::operation::print_done;
+use crate::noted_folder::NotedFolder;
+use crate::operation::{octets_of, print_device};
 use crate::seat::Seat;
 use crate::stop::read_stop;
 use crate::trial::try_stops;
@@ -8,9 +9,10 @@ use device::schedule::CallStop;
 use mailcore::octets::Octets;
 use maildir::folder::{File, Place};
 use maildir::mem_folder::{FolderCall, MemFolder};
-use near_box::NearFault;
-use std::alloc::{AllocError, Global};
+use std::alloc::Global;
+use std::mem;
 use test_scripts::failure::Failure;
+use test_scripts::play::Player;
 use test_scripts::reported::Reported;
 use test_scripts::script::Script;
 use test_scripts::words::Words;
@@ -18,133 +20,135 @@ use test_scripts::words::Words;
 /// A folder in memory, and what further ones are made of: each has the same files, and a stop of its own.
 #[derive(Drop)]
 pub struct Memory {
+    rt: HostRuntime,
     // The lines that say what stands in a new folder.
-    lines: Vec<u8>,
+    lines: Reported,
     stop: Option<CallStop<FolderCall>>,
-    seat: Seat<MemFolder>,
+    seat: Seat<NotedFolder<MemFolder>>,
+}
+
+impl Player for Memory {
+    fn begin(&mut self) -> Result<(), Failure> {
+        Ok(())
+    }
+
+    fn play(&mut self, line: &mut Words<'_>, script: &mut Script<'_>) -> Result<(), Failure> {
+        let word = line.word();
+        let reported = &mut script.reported;
+        match word {
+            "put" | "hide" if self.seat.is_empty() => self.keep(word, line),
+            "try" => try_stops(&self.rt, self, line, reported),
+            _ => {
+                self.make(line);
+                if word == "arrive" {
+                    self.arrive(line, reported);
+                } else {
+                    self.seat.play(&self.rt, word, line, reported);
+                }
+            }
+        }
+        Ok(())
+    }
 }
 
 impl Memory {
     /// `stops STOP`, or nothing: an empty folder, which is made when it is first called.
-    pub fn read(alloc: Global, line: &mut Words<'_>) -> Self {
+    pub fn read(rt: &HostRuntime, line: &mut Words<'_>) -> Self {
         let mut stop = None;
         if !line.is_over() {
-            if line.word() != "stops" {
-                line.refuse();
-            }
+            line.expect("stops");
             stop = Some(read_stop(line));
         }
         Memory {
-            lines: Vec::new(alloc),
+            rt: *rt,
+            lines: Reported::new(rt.alloc()),
             stop,
             seat: Seat::Empty,
         }
     }
 
-    /// Plays a line with this first word.
-    pub fn play(
-        &mut self,
-        rt: &HostRuntime,
-        word: &str,
-        line: &mut Words<'_>,
-        script: &mut Script<'_>,
-    ) -> Result<(), Failure> {
-        match word {
-            "put" | "hide" if self.seat.is_empty() => Ok(self.keep(word, line)?),
-            "try" => try_stops(rt, self, line, &mut script.reported),
-            "arrive" => {
-                self.make(rt.alloc())?;
-                self.arrive(rt.alloc(), line, &mut script.reported)
-            }
-            _ => {
-                self.make(rt.alloc())?;
-                self.seat.play(rt, word, line, script)
-            }
-        }
-    }
-
     /// Keeps a line that says what stands in a new folder.
-    fn keep(&mut self, word: &str, line: &mut Words<'_>) -> Result<(), AllocError> {
-        self.lines.extend_from_slice(word.as_bytes())?;
+    fn keep(&mut self, word: &str, line: &mut Words<'_>) {
+        self.lines.text(word);
         if !line.is_over() {
-            self.lines.push(b' ')?;
-            self.lines.extend_from_slice(line.rest())?;
+            self.lines.text(" ");
+            self.lines.text(line.text());
         }
-        Ok(self.lines.push(b'\n')?)
+        self.lines.end();
     }
 
     /// `NAME "BYTES"`: a file comes to `cur`.
-    fn arrive(
-        &mut self,
-        alloc: Global,
-        line: &mut Words<'_>,
-        reported: &mut Reported,
-    ) -> Result<(), Failure> {
-        let name = Octets::from_vec(Vec::from_slice(alloc, line.word().as_bytes())?);
-        let bytes = Octets::from_vec(line.bytes(alloc)?);
-        let Some(folder) = self.seat.close() else {
-            return Err(Failure::Script);
-        };
-        let answer = folder.inner_mut().arrive(name, bytes);
-        reported.begin();
-        let fault = print_done(reported, answer.map_err(NearFault::from));
-        reported.end();
-        if fault == Some(NearFault::NoMemory) {
-            return Err(Failure::NoMemory);
+    fn arrive(&mut self, line: &mut Words<'_>, reported: &mut Reported) {
+        let alloc = self.rt.alloc();
+        let name = octets_of(alloc, line.word().as_bytes(), line);
+        let bytes = Octets::from_vec(line.said(alloc));
+        if let Some(noted) = self.seat.close() {
+            reported.begin();
+            print_device(reported, noted.folder.arrive(name, bytes));
+            reported.end();
         }
-        Ok(())
     }
 
     /// Makes the folder, if it is not there yet.
-    fn make(&mut self, alloc: Global) -> Result<(), Failure> {
+    fn make(&mut self, line: &mut Words<'_>) {
         if self.seat.is_empty() {
-            self.seat = self.new_seat(alloc, self.stop)?;
+            let seat = self.new_seat(self.stop, line);
+            drop(mem::replace(&mut self.seat, seat));
         }
-        Ok(())
     }
 
     /// A new folder, with this stop.
     pub fn new_seat(
         &self,
-        alloc: Global,
         stop: Option<CallStop<FolderCall>>,
-    ) -> Result<Seat<MemFolder>, Failure> {
+        line: &mut Words<'_>,
+    ) -> Seat<NotedFolder<MemFolder>> {
+        let alloc = self.rt.alloc();
         let mut schedule = Vec::new(alloc);
         if let Some(stop) = stop {
-            schedule.push(stop)?;
+            if schedule.push(stop).is_err() {
+                line.fail(Failure::NoMemory);
+            }
         }
         let mut folder = MemFolder::new(alloc, schedule);
-        fill(alloc, &mut folder, &self.lines)?;
-        Ok(Seat::new(alloc, folder))
+        self.fill(&mut folder, line);
+        Seat::Folder(NotedFolder::new(alloc, folder))
     }
-}
 
-/// Puts into a folder what these lines say.
-fn fill(alloc: Global, folder: &mut MemFolder, lines: &[u8]) -> Result<(), Failure> {
-    for line in lines.split(|byte| *byte == b'\n') {
-        let mut line = Words::new(line);
-        match line.word() {
-            "put" => put(alloc, folder, &mut line)?,
-            "hide" => folder.hide(),
-            _ => {}
+    /// Puts into a folder what the lines say.
+    fn fill(&self, folder: &mut MemFolder, line: &mut Words<'_>) {
+        if self.lines.is_lost() {
+            line.fail(Failure::NoMemory);
+        }
+        for text in self.lines.as_str().lines() {
+            let mut words = Words::new(text.as_bytes());
+            match words.word() {
+                "put" => put(self.rt.alloc(), folder, &mut words),
+                _ => folder.hide(),
+            }
+            line.note(words.end());
         }
     }
-    Ok(())
 }
 
 /// `PATH "BYTES"`: puts a file there.
-fn put(alloc: Global, folder: &mut MemFolder, line: &mut Words<'_>) -> Result<(), Failure> {
+fn put(alloc: Global, folder: &mut MemFolder, line: &mut Words<'_>) {
     let path = line.word();
-    let bytes = Octets::from_vec(line.bytes(alloc)?);
     if path == ".uidvalidity" {
-        folder.put_meta(bytes);
-        return Ok(());
+        folder.put_meta(Octets::from_vec(line.said(alloc)));
+        return;
     }
     let (place, name) = match path.split_once('/') {
         Some(("cur", name)) => (Place::Cur, name),
         Some(("new", name)) => (Place::New, name),
-        _ => return Err(Failure::Script),
+        _ => {
+            line.refuse();
+            (Place::Cur, path)
+        }
     };
-    let name = Octets::from_vec(Vec::from_slice(alloc, name.as_bytes())?);
-    Ok(folder.put(File { place, name, bytes })?)
+    let name = octets_of(alloc, name.as_bytes(), line);
+    let bytes = Octets::from_vec(line.said(alloc));
+    if folder.put(File { place, name, bytes }).is_err() {
+        line.fail(Failure::NoMemory);
+    }
 }

@@ -2,16 +2,15 @@
 
 use maildir::letters::flags_in;
 use maildir::name::{Name, read_name, write_name};
-use std::alloc::{AllocError, Global};
+use std::alloc::Global;
 use test_scripts::reported::Reported;
 
 /// Prints what the name of a file says, and how it is written.
-pub fn print_name(alloc: Global, text: &[u8], reported: &mut Reported) -> Result<(), AllocError> {
+pub fn print_name(alloc: Global, text: &[u8], reported: &mut Reported) {
     let Some(name) = read_name(text) else {
         reported.answer("no name");
-        return Ok(());
+        return;
     };
-    let written = write_name(alloc, &name)?;
     reported.text("  base ");
     reported.quoted(name.base);
     print_parts(reported, &name);
@@ -20,9 +19,20 @@ pub fn print_name(alloc: Global, text: &[u8], reported: &mut Reported) -> Result
         reported.flags(flags_in(letters));
     }
     reported.text(", written ");
-    reported.quoted(&written);
+    let text = written(alloc, &name, reported);
+    reported.quoted(&text);
     reported.end();
-    Ok(())
+}
+
+/// How a name is written.
+pub fn written(alloc: Global, name: &Name<'_>, reported: &mut Reported) -> Vec<u8> {
+    match write_name(alloc, name) {
+        Ok(text) => text,
+        Err(_) => {
+            reported.lose();
+            Vec::new(alloc)
+        }
+    }
 }
 
 /// Prints the UID and the letters of a name.

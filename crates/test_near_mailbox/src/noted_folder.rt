@@ -2,20 +2,26 @@
 
 ghost use Rattle.std.specs.Prelude.{◌≡◌};
 
+use crate::files::{OpenFolder, print_files_in};
+use crate::stop::word_of;
 use device::DeviceFault;
 use device::whose::Whose;
 use mailcore::copy_pieces::CopyPieces;
 use maildir::folder::{FileName, Folder, Location, Origin, Source};
 use maildir::mem_folder::FolderCall;
 use std::alloc::Global;
+use test_scripts::reported::Reported;
+use test_scripts::words::Words;
 
 /// A folder that notes which calls are made of it.
 #[derive(Drop)]
 pub struct NotedFolder<F: Folder> {
-    folder: F,
-    calls: Vec<FolderCall>,
-    // Whether memory ran out for a note.
-    is_short: bool,
+    /// The folder itself, to look at it or to change it as others do: no call of it is noted.
+    pub folder: F,
+    /// The calls so far.
+    pub calls: Vec<FolderCall>,
+    /// Whether memory ran out for the note of a call.
+    pub is_short: bool,
 }
 
 impl<F: Folder> NotedFolder<F> {
@@ -28,36 +34,42 @@ impl<F: Folder> NotedFolder<F> {
         }
     }
 
-    /// The folder itself.
-    pub fn inner(&self) -> &F {
-        &self.folder
-    }
-
-    /// The same, to change it as others do: no call of it is noted.
-    pub fn inner_mut(&mut self) -> &mut F {
-        &mut self.folder
-    }
-
-    /// The calls so far.
-    pub fn calls(&self) -> &[FolderCall] {
-        &self.calls
-    }
-
-    /// Whether memory ran out for the note of a call.
-    pub fn is_short(&self) -> bool {
-        self.is_short
-    }
-
-    /// Forgets the calls so far.
-    pub fn forget(&mut self) {
-        self.calls.clear();
-    }
-
     fn note(&mut self, call: FolderCall)
         ensures { self.new.folder ≡ self.old.folder }
     {
         if self.calls.push(call).is_err() {
             self.is_short = true;
+        }
+    }
+}
+
+/// A folder whose calls are noted, and that a script can look into.
+pub trait Noted: Folder + Drop {
+    /// Forgets the calls so far.
+    fn forget(&mut self);
+
+    /// Prints the files that stand there, the calls so far, and how many have stopped.
+    fn print(&self, rt: &HostRuntime, line: &mut Words<'_>, reported: &mut Reported);
+}
+
+impl<F: OpenFolder> Noted for NotedFolder<F> {
+    fn forget(&mut self) {
+        self.calls.clear();
+    }
+
+    fn print(&self, rt: &HostRuntime, line: &mut Words<'_>, reported: &mut Reported) {
+        print_files_in(rt, &self.folder, line, reported);
+        reported.text("  calls:");
+        for call in self.calls.iter() {
+            reported.text(" ");
+            reported.text(word_of(*call));
+        }
+        reported.text("; stops: ");
+        reported.number(self.folder.stop_count() as u64);
+        self.folder.print_notes(reported);
+        reported.end();
+        if self.is_short {
+            reported.lose();
         }
     }
 }

@@ -1,14 +1,17 @@
 //! The operations of a mailbox, and their answers.
 
 use crate::many::{append_copies, count, find_marks, many};
+use device::DeviceFault;
 use mailcore::copy_pieces::CopyPieces;
-use mailcore::listing::{Item, Listing};
+use mailcore::listing::Listing;
+use mailcore::octets::Octets;
 use mailcore::tuid::Tuid;
 use mailcore::uid::Uid;
 use maildir::folder::Folder;
 use near_box::{NearBox, NearFault};
-use std::alloc::{AllocError, Global};
+use std::alloc::Global;
 use test_scripts::failure::Failure;
+use test_scripts::mail::{print_item, print_numbers};
 use test_scripts::reported::Reported;
 use test_scripts::words::Words;
 use texts::number::read_u32;
@@ -36,7 +39,10 @@ pub fn perform<F: Folder>(
             let uid = line.uid();
             print_done(reported, near.remove_flags(uid, line.flags()))
         }
-        "expunge" => expunge(alloc, near, line, reported),
+        "expunge" => {
+            let uids = read_uids(alloc, line);
+            print_done(reported, near.expunge(&uids))
+        }
         _ => refuse(line),
     }
 }
@@ -71,47 +77,53 @@ fn append<F: Folder>(
         return append_copies(near, copies, reported);
     }
     let flags = line.flags();
-    match line.bytes(alloc) {
-        Ok(bytes) => print_uid(
-            reported,
-            near.append_copy(CopyPieces::whole(&bytes), flags).map(Some),
-        ),
-        Err(Failure::NoMemory) => Some(NearFault::NoMemory),
-        Err(_) => refuse(line),
+    let bytes = line.said(alloc);
+    match near.append_copy(CopyPieces::whole(&bytes), flags) {
+        Ok(uid) => print_uid(reported, Ok(Some(uid))),
+        Err(fault) => report_fault(reported, fault),
     }
 }
 
-fn expunge<F: Folder>(
-    alloc: Global,
-    near: &mut NearBox<F>,
-    line: &mut Words<'_>,
-    reported: &mut Reported,
-) -> Option<NearFault> {
+/// UIDs with commas between, or none for `-`.
+pub fn read_uids(alloc: Global, line: &mut Words<'_>) -> Vec<Uid> {
     let mut uids = Vec::new(alloc);
-    match read_uids(line, &mut uids) {
-        Ok(()) => print_done(reported, near.expunge(&uids)),
-        Err(AllocError) => Some(NearFault::NoMemory),
-    }
-}
-
-/// Adds UIDs with commas between, or none for `-`.
-pub fn read_uids(line: &mut Words<'_>, uids: &mut Vec<Uid>) -> Result<(), AllocError> {
     let word = line.word();
-    if word == "-" {
-        return Ok(());
-    }
-    for part in word.as_bytes().split(|byte| *byte == b',') {
-        match read_u32(part, u32::MAX).and_then(Uid::new) {
-            Some(uid) => uids.push(uid)?,
-            None => line.refuse(),
+    if word != "-" {
+        for part in word.split(',') {
+            push_uid(&mut uids, part, line);
         }
     }
-    Ok(())
+    uids
 }
 
-/// Prints a fault, and gives it.
+fn push_uid(uids: &mut Vec<Uid>, text: &str, line: &mut Words<'_>) {
+    match Uid::new(read_u32(text.as_bytes(), u32::MAX).unwrap_or_default()) {
+        Some(uid) => {
+            if uids.push(uid).is_err() {
+                line.fail(Failure::NoMemory);
+            }
+        }
+        None => line.refuse(),
+    }
+}
+
+/// These bytes, which are kept.
+pub fn octets_of(alloc: Global, bytes: &[u8], line: &mut Words<'_>) -> Octets {
+    match Vec::from_slice(alloc, bytes) {
+        Ok(bytes) => Octets::from_vec(bytes),
+        Err(_) => {
+            line.fail(Failure::NoMemory);
+            Octets::from_vec(Vec::new(alloc))
+        }
+    }
+}
+
+/// Prints a fault, and gives it. Want of memory counts as a loss.
 pub fn report_fault(reported: &mut Reported, fault: NearFault) -> Option<NearFault> {
     reported.shown(&fault);
+    if matches!(fault, NearFault::NoMemory) {
+        reported.lose();
+    }
     Some(fault)
 }
 
@@ -123,6 +135,16 @@ pub fn print_done(reported: &mut Reported, answer: Result<(), NearFault>) -> Opt
             None
         }
         Err(fault) => report_fault(reported, fault),
+    }
+}
+
+/// The same of a call of a folder.
+pub fn print_device(reported: &mut Reported, answer: Result<(), DeviceFault>) {
+    match answer {
+        Ok(()) => reported.text("ok"),
+        Err(fault) => {
+            report_fault(reported, NearFault::from(fault));
+        }
     }
 }
 
@@ -152,29 +174,12 @@ fn print_listing(reported: &mut Reported, answer: Result<Listing, NearFault>) ->
         Ok(listing) => {
             print_numbers(reported, listing.validity, listing.next);
             for item in listing.items.as_slice() {
+                reported.text(", ");
                 print_item(reported, item);
             }
+            drop(listing);
             None
         }
         Err(fault) => report_fault(reported, fault),
-    }
-}
-
-/// Prints the validity and the next UID of a mailbox.
-pub fn print_numbers(reported: &mut Reported, validity: u32, next: u32) {
-    reported.text("validity ");
-    reported.number(u64::from(validity));
-    reported.text(", next ");
-    reported.number(u64::from(next));
-}
-
-/// Prints a message as `, UID FLAGS`, and `unfit` where it is not fit to be copied.
-fn print_item(reported: &mut Reported, item: &Item) {
-    reported.text(", ");
-    reported.number(u64::from(item.uid.get()));
-    reported.text(" ");
-    reported.flags(item.flags);
-    if !item.fit {
-        reported.text(" unfit");
     }
 }

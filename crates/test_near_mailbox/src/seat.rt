@@ -1,49 +1,36 @@
 //! A folder or the mailbox on it, and what is asked of both.
 
-use crate::files::{OpenFolder, gather, print_files};
-use crate::noted_folder::NotedFolder;
-use crate::operation::{perform, print_done, print_numbers};
-use crate::stop::word_of;
+use crate::noted_folder::Noted;
+use crate::operation::{perform, print_device, report_fault};
 use device::whose::Whose;
 use mailcore::keywords::Keywords;
-use maildir::folder::Folder;
 use near_box::{NearBox, NearFault};
 use std::alloc::Global;
 use std::mem;
 use std::num::NonZeroU32;
-use test_scripts::failure::Failure;
+use test_scripts::mail::print_numbers;
 use test_scripts::reported::Reported;
-use test_scripts::script::Script;
 use test_scripts::words::Words;
 
 /// A folder, or the mailbox that was opened on it.
 #[derive(Drop)]
-pub enum Seat<F: OpenFolder>
-where
-    // The checker wants it said, for the mailbox.
-    NotedFolder<F>: Folder,
-{
+pub enum Seat<N: Noted> {
     /// Neither.
     Empty,
     /// The folder, whose mailbox is closed.
-    Folder(NotedFolder<F>),
+    Folder(N),
     /// The mailbox.
-    Mailbox(NearBox<NotedFolder<F>>),
+    Mailbox(NearBox<N>),
 }
 
-impl<F: OpenFolder> Seat<F> {
-    /// This folder.
-    pub fn new(alloc: Global, folder: F) -> Self {
-        Seat::Folder(NotedFolder::new(alloc, folder))
-    }
-
+impl<N: Noted> Seat<N> {
     /// Whether nothing is there.
     pub fn is_empty(&self) -> bool {
         matches!(self, Seat::Empty)
     }
 
     /// Takes the folder, without the mailbox on it.
-    fn take(&mut self) -> Option<NotedFolder<F>> {
+    fn take(&mut self) -> Option<N> {
         match mem::replace(self, Seat::Empty) {
             Seat::Empty => None,
             Seat::Folder(folder) => Some(folder),
@@ -52,9 +39,9 @@ impl<F: OpenFolder> Seat<F> {
     }
 
     /// The folder, whose mailbox is closed.
-    pub fn close(&mut self) -> Option<&mut NotedFolder<F>> {
+    pub fn close(&mut self) -> Option<&mut N> {
         if let Some(folder) = self.take() {
-            *self = Seat::Folder(folder);
+            drop(mem::replace(self, Seat::Folder(folder)));
         }
         match self {
             Seat::Folder(folder) => Some(folder),
@@ -62,28 +49,44 @@ impl<F: OpenFolder> Seat<F> {
         }
     }
 
-    /// Opens the mailbox, with this validity where it has no meta file, and gives its validity and next UID. `Absent` where no folder
-    /// is.
+    /// Opens the mailbox, with this validity where it has no meta file. `Absent` where no folder is.
     pub fn open(
         &mut self,
         alloc: Global,
         fresh: NonZeroU32,
         keywords: Keywords,
-    ) -> Result<(u32, u32), NearFault> {
-        let Some(mut folder) = self.take() else {
-            return Err(NearFault::Absent);
-        };
-        folder.forget();
-        match NearBox::open(alloc, folder, fresh, keywords) {
-            Ok(near) => {
-                let meta = near.meta();
-                *self = Seat::Mailbox(near);
-                Ok((meta.validity, meta.next))
+    ) -> Result<(), NearFault> {
+        match self.take() {
+            Some(mut folder) => {
+                folder.forget();
+                let (seat, opened) = match NearBox::open(alloc, folder, fresh, keywords) {
+                    Ok(near) => (Seat::Mailbox(near), Ok(())),
+                    Err((fault, folder)) => (Seat::Folder(folder), Err(fault)),
+                };
+                drop(mem::replace(self, seat));
+                opened
             }
-            Err((fault, folder)) => {
-                *self = Seat::Folder(folder);
-                Err(fault)
+            None => {
+                drop(keywords);
+                Err(NearFault::Absent)
             }
+        }
+    }
+
+    /// The same, and prints its validity and next UID, or the fault.
+    pub fn print_opened(
+        &mut self,
+        alloc: Global,
+        fresh: NonZeroU32,
+        keywords: Keywords,
+        reported: &mut Reported,
+    ) {
+        if let Err(fault) = self.open(alloc, fresh, keywords) {
+            report_fault(reported, fault);
+        }
+        if let Seat::Mailbox(near) = self {
+            let meta = near.meta();
+            print_numbers(reported, meta.validity, meta.next);
         }
     }
 
@@ -108,59 +111,47 @@ impl<F: OpenFolder> Seat<F> {
         rt: &HostRuntime,
         word: &str,
         line: &mut Words<'_>,
-        script: &mut Script<'_>,
-    ) -> Result<(), Failure> {
-        match word {
-            "reopen" => self.reopen(),
-            "show" => return self.show(rt, &mut script.reported),
-            _ => {
-                script.reported.begin();
-                let fault = self.ask(rt.alloc(), word, line, &mut script.reported);
-                script.reported.end();
-                if fault == Some(NearFault::NoMemory) {
-                    return Err(Failure::NoMemory);
-                }
-            }
-        }
-        Ok(())
-    }
-
-    fn ask(
-        &mut self,
-        alloc: Global,
-        word: &str,
-        line: &mut Words<'_>,
         reported: &mut Reported,
-    ) -> Option<NearFault> {
+    ) {
         match word {
-            "open" => {
-                let fresh = read_validity(line);
-                match self.open(alloc, fresh, read_keywords(alloc, line)) {
-                    Ok((validity, next)) => {
-                        print_numbers(reported, validity, next);
-                        None
-                    }
-                    Err(fault) => print_done(reported, Err(fault)),
-                }
+            "reopen" | "show" | "sync" => match self.close() {
+                Some(folder) => ask_folder(rt, folder, word, line, reported),
+                None => line.refuse(),
+            },
+            _ => {
+                reported.begin();
+                self.ask(rt.alloc(), word, line, reported);
+                reported.end();
             }
-            "sync" => {
-                let folder = self.close()?;
-                print_done(reported, folder.sync(Whose::All).map_err(NearFault::from))
-            }
-            _ => self.perform(alloc, word, line, reported),
         }
     }
 
-    fn reopen(&mut self) {
-        if let Some(folder) = self.close() {
-            folder.reopen();
+    fn ask(&mut self, alloc: Global, word: &str, line: &mut Words<'_>, reported: &mut Reported) {
+        if word == "open" {
+            let fresh = read_validity(line);
+            let keywords = read_keywords(alloc, line);
+            self.print_opened(alloc, fresh, keywords, reported);
+        } else {
+            self.perform(alloc, word, line, reported);
         }
     }
+}
 
-    fn show(&mut self, rt: &HostRuntime, reported: &mut Reported) -> Result<(), Failure> {
-        match self.close() {
-            Some(folder) => print_folder(rt, folder, reported),
-            None => Err(Failure::Script),
+/// Does what a line with this first word asks of a folder whose mailbox is closed.
+fn ask_folder<N: Noted>(
+    rt: &HostRuntime,
+    folder: &mut N,
+    word: &str,
+    line: &mut Words<'_>,
+    reported: &mut Reported,
+) {
+    match word {
+        "reopen" => folder.reopen(),
+        "show" => folder.print(rt, line, reported),
+        _ => {
+            reported.begin();
+            print_device(reported, folder.sync(Whose::All));
+            reported.end();
         }
     }
 }
@@ -186,29 +177,4 @@ fn read_keywords(alloc: Global, line: &mut Words<'_>) -> Keywords {
         line.keyword(&mut keywords);
     }
     keywords
-}
-
-/// Prints the files in a folder, its calls, and how many have stopped.
-fn print_folder<F: OpenFolder>(
-    rt: &HostRuntime,
-    folder: &NotedFolder<F>,
-    reported: &mut Reported,
-) -> Result<(), Failure> {
-    let mut files = Vec::new(rt.alloc());
-    gather(rt, folder.inner(), &mut files)?;
-    reported.text("  files:");
-    print_files(reported, &files);
-    reported.text("\n  calls:");
-    for call in folder.calls() {
-        reported.text(" ");
-        reported.text(word_of(*call));
-    }
-    reported.text("; stops: ");
-    reported.number(folder.inner().stop_count() as u64);
-    folder.inner().print_notes(reported);
-    reported.end();
-    if folder.is_short() {
-        return Err(Failure::NoMemory);
-    }
-    Ok(())
 }

@@ -2,6 +2,8 @@
 
 use crate::files::{Standing, gather, print_changes};
 use crate::memory::Memory;
+use crate::noted_folder::NotedFolder;
+use crate::operation::report_fault;
 use crate::seat::{Seat, read_validity};
 use crate::stop::print_stop;
 use device::schedule::{CallStop, Moment};
@@ -10,7 +12,6 @@ use maildir::folder::Folder;
 use maildir::mem_folder::{FolderCall, MemFolder};
 use near_box::NearFault;
 use std::num::NonZeroU32;
-use test_scripts::failure::Failure;
 use test_scripts::reported::Reported;
 use test_scripts::words::Words;
 
@@ -27,241 +28,215 @@ const EACH: [&[u8]; 8] = [
 ];
 
 /// An operation on a new mailbox, or `open` for the opening alone.
-#[derive(Drop)]
+#[derive(Clone, Copy)]
 struct Trial<'a> {
-    rt: HostRuntime,
+    rt: &'a HostRuntime,
     memory: &'a Memory,
     /// The validity of a mailbox without a meta file.
     fresh: NonZeroU32,
     operation: Words<'a>,
     /// The files in a new folder.
-    before: Vec<Standing>,
-    /// Whether memory ran out.
-    is_short: bool,
+    before: &'a [Standing],
 }
 
 /// `V OPERATION`: prints what each stop leaves, what a new mailbox lists then, and what the operation answers when it is called
 /// again.
-pub fn try_stops(
-    rt: &HostRuntime,
-    memory: &Memory,
-    line: &mut Words<'_>,
-    reported: &mut Reported,
-) -> Result<(), Failure> {
+pub fn try_stops(rt: &HostRuntime, memory: &Memory, line: &mut Words<'_>, reported: &mut Reported) {
     let fresh = read_validity(line);
-    let mut trial = Trial {
-        rt: *rt,
+    let mut seat = memory.new_seat(None, line);
+    let mut before = Vec::new(rt.alloc());
+    if let Some(noted) = seat.close() {
+        gather(rt, &noted.folder, &mut before, line);
+    }
+    let trial = Trial {
+        rt,
         memory,
         fresh,
         operation: *line,
-        before: Vec::new(rt.alloc()),
-        is_short: false,
+        before: &before,
     };
-    trial.print_stops(line, reported)?;
-    if trial.is_short {
-        return Err(Failure::NoMemory);
-    }
-    Ok(())
+    trial.print_stops(&mut seat, line, reported);
+    drop(before);
+    drop(seat);
 }
 
 impl Trial<'_> {
-    /// Does it in a folder without a stop, which shows its calls, and then with a stop in each of them.
+    /// Does it in this folder without a stop, which shows its calls, and then with a stop in each of them.
     fn print_stops(
-        &mut self,
+        self,
+        seat: &mut Seat<NotedFolder<MemFolder>>,
         line: &mut Words<'_>,
         reported: &mut Reported,
-    ) -> Result<(), Failure> {
-        let mut seat = self.memory.new_seat(self.rt.alloc(), None)?;
-        self.print_stops_in(&mut seat, line, reported)
-    }
-
-    /// The same in this folder.
-    fn print_stops_in(
-        &mut self,
-        seat: &mut Seat<MemFolder>,
-        line: &mut Words<'_>,
-        reported: &mut Reported,
-    ) -> Result<(), Failure> {
-        let first = self.prepare(seat)?;
+    ) {
+        let first = self.first_call(seat);
         let mut aside = Reported::new(self.rt.alloc());
         self.act(seat, line, &mut aside);
-        match seat.close() {
-            Some(folder) => self.print_calls(folder.calls(), first, reported),
-            None => Ok(()),
+        if aside.is_lost() {
+            reported.lose();
+        }
+        if let Some(noted) = seat.close() {
+            self.print_calls(noted.calls.as_slice(), first, line, reported);
         }
     }
 
-    /// Looks at the files of a new folder, and opens its mailbox. Gives the first call that is stopped: the first of all, or the first
-    /// after the opening.
-    fn prepare(&mut self, seat: &mut Seat<MemFolder>) -> Result<usize, Failure> {
+    /// Opens the mailbox. Gives the first call that is stopped: the first of all, or the first after the opening.
+    fn first_call(self, seat: &mut Seat<NotedFolder<MemFolder>>) -> usize {
         let mut operation = self.operation;
-        if let Some(folder) = seat.close() {
-            gather(&self.rt, folder.inner(), &mut self.before)?;
-        }
         if operation.word() == "open" {
-            return Ok(0);
+            return 0;
         }
         let alloc = self.rt.alloc();
         let _ = seat.open(alloc, self.fresh, Keywords::new(alloc));
         match seat.close() {
-            Some(folder) => Ok(folder.calls().len()),
-            None => Ok(0),
+            Some(noted) => noted.calls.len(),
+            None => 0,
         }
     }
 
     /// Stops each of these calls after the first ones.
     fn print_calls(
-        &mut self,
+        self,
         calls: &[FolderCall],
         first: usize,
+        line: &mut Words<'_>,
         reported: &mut Reported,
-    ) -> Result<(), Failure> {
+    ) {
         for (place, call) in calls.iter().enumerate().skip(first) {
             let number = number_of(*call, calls, place);
-            self.print_moments(*call, number, reported)?;
+            self.print_moments(*call, number, line, reported);
         }
-        Ok(())
     }
 
     /// Stops the call of this name and number before, after each byte of a copy, and after the call.
     fn print_moments(
-        &mut self,
+        self,
         call: FolderCall,
         number: u64,
+        line: &mut Words<'_>,
         reported: &mut Reported,
-    ) -> Result<(), Failure> {
+    ) {
         let mut stop = CallStop {
             call,
             number,
             moment: Moment::Before,
         };
-        self.print_stop(stop, reported)?;
+        self.print_stop(stop, line, reported);
         if call == FolderCall::WriteTmp {
-            for count in 0..=self.copy_length()? {
+            for count in 0..=self.copy_length(line) {
                 stop.moment = Moment::Part(count);
-                self.print_stop(stop, reported)?;
+                self.print_stop(stop, line, reported);
             }
         }
         stop.moment = Moment::After;
-        self.print_stop(stop, reported)
+        self.print_stop(stop, line, reported);
     }
 
     /// How many bytes the operation writes as a copy, which is an `append` then.
-    fn copy_length(&self) -> Result<usize, Failure> {
-        let mut line = self.operation;
-        line.word();
-        line.flags();
-        Ok(line.bytes(self.rt.alloc())?.len())
+    fn copy_length(self, line: &mut Words<'_>) -> usize {
+        let mut words = self.operation;
+        words.word();
+        words.flags();
+        let length = words.said(self.rt.alloc()).len();
+        line.note(words.end());
+        length
     }
 
-    /// Tries one stop.
-    fn print_stop(
-        &mut self,
-        stop: CallStop<FolderCall>,
-        reported: &mut Reported,
-    ) -> Result<(), Failure> {
-        let mut seat = self.memory.new_seat(self.rt.alloc(), Some(stop))?;
-        self.print_stop_in(&mut seat, stop, reported)
-    }
-
-    /// The same in this folder.
-    fn print_stop_in(
-        &mut self,
-        seat: &mut Seat<MemFolder>,
-        stop: CallStop<FolderCall>,
-        reported: &mut Reported,
-    ) -> Result<(), Failure> {
-        self.print_first(seat, stop, reported)?;
-        self.print_again(seat, reported)
+    /// Tries one stop in a folder of its own.
+    fn print_stop(self, stop: CallStop<FolderCall>, line: &mut Words<'_>, reported: &mut Reported) {
+        let mut seat = self.memory.new_seat(Some(stop), line);
+        reported.begin();
+        print_stop(reported, stop);
+        reported.text(": ");
+        self.print_first(&mut seat, line, reported);
+        self.print_again(&mut seat, line, reported);
+        drop(seat);
     }
 
     /// What is answered where the call stops, and what that leaves.
     fn print_first(
-        &mut self,
-        seat: &mut Seat<MemFolder>,
-        stop: CallStop<FolderCall>,
+        self,
+        seat: &mut Seat<NotedFolder<MemFolder>>,
+        line: &mut Words<'_>,
         reported: &mut Reported,
-    ) -> Result<(), Failure> {
+    ) {
         let mut operation = self.operation;
-        reported.begin();
-        print_stop(reported, stop);
-        reported.text(": ");
         self.act(seat, &mut operation, reported);
         reported.text("; stops: ");
-        if let Some(folder) = seat.close() {
-            reported.number(folder.inner().stops() as u64);
-            folder.reopen();
+        if let Some(noted) = seat.close() {
+            reported.number(noted.folder.stops() as u64);
+            noted.reopen();
         }
         reported.text("\n ");
-        self.print_state(seat, reported)
+        self.print_state(seat, line, reported);
     }
 
     /// What is answered when it is done again, and what that leaves.
     fn print_again(
-        &mut self,
-        seat: &mut Seat<MemFolder>,
+        self,
+        seat: &mut Seat<NotedFolder<MemFolder>>,
+        line: &mut Words<'_>,
         reported: &mut Reported,
-    ) -> Result<(), Failure> {
+    ) {
         let mut operation = self.operation;
         reported.text("  again: ");
         self.act(seat, &mut operation, reported);
         reported.text(";");
-        self.print_state(seat, reported)
+        self.print_state(seat, line, reported);
     }
 
     /// Prints what stands in the folder otherwise than at first, and what a new mailbox on it lists.
     fn print_state(
-        &mut self,
-        seat: &mut Seat<MemFolder>,
+        self,
+        seat: &mut Seat<NotedFolder<MemFolder>>,
+        line: &mut Words<'_>,
         reported: &mut Reported,
-    ) -> Result<(), Failure> {
+    ) {
         let mut now = Vec::new(self.rt.alloc());
-        if let Some(folder) = seat.close() {
-            gather(&self.rt, folder.inner(), &mut now)?;
+        if let Some(noted) = seat.close() {
+            gather(self.rt, &noted.folder, &mut now, line);
         }
-        print_changes(reported, &self.before, &now);
+        print_changes(reported, self.before, &now);
+        drop(now);
         reported.text("; lists ");
         self.act(seat, &mut Words::new(b"list"), reported);
         reported.end();
-        Ok(())
     }
 
     /// Opens a mailbox, does what a line asks of it, and prints the answer. After a fault each operation is required to stop.
-    fn act(&mut self, seat: &mut Seat<MemFolder>, line: &mut Words<'_>, reported: &mut Reported) {
+    fn act(
+        self,
+        seat: &mut Seat<NotedFolder<MemFolder>>,
+        line: &mut Words<'_>,
+        reported: &mut Reported,
+    ) {
         let alloc = self.rt.alloc();
         let word = line.word();
-        let fault = match seat.open(alloc, self.fresh, Keywords::new(alloc)) {
+        match seat.open(alloc, self.fresh, Keywords::new(alloc)) {
             Err(fault) => {
-                reported.shown(&fault);
-                Some(fault)
+                report_fault(reported, fault);
             }
-            Ok(_) if word == "open" => {
-                reported.text("ok");
-                None
-            }
-            Ok(_) => {
-                let fault = seat.perform(alloc, word, line, reported);
-                if fault.is_some() {
+            Ok(()) if word == "open" => reported.text("ok"),
+            Ok(()) => {
+                if seat.perform(alloc, word, line, reported).is_some() {
                     self.report_after(seat, reported);
                 }
-                fault
             }
-        };
-        if fault == Some(NearFault::NoMemory) {
-            self.is_short = true;
         }
     }
 
     /// Prints whether each operation is answered by `Stopped`.
-    fn report_after(&mut self, seat: &mut Seat<MemFolder>, reported: &mut Reported) {
+    fn report_after(self, seat: &mut Seat<NotedFolder<MemFolder>>, reported: &mut Reported) {
         let alloc = self.rt.alloc();
         let mut aside = Reported::new(alloc);
         let mut is_stopped = true;
-        for line in EACH {
+        for line in EACH.iter() {
             let mut line = Words::new(line);
             let word = line.word();
             let fault = seat.perform(alloc, word, &mut line, &mut aside);
-            is_stopped = is_stopped && fault == Some(NearFault::Stopped);
+            is_stopped = is_stopped && matches!(fault, Some(NearFault::Stopped));
+        }
+        if aside.is_lost() {
+            reported.lose();
         }
         reported.text(if is_stopped {
             ", and each call behind it"

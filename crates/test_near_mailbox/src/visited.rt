@@ -1,6 +1,8 @@
 //! Folders in memory to which others add files.
 
-use crate::files::{gather, print_files};
+use crate::files::print_files_in;
+use crate::noted_folder::NotedFolder;
+use crate::operation::octets_of;
 use crate::seat::Seat;
 use crate::stop::read_call;
 use mailcore::octets::Octets;
@@ -10,6 +12,7 @@ use maildir::visited_folder::{ArrivingFile, VisitedFolder};
 use std::alloc::Global;
 use std::mem;
 use test_scripts::failure::Failure;
+use test_scripts::play::Player;
 use test_scripts::reported::Reported;
 use test_scripts::script::Script;
 use test_scripts::words::Words;
@@ -17,70 +20,89 @@ use test_scripts::words::Words;
 /// An empty folder, which is made when it is first called, and the files that come to it.
 #[derive(Drop)]
 pub struct Visited {
+    rt: HostRuntime,
     arrivals: Vec<ArrivingFile>,
-    seat: Seat<VisitedFolder<NoMarks>>,
+    seat: Seat<NotedFolder<VisitedFolder<NoMarks>>>,
+}
+
+impl Player for Visited {
+    fn begin(&mut self) -> Result<(), Failure> {
+        Ok(())
+    }
+
+    fn play(&mut self, line: &mut Words<'_>, script: &mut Script<'_>) -> Result<(), Failure> {
+        let word = line.word();
+        if word == "comes" {
+            self.keep(line);
+        } else {
+            self.make();
+            self.ask(word, line, &mut script.reported);
+        }
+        Ok(())
+    }
 }
 
 impl Visited {
     /// No file comes yet.
-    pub fn new(alloc: Global) -> Self {
+    pub fn new(rt: &HostRuntime) -> Self {
         Visited {
-            arrivals: Vec::new(alloc),
+            rt: *rt,
+            arrivals: Vec::new(rt.alloc()),
             seat: Seat::Empty,
         }
     }
 
-    /// Plays a line with this first word.
-    pub fn play(
-        &mut self,
-        rt: &HostRuntime,
-        word: &str,
-        line: &mut Words<'_>,
-        script: &mut Script<'_>,
-    ) -> Result<(), Failure> {
-        if word == "comes" {
-            return self.keep(rt.alloc(), line);
-        }
-        if self.seat.is_empty() {
-            let arrivals = mem::replace(&mut self.arrivals, Vec::new(rt.alloc()));
-            self.seat = Seat::new(rt.alloc(), folder_with(rt.alloc(), arrivals));
-        }
-        if word == "leave" {
-            return self.leave(rt, &mut script.reported);
-        }
-        self.seat.play(rt, word, line, script)
-    }
-
     /// `CALL K NAME "BYTES"`: a file that comes before the K-th call of this name.
-    fn keep(&mut self, alloc: Global, line: &mut Words<'_>) -> Result<(), Failure> {
+    fn keep(&mut self, line: &mut Words<'_>) {
+        let alloc = self.rt.alloc();
         let call = read_call(line);
         let number = line.long_number();
-        let name = Octets::from_vec(Vec::from_slice(alloc, line.word().as_bytes())?);
-        let bytes = Octets::from_vec(line.bytes(alloc)?);
-        self.arrivals.push(ArrivingFile {
+        let name = octets_of(alloc, line.word().as_bytes(), line);
+        let bytes = Octets::from_vec(line.said(alloc));
+        let file = ArrivingFile {
             call,
             number,
             name,
             bytes,
-        })?;
-        Ok(())
+        };
+        if self.arrivals.push(file).is_err() {
+            line.fail(Failure::NoMemory);
+        }
     }
 
-    /// Prints the files of the folder with all that has come.
-    fn leave(&mut self, rt: &HostRuntime, reported: &mut Reported) -> Result<(), Failure> {
-        let Some(folder) = self.seat.close() else {
-            return Err(Failure::Script);
-        };
-        let empty = folder_with(rt.alloc(), Vec::new(rt.alloc()));
-        let Ok(folder) = mem::replace(folder.inner_mut(), empty).into_folder() else {
-            return Err(Failure::NoMemory);
-        };
-        let mut files = Vec::new(rt.alloc());
-        gather(rt, &folder, &mut files)?;
-        reported.text("  files:");
-        print_files(reported, &files);
-        reported.end();
-        Ok(())
+    /// Makes the folder, if it is not there yet.
+    fn make(&mut self) {
+        if self.seat.is_empty() {
+            let alloc = self.rt.alloc();
+            let arrivals = mem::replace(&mut self.arrivals, Vec::new(alloc));
+            let folder = NotedFolder::new(alloc, folder_with(alloc, arrivals));
+            drop(mem::replace(&mut self.seat, Seat::Folder(folder)));
+        }
+    }
+
+    fn ask(&mut self, word: &str, line: &mut Words<'_>, reported: &mut Reported) {
+        if word != "leave" {
+            self.seat.play(&self.rt, word, line, reported);
+        } else if let Some(noted) = self.seat.close() {
+            print_left(&self.rt, noted, line, reported);
+        }
+    }
+}
+
+/// Prints the files of the folder with all that has come, and leaves an empty one.
+fn print_left(
+    rt: &HostRuntime,
+    noted: &mut NotedFolder<VisitedFolder<NoMarks>>,
+    line: &mut Words<'_>,
+    reported: &mut Reported,
+) {
+    let empty = folder_with(rt.alloc(), Vec::new(rt.alloc()));
+    match mem::replace(&mut noted.folder, empty).into_folder() {
+        Ok(folder) => {
+            print_files_in(rt, &folder, line, reported);
+            drop(folder);
+        }
+        Err(_) => line.fail(Failure::NoMemory),
     }
 }
 

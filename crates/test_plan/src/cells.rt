@@ -4,24 +4,20 @@ use crate::phrases::read_bytes;
 use rules::options::Directions;
 use rules::sync_words::sync_ops;
 use std::alloc::Global;
-use test_scripts::failure::Failure;
 use test_scripts::reported::Reported;
 use test_scripts::words::Words;
 
 /// `"WORDS"` or nothing: prints the cells that these words, with a space between them, or no words choose.
-pub fn print_cells(
-    alloc: Global,
-    reported: &mut Reported,
-    line: &mut Words<'_>,
-) -> Result<(), Failure> {
+pub fn print_cells(alloc: Global, reported: &mut Reported, line: &mut Words<'_>) {
     if line.is_over() {
         print_chosen(reported, &[]);
-        return Ok(());
+        return;
     }
-    let bytes = read_bytes(alloc, line)?;
-    let words = bytes.split(|byte| *byte == b' ').collect::<Vec<_>>(alloc)?;
-    print_chosen(reported, &words);
-    Ok(())
+    let bytes = read_bytes(alloc, line);
+    match bytes.split(|byte| *byte == b' ').collect::<Vec<_>>(alloc) {
+        Ok(words) => print_chosen(reported, &words),
+        Err(_) => reported.lose(),
+    }
 }
 
 /// Prints the cells that words choose, or why they choose none.

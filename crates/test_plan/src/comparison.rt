@@ -2,16 +2,16 @@
 
 use crate::drawn_worlds::{DrawnWorld, Numbers};
 use crate::generator::Generator;
-use crate::plain_plan::Plain;
+use crate::marks::drawn;
+use crate::plain_plan::{Plain, PlainPlan};
 use crate::turns::Bounds;
 use mailcore::fault::CoreFault;
-use mailcore::marks::draw_marks;
 use mailcore::side::Side;
 use mailcore::tuid::Tuid;
 use planner::fault::PlanFault;
 use planner::news::news;
 use planner::plan::plan_in;
-use planner::state::Entry;
+use planner::state::{Entry, Plan};
 use planner::turns::Turns;
 use std::alloc::Global;
 use test_scripts::failure::Failure;
@@ -19,7 +19,7 @@ use test_scripts::reported::Reported;
 use test_scripts::words::Words;
 
 /// What was met in the worlds so far.
-#[derive(Clone, Copy)]
+#[derive(Drop)]
 struct Met {
     half_entries: usize,
     steps: usize,
@@ -31,11 +31,7 @@ struct Met {
 
 /// `COUNT`: prints in how many of so many drawn worlds the planner answers otherwise than the plain one, and in how many it takes
 /// fewer or more turns than it may.
-pub fn print_compared(
-    alloc: Global,
-    reported: &mut Reported,
-    line: &mut Words<'_>,
-) -> Result<(), Failure> {
+pub fn print_compared(alloc: Global, reported: &mut Reported, line: &mut Words<'_>) {
     let count = line.count();
     let mut numbers = Numbers::new(1);
     let mut met = Met {
@@ -47,13 +43,17 @@ pub fn print_compared(
         out_of_bounds: 0,
     };
     for _ in 0..count {
-        met = compare(alloc, &numbers.world(alloc)?, met)?;
+        let world = numbers.world(alloc);
+        compare(alloc, &world, &mut met, line);
+        drop(world);
     }
-    print_met(reported, count, met);
-    Ok(())
+    if numbers.is_lost {
+        reported.lose();
+    }
+    print_met(reported, count, &met);
 }
 
-fn print_met(reported: &mut Reported, count: usize, met: Met) {
+fn print_met(reported: &mut Reported, count: usize, met: &Met) {
     reported.begin();
     for (number, words) in [
         (count, " worlds, "),
@@ -63,48 +63,50 @@ fn print_met(reported: &mut Reported, count: usize, met: Met) {
         (met.refused, " refused, "),
         (met.differ, " differ, "),
         (met.out_of_bounds, " out of bounds"),
-    ] {
-        reported.shown(&number);
+    ]
+    .iter()
+    {
+        reported.number(*number as u64);
         reported.text(words);
     }
     reported.end();
 }
 
 /// Compares both planners on a world.
-fn compare(alloc: Global, world: &DrawnWorld, met: Met) -> Result<Met, Failure> {
+fn compare(alloc: Global, world: &DrawnWorld, met: &mut Met, line: &mut Words<'_>) {
     let (state, options) = (&world.state, &world.options);
     let (far, near) = (&world.far, &world.near);
-    let marks = marks(alloc, news(far, near, state, options))?;
-    if marks.len() != news(far, near, state, options) {
-        return Err(Failure::Script);
-    }
-    let mut turns = Turns::new();
-    let planned = plan_in(alloc, far, near, state, options, &marks, &mut turns);
-    let met = met.with_halves(state.entries.as_slice());
-    match planned {
-        Ok(plan) => {
-            let plain = plain_of(world);
-            let (steps, notes) = (plain.steps(alloc, &marks)?, plain.notes(alloc)?);
-            let is_same = plan.steps.as_slice() == steps.as_slice()
-                && plan.notes.as_slice() == notes.as_slice();
-            let met = met.with_plan(steps.len(), notes.len());
-            Ok(met.judged(is_same, Bounds::of(far, near, state).hold(&turns)))
+    let wanted = news(far, near, state, options);
+    let marks = counted_marks(alloc, wanted, line);
+    if marks.len() == wanted {
+        let mut turns = Turns::new();
+        let planned = plan_in(alloc, far, near, state, options, &marks, &mut turns);
+        met.add_halves(state.entries.as_slice());
+        match planned {
+            Ok(plan) => {
+                let is_within = Bounds::of(far, near, state).hold(&turns);
+                met.add_plan(&plan, &plain_of(world).plan(alloc, &marks), is_within, line);
+                drop(plan);
+            }
+            Err(PlanFault::ValidityChanged(side)) => {
+                met.add_refusal(changed_side(world) == Some(side), turns.count() == 0);
+            }
+            Err(PlanFault::NoMemory) => line.fail(Failure::NoMemory),
         }
-        Err(PlanFault::NoMemory) => Err(Failure::NoMemory),
-        Err(PlanFault::ValidityChanged(side)) => {
-            let is_same = changed_side(world) == Some(side);
-            Ok(met.with_refusal().judged(is_same, turns.count() == 0))
-        }
+    } else {
+        line.refuse();
     }
 }
 
-fn marks(alloc: Global, count: usize) -> Result<Vec<Tuid>, Failure> {
+/// So many marks, made of the words 1, 2, 3 ..
+fn counted_marks(alloc: Global, count: usize, line: &mut Words<'_>) -> Vec<Tuid> {
     let mut generator = Generator { drawn: 0, step: 1 };
-    match draw_marks(alloc, &mut generator, count) {
-        Ok(marks) => Ok(marks),
-        Err(CoreFault::NoMemory) => Err(Failure::NoMemory),
-        Err(_) => Err(Failure::Script),
+    match drawn(alloc, &mut generator, count) {
+        Ok(marks) => return marks,
+        Err(CoreFault::NoMemory) => line.fail(Failure::NoMemory),
+        Err(_) => line.refuse(),
     }
+    Vec::new(alloc)
 }
 
 fn plain_of(world: &DrawnWorld) -> Plain<'_> {
@@ -117,40 +119,39 @@ fn plain_of(world: &DrawnWorld) -> Plain<'_> {
 }
 
 impl Met {
-    fn with_halves(self, entries: &[Entry]) -> Met {
-        let mut halves = self.half_entries;
+    fn add_halves(&mut self, entries: &[Entry]) {
         for entry in entries {
             if !entry.is_full() {
-                halves = halves.saturating_add(1);
+                self.half_entries = self.half_entries.saturating_add(1);
             }
         }
-        let mut met = self;
-        met.half_entries = halves;
-        met
     }
 
-    fn with_plan(self, steps: usize, notes: usize) -> Met {
-        let mut met = self;
-        met.steps = met.steps.saturating_add(steps);
-        met.notes = met.notes.saturating_add(notes);
-        met
+    /// A plan, and the plain one, which should be the same.
+    fn add_plan(&mut self, plan: &Plan, plain: &PlainPlan, is_within: bool, line: &mut Words<'_>) {
+        self.steps = self.steps.saturating_add(plain.steps.len());
+        self.notes = self.notes.saturating_add(plain.notes.len());
+        let is_same = plan.steps.as_slice() == plain.steps.as_slice()
+            && plan.notes.as_slice() == plain.notes.as_slice();
+        self.judge(is_same, is_within);
+        if plain.is_lost {
+            line.fail(Failure::NoMemory);
+        }
     }
 
-    fn with_refusal(self) -> Met {
-        let mut met = self;
-        met.refused = met.refused.saturating_add(1);
-        met
+    /// No plan, as it should be.
+    fn add_refusal(&mut self, is_same: bool, is_within: bool) {
+        self.refused = self.refused.saturating_add(1);
+        self.judge(is_same, is_within);
     }
 
-    fn judged(self, is_same: bool, is_within: bool) -> Met {
-        let mut met = self;
+    fn judge(&mut self, is_same: bool, is_within: bool) {
         if !is_same {
-            met.differ = met.differ.saturating_add(1);
+            self.differ = self.differ.saturating_add(1);
         }
         if !is_within {
-            met.out_of_bounds = met.out_of_bounds.saturating_add(1);
+            self.out_of_bounds = self.out_of_bounds.saturating_add(1);
         }
-        met
     }
 }
 

@@ -1,6 +1,5 @@
 //! What a run of `mbplan` reads and writes, in memory. It may fail where the script says so.
 
-use crate::phrases::pass;
 use run_plan::run::PlanArguments;
 use std::io;
 use std::io::{ErrorKind, Read, Write};
@@ -35,25 +34,25 @@ pub fn read_devices(word: &str, line: &mut Words<'_>) -> Devices {
     let mut devices = SOUND;
     match word {
         "reader" => {
-            pass(line, "fails");
+            line.expect("fails");
             devices.reader_fails = true;
         }
         "error" => {
-            pass(line, "writer takes");
+            line.expect("writer takes");
             devices.err = line.count();
-            pass(line, "bytes");
+            line.expect("bytes");
         }
         "argument" => {
-            pass(line, "given");
+            line.expect("given");
             devices.arguments = PlanArguments::Given;
         }
         _ => match line.word() {
             "takes" => {
                 devices.out = line.count();
-                pass(line, "bytes");
+                line.expect("bytes");
             }
             "cannot" => {
-                pass(line, "be flushed");
+                line.expect("be flushed");
                 devices.is_flushed = false;
             }
             _ => line.refuse(),

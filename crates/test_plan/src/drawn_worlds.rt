@@ -6,12 +6,14 @@ use mailcore::keywords::Keywords;
 use mailcore::listing::{Item, Items, Listing};
 use mailcore::uid::Uid;
 use planner::state::{Cells, Directions, Entries, Entry, Options, Sides, SyncState};
-use std::alloc::{AllocError, Global};
+use std::alloc::Global;
 
 /// A row of numbers: each is made of the one before, times 6364136223846793005 and 1442695040888963407 more.
 #[derive(Drop)]
 pub struct Numbers {
     last: u64,
+    /// Whether memory ran out for a world.
+    pub is_lost: bool,
 }
 
 /// What a plan is made on.
@@ -30,7 +32,10 @@ pub struct DrawnWorld {
 impl Numbers {
     /// The row that begins after this number.
     pub fn new(seed: u64) -> Numbers {
-        Numbers { last: seed }
+        Numbers {
+            last: seed,
+            is_lost: false,
+        }
     }
 
     /// A number below this one, which is 1 or more.
@@ -78,46 +83,46 @@ impl Numbers {
     }
 
     /// A mailbox of up to 12 messages, whose UIDs have gaps.
-    fn mailbox(&mut self, alloc: Global) -> Result<Listing, AllocError> {
+    fn mailbox(&mut self, alloc: Global) -> Listing {
         let mut items = Items::new(alloc);
         let mut number = 0;
         for _ in 0..self.below(13) {
             number = self.below(3).saturating_add(number).saturating_add(1);
             let (flags, fit) = (self.flags(), self.below(5) > 0);
             if let Some(uid) = Uid::new(number) {
-                put_item(&mut items, Item { uid, flags, fit })?;
+                self.note(items.push(Item { uid, flags, fit }));
             }
         }
-        Ok(Listing {
+        Listing {
             validity: 1 + self.below(16) / 15,
             next: 40,
             items,
-        })
+        }
     }
 
     /// Up to 12 entries, of which one or the other side may have vanished.
-    fn entries(&mut self, alloc: Global) -> Result<Entries, AllocError> {
+    fn entries(&mut self, alloc: Global) -> Entries {
         let mut entries = Entries::new(alloc);
         let mut number = 0;
         for _ in 0..self.below(13) {
             number = self.below(3).saturating_add(number);
             let (far, near, flags) = (Uid::new(number), self.uid_or_none(), self.flags());
             let near = if self.below(5) == 0 { None } else { near };
-            put_entry(&mut entries, Entry { far, near, flags })?;
+            self.note(entries.push(Entry { far, near, flags }));
         }
-        Ok(entries)
+        entries
     }
 
     /// The next world.
-    pub fn world(&mut self, alloc: Global) -> Result<DrawnWorld, AllocError> {
-        let (far, near) = (self.mailbox(alloc)?, self.mailbox(alloc)?);
+    pub fn world(&mut self, alloc: Global) -> DrawnWorld {
+        let (far, near) = (self.mailbox(alloc), self.mailbox(alloc));
         let state = SyncState {
             run: u64::from(self.below(4)),
             far_validity: 1,
             near_validity: 1,
             max_pulled: self.below(16),
             max_pushed: self.below(16),
-            entries: self.entries(alloc)?,
+            entries: self.entries(alloc),
         };
         let cells = Cells {
             new: self.directions(),
@@ -134,27 +139,18 @@ impl Numbers {
             expunge,
             keywords,
         };
-        Ok(DrawnWorld {
+        DrawnWorld {
             far,
             near,
             state,
             options,
-        })
+        }
     }
-}
 
-/// Adds a message, if it may follow the others.
-fn put_item(items: &mut Items, item: Item) -> Result<(), AllocError> {
-    match items.push(item) {
-        Err(PushFault::NoMemory) => Err(AllocError),
-        _ => Ok(()),
-    }
-}
-
-/// Adds an entry, if it may follow the others.
-fn put_entry(entries: &mut Entries, entry: Entry) -> Result<(), AllocError> {
-    match entries.push(entry) {
-        Err(PushFault::NoMemory) => Err(AllocError),
-        _ => Ok(()),
+    /// What may not follow the others is left out.
+    fn note(&mut self, pushed: Result<(), PushFault>) {
+        if matches!(pushed, Err(PushFault::NoMemory)) {
+            self.is_lost = true;
+        }
     }
 }

@@ -7,8 +7,7 @@ use mailcore::flags::{Flag, Flags};
 use mailcore::keywords::Keywords;
 use mailcore::side::{LineEnd, Side};
 use mailcore::tuid::Tuid;
-use std::alloc::Global;
-use test_scripts::failure::Failure;
+use std::alloc::{AllocError, Global};
 use test_scripts::reported::Reported;
 use test_scripts::words::Words;
 
@@ -18,57 +17,58 @@ pub fn print_of_message(
     reported: &mut Reported,
     question: &str,
     line: &mut Words<'_>,
-) -> Result<(), Failure> {
-    let bytes = line.bytes(alloc)?;
+) {
+    let bytes = line.said(alloc);
     match question {
         "mark" => print_mark(reported, Tuid::read(&bytes)),
         "mark_of" => print_mark(reported, mark_of(&bytes)),
-        "content" => print_quoted(reported, &content(alloc, &bytes)?),
+        "content" => print_made(reported, content(alloc, &bytes)),
         "flags" => print_flags(reported, Flags::from_letters(&bytes)),
         "imap" => {
             reported.begin();
             reported.flags(Flags::from_imap(&bytes, &Keywords::new(alloc)));
             reported.end();
         }
-        _ => return Err(Failure::Script),
+        _ => line.refuse(),
     }
-    Ok(())
 }
 
 /// `SIDE "BYTES"`, or `SIDE MARK "BYTES"` for `copy`: prints how long what they say is on this side, their copy there and how
 /// long it is, or whether they can be copied from there.
-pub fn print_of_side(
-    alloc: Global,
-    reported: &mut Reported,
-    question: &str,
-    line: &mut Words<'_>,
-) -> Result<(), Failure> {
+pub fn print_of_side(alloc: Global, reported: &mut Reported, question: &str, line: &mut Words<'_>) {
     let side = line.side();
     let end = match side {
         Side::Far => LineEnd::CrLf,
         Side::Near => LineEnd::Lf,
     };
+    let word = if question == "copy" { line.word() } else { "" };
+    let bytes = line.said(alloc);
     match question {
-        "length" => reported.say(&content_len(&line.bytes(alloc)?, end)),
-        "copy_len" => reported.say(&copy_len(&line.bytes(alloc)?, end)),
-        "copy" => {
-            let mark = Tuid::read(line.word().as_bytes()).ok_or(Failure::Script)?;
-            let bytes = line.bytes(alloc)?;
-            print_quoted(reported, &copy_text(alloc, mark, &bytes, end)?);
-        }
-        _ => reported.answer(if fit(side, &line.bytes(alloc)?) {
-            "fit"
-        } else {
-            "unfit"
-        }),
+        "length" => print_length(reported, content_len(&bytes, end) as u64),
+        "copy_len" => print_length(reported, copy_len(&bytes, end)),
+        "copy" => match Tuid::read(word.as_bytes()) {
+            Some(mark) => print_made(reported, copy_text(alloc, mark, &bytes, end)),
+            None => line.refuse(),
+        },
+        _ => reported.answer(if fit(side, &bytes) { "fit" } else { "unfit" }),
     }
-    Ok(())
 }
 
-fn print_quoted(reported: &mut Reported, bytes: &[u8]) {
+fn print_length(reported: &mut Reported, length: u64) {
     reported.begin();
-    reported.quoted(bytes);
+    reported.number(length);
     reported.end();
+}
+
+fn print_made(reported: &mut Reported, made: Result<Vec<u8>, AllocError>) {
+    match made {
+        Ok(bytes) => {
+            reported.begin();
+            reported.quoted(&bytes);
+            reported.end();
+        }
+        Err(_) => reported.lose(),
+    }
 }
 
 /// Prints the letters of flags, and the names in IMAP of those that have one whatever the map of keywords.

@@ -7,7 +7,7 @@ use mailcore::tuid::Tuid;
 use planner::state::{Entry, Note, Options, Step, SyncState};
 use rules::entry::ListedPair;
 use rules::flag_rule::{recorded_after, taken, with_deleted};
-use std::alloc::{AllocError, Global};
+use std::alloc::Global;
 
 /// What a plan is made on.
 #[derive(Clone, Copy)]
@@ -28,98 +28,117 @@ const DIRECTIONS: [Direction; 2] = [Direction::Pull, Direction::Push];
 /// Both sides.
 const SIDES: [Side; 2] = [Side::Far, Side::Near];
 
+/// What the plain planner makes.
+#[derive(Drop)]
+pub struct PlainPlan {
+    /// The steps of the plan.
+    pub steps: Vec<Step>,
+    /// Its notes.
+    pub notes: Vec<Note>,
+    /// Whether memory ran out.
+    pub is_lost: bool,
+}
+
+impl PlainPlan {
+    fn step(&mut self, step: Step) {
+        if self.steps.push(step).is_err() {
+            self.is_lost = true;
+        }
+    }
+}
+
 impl<'a> Plain<'a> {
-    /// The steps of the plan, under these marks.
-    pub fn steps(&self, alloc: Global, marks: &[Tuid]) -> Result<Vec<Step>, AllocError> {
-        let mut steps = Vec::new(alloc);
-        for direction in DIRECTIONS {
-            self.push_new(direction, marks, &mut steps)?;
+    /// The plan, under these marks.
+    pub fn plan(self, alloc: Global, marks: &[Tuid]) -> PlainPlan {
+        let mut plan = PlainPlan {
+            steps: Vec::new(alloc),
+            notes: Vec::new(alloc),
+            is_lost: false,
+        };
+        for direction in DIRECTIONS.iter() {
+            self.push_new(*direction, marks, &mut plan);
         }
-        for direction in DIRECTIONS {
-            self.push_gones(direction, &mut steps)?;
+        for direction in DIRECTIONS.iter() {
+            self.push_gones(*direction, &mut plan);
         }
-        for direction in DIRECTIONS {
-            self.push_flags(direction, &mut steps)?;
+        for direction in DIRECTIONS.iter() {
+            self.push_flags(*direction, &mut plan);
         }
-        for side in SIDES {
-            self.push_expunges(side, &mut steps)?;
+        for side in SIDES.iter() {
+            self.push_expunges(*side, &mut plan);
         }
-        Ok(steps)
+        self.push_notes(&mut plan);
+        plan
     }
 
-    /// Its notes.
-    pub fn notes(&self, alloc: Global) -> Result<Vec<Note>, AllocError> {
-        let mut notes = Vec::new(alloc);
+    fn push_notes(self, plan: &mut PlainPlan) {
         for entry in self.entries() {
             if let Some(note) = self.record(entry) {
-                notes.push(note)?;
+                if plan.notes.push(note).is_err() {
+                    plan.is_lost = true;
+                }
             }
         }
         for entry in self.entries() {
             if self.vanishes(Side::Far, entry) && self.vanishes(Side::Near, entry) {
-                notes.push(Note::Drop {
+                let note = Note::Drop {
                     far: entry.far,
                     near: entry.near,
-                })?;
+                };
+                if plan.notes.push(note).is_err() {
+                    plan.is_lost = true;
+                }
             }
         }
-        Ok(notes)
     }
 
-    fn push_new(
-        &self,
-        direction: Direction,
-        marks: &[Tuid],
-        steps: &mut Vec<Step>,
-    ) -> Result<(), AllocError> {
+    fn push_new(self, direction: Direction, marks: &[Tuid], plan: &mut PlainPlan) {
         for item in self.items(direction.source()) {
-            if let (true, Some(mark)) = (self.is_new(direction, item), marks.get(steps.len())) {
-                steps.push(Step::New {
+            if let (true, Some(mark)) = (
+                self.is_new(direction, item),
+                marks.get(plan.steps.len()),
+            ) {
+                plan.step(Step::New {
                     direction,
                     uid: item.uid,
                     flags: item.flags,
                     mark: *mark,
-                })?;
+                });
             }
         }
-        Ok(())
     }
 
-    fn push_gones(&self, direction: Direction, steps: &mut Vec<Step>) -> Result<(), AllocError> {
+    fn push_gones(self, direction: Direction, plan: &mut PlainPlan) {
         for item in self.items(direction.target()) {
             if let Some(step) = self.gone(direction, item) {
-                steps.push(step)?;
+                plan.step(step);
             }
         }
-        Ok(())
     }
 
-    fn push_flags(&self, direction: Direction, steps: &mut Vec<Step>) -> Result<(), AllocError> {
-        if !self.options.cells.flags.goes(direction) {
-            return Ok(());
-        }
-        for entry in self.entries() {
-            if let Some(step) = self.changed(direction, entry) {
-                steps.push(step)?;
+    fn push_flags(self, direction: Direction, plan: &mut PlainPlan) {
+        if self.options.cells.flags.goes(direction) {
+            for entry in self.entries() {
+                if let Some(step) = self.changed(direction, entry) {
+                    plan.step(step);
+                }
             }
         }
-        Ok(())
     }
 
-    fn push_expunges(&self, side: Side, steps: &mut Vec<Step>) -> Result<(), AllocError> {
+    fn push_expunges(self, side: Side, plan: &mut PlainPlan) {
         for item in self.items(side) {
             if self.is_expunged(side, item.uid.get()) {
-                steps.push(Step::Expunge {
+                plan.step(Step::Expunge {
                     side,
                     uid: item.uid,
-                })?;
+                });
             }
         }
-        Ok(())
     }
 
     /// Whether the message is copied.
-    fn is_new(&self, direction: Direction, item: &Item) -> bool {
+    fn is_new(self, direction: Direction, item: &Item) -> bool {
         let side = direction.source();
         let number = item.uid.get();
         let highest = match direction {
@@ -128,13 +147,23 @@ impl<'a> Plain<'a> {
         };
         self.options.cells.new.goes(direction)
             && highest < number
-            && !self.entries().iter().any(|e| e.number(side) == number)
+            && !self.is_named(side, number)
             && !(item.flags.has(Flag::Deleted) && self.options.expunge.covers(side))
             && item.fit
     }
 
+    /// Whether an entry has this UID on this side.
+    fn is_named(self, side: Side, number: u32) -> bool {
+        for entry in self.entries() {
+            if entry.number(side) == number {
+                return true;
+            }
+        }
+        false
+    }
+
     /// The step of a message of the target whose counterpart has gone.
-    fn gone(&self, direction: Direction, item: &Item) -> Option<Step> {
+    fn gone(self, direction: Direction, item: &Item) -> Option<Step> {
         let entry = self.full(direction.target(), item.uid.get())?;
         let (far, near) = entry.uids()?;
         let source = direction.source();
@@ -150,7 +179,7 @@ impl<'a> Plain<'a> {
     }
 
     /// The step of a pair whose flags have changed on the source.
-    fn changed(&self, direction: Direction, entry: &Entry) -> Option<Step> {
+    fn changed(self, direction: Direction, entry: &Entry) -> Option<Step> {
         let pair = self.pair(entry)?;
         let (before, source) = match direction {
             Direction::Pull => (pair.near_flags, pair.far_flags),
@@ -170,7 +199,7 @@ impl<'a> Plain<'a> {
     }
 
     /// The note of a pair whose recorded flags change.
-    fn record(&self, entry: &Entry) -> Option<Note> {
+    fn record(self, entry: &Entry) -> Option<Note> {
         let pair = self.pair(entry)?;
         let cells = self.options.cells.flags;
         let flags = recorded_after(
@@ -191,13 +220,13 @@ impl<'a> Plain<'a> {
     }
 
     /// Whether nothing is left of an entry on a side.
-    fn vanishes(&self, side: Side, entry: &Entry) -> bool {
+    fn vanishes(self, side: Side, entry: &Entry) -> bool {
         let number = entry.number(side);
         number == 0 || self.flags_at(side, number).is_none() || self.is_expunged(side, number)
     }
 
     /// Whether a message is removed.
-    fn is_expunged(&self, side: Side, number: u32) -> bool {
+    fn is_expunged(self, side: Side, number: u32) -> bool {
         match self.flags_at(side, number) {
             Some(flags) => {
                 self.options.expunge.covers(side)
@@ -208,7 +237,7 @@ impl<'a> Plain<'a> {
     }
 
     /// A message's flags after the other steps.
-    fn flags_then(&self, side: Side, number: u32, flags: Flags) -> Flags {
+    fn flags_then(self, side: Side, number: u32, flags: Flags) -> Flags {
         let Some(entry) = self.full(side, number) else {
             return flags;
         };
@@ -222,7 +251,7 @@ impl<'a> Plain<'a> {
     }
 
     /// The pair of an entry whose messages are both listed.
-    fn pair(&self, entry: &Entry) -> Option<ListedPair> {
+    fn pair(self, entry: &Entry) -> Option<ListedPair> {
         let (far, near) = entry.uids()?;
         Some(ListedPair {
             far,
@@ -234,7 +263,7 @@ impl<'a> Plain<'a> {
     }
 
     /// The full entry with this UID on this side.
-    fn full(&self, side: Side, number: u32) -> Option<Entry> {
+    fn full(self, side: Side, number: u32) -> Option<Entry> {
         for entry in self.entries() {
             if entry.is_full() && entry.number(side) == number {
                 return Some(*entry);
@@ -244,7 +273,7 @@ impl<'a> Plain<'a> {
     }
 
     /// The flags of the message with this UID.
-    fn flags_at(&self, side: Side, number: u32) -> Option<Flags> {
+    fn flags_at(self, side: Side, number: u32) -> Option<Flags> {
         for item in self.items(side) {
             if item.uid.get() == number {
                 return Some(item.flags);
@@ -253,14 +282,14 @@ impl<'a> Plain<'a> {
         None
     }
 
-    fn items(&self, side: Side) -> &'a [Item] {
+    fn items(self, side: Side) -> &'a [Item] {
         match side {
             Side::Far => self.far,
             Side::Near => self.near,
         }
     }
 
-    fn entries(&self) -> &'a [Entry] {
+    fn entries(self) -> &'a [Entry] {
         self.state.entries.as_slice()
     }
 }

@@ -1,91 +1,122 @@
 //! Calls of the planner on the mailboxes and the state of a world.
 
 use crate::marks::read_marks;
+use crate::turns::{Bounds, print_turns};
 use crate::written::world_of;
-use mailcore::listing::Listing;
+use mailcore::listing::{Items, Listing};
+use mailcore::mailbox::StoredMailbox;
 use mailcore::side::Side;
 use mailcore::tuid::Tuid;
+use mailcore::uid::Uid;
 use planner::fault::PlanFault;
 use planner::news::news;
-use planner::plan::plan;
+use planner::plan::{plan, plan_in};
 use planner::state::{Plan, PlanSide, Step};
+use planner::turns::Turns;
 use planner::unfit::unfit;
-use std::alloc::Global;
+use std::alloc::{AllocError, Global};
 use test_scripts::failure::Failure;
 use test_scripts::reported::Reported;
 use test_scripts::words::Words;
 use worlds::plan_lines::{NoteLine, StepLine, UnfitLine};
 use worlds::world::{Waiting, World};
 
-/// Prints what a call of the planner answers on the world of a text: `news`, `unfit`, or `plan` with the marks that the rest of the
-/// line names. `Script`: the text is no world, or the plan wants another number of marks.
+/// Prints what a call of the planner answers on the world of a text: `news`, `unfit`, `plan` with the marks that the rest of the
+/// line names, or `turns` with such, how many it takes. The line is bad if the text is no world, or the plan wants another number of
+/// marks.
 pub fn print_planned(
     alloc: Global,
     reported: &mut Reported,
     text: &[u8],
     call: &str,
     line: &mut Words<'_>,
-) -> Result<(), Failure> {
-    let marks = read_marks(alloc, line)?;
-    let world = world_of(alloc, text, Waiting::Admitted)?;
-    call_planner(alloc, reported, &world, call, &marks)
-}
-
-fn call_planner(
-    alloc: Global,
-    reported: &mut Reported,
-    world: &World,
-    call: &str,
-    marks: &[Tuid],
-) -> Result<(), Failure> {
-    let far = world.far.listing(alloc, Side::Far)?;
-    let near = world.near.listing(alloc, Side::Near)?;
-    match call {
-        "news" => {
-            reported.say(&news(&far, &near, &world.state, &world.options));
-            Ok(())
-        }
-        "unfit" => print_unfit(alloc, reported, &far, &near, world),
-        _ => print_plan(alloc, reported, &far, &near, world, marks),
+) {
+    let marks = read_marks(alloc, line);
+    if let Some(world) = world_of(alloc, text, Waiting::Admitted, line) {
+        let far = listing_of(alloc, &world.far, Side::Far, line);
+        let near = listing_of(alloc, &world.near, Side::Near, line);
+        let asked = Asked {
+            alloc,
+            far: &far,
+            near: &near,
+            world: &world,
+            marks: &marks,
+        };
+        asked.call(call, line, reported);
+        drop(near);
+        drop(far);
+        drop(world);
     }
 }
 
-fn print_unfit(
+/// What a mailbox lists.
+fn listing_of(alloc: Global, mailbox: &StoredMailbox, side: Side, line: &mut Words<'_>) -> Listing {
+    match mailbox.listing(alloc, side) {
+        Ok(listing) => listing,
+        Err(_) => {
+            line.fail(Failure::NoMemory);
+            Listing {
+                validity: mailbox.validity,
+                next: mailbox.next,
+                items: Items::new(alloc),
+            }
+        }
+    }
+}
+
+/// What a call of the planner is given.
+#[derive(Clone, Copy)]
+struct Asked<'a> {
     alloc: Global,
-    reported: &mut Reported,
-    far: &Listing,
-    near: &Listing,
-    world: &World,
-) -> Result<(), Failure> {
-    match unfit(alloc, far, near, &world.state, &world.options) {
+    far: &'a Listing,
+    near: &'a Listing,
+    world: &'a World,
+    marks: &'a [Tuid],
+}
+
+impl Asked<'_> {
+    fn call(self, call: &str, line: &mut Words<'_>, reported: &mut Reported) {
+        let (alloc, far, near, marks) = (self.alloc, self.far, self.near, self.marks);
+        let (state, options) = (&self.world.state, &self.world.options);
+        let wanted = news(far, near, state, options);
+        match call {
+            "news" => {
+                reported.begin();
+                reported.number(wanted as u64);
+                reported.end();
+            }
+            "unfit" => print_unfit(reported, unfit(alloc, far, near, state, options)),
+            _ if marks.len() != wanted => line.refuse(),
+            "plan" => print_plan(reported, plan(alloc, far, near, state, options, marks)),
+            _ => {
+                let mut turns = Turns::new();
+                let planned = plan_in(alloc, far, near, state, options, marks, &mut turns);
+                print_turns(reported, planned, &turns, Bounds::of(far, near, state));
+            }
+        }
+    }
+}
+
+fn print_unfit(reported: &mut Reported, answer: Result<Vec<(Side, Uid)>, AllocError>) {
+    match answer {
         Ok(unfit) => {
-            for (side, uid) in &unfit {
+            for (side, uid) in unfit.iter() {
                 reported.say(&UnfitLine(*side, *uid));
             }
-            Ok(())
         }
-        Err(_) => Err(Failure::NoMemory),
+        Err(_) => reported.lose(),
     }
 }
 
-fn print_plan(
-    alloc: Global,
-    reported: &mut Reported,
-    far: &Listing,
-    near: &Listing,
-    world: &World,
-    marks: &[Tuid],
-) -> Result<(), Failure> {
-    let (state, options) = (&world.state, &world.options);
-    if marks.len() != news(far, near, state, options) {
-        return Err(Failure::Script);
-    }
-    match plan(alloc, far, near, state, options, marks) {
-        Ok(plan) => print_steps(reported, &plan),
-        Err(PlanFault::NoMemory) => return Err(Failure::NoMemory),
+fn print_plan(reported: &mut Reported, answer: Result<Plan, PlanFault>) {
+    match answer {
+        Ok(plan) => {
+            print_steps(reported, &plan);
+            drop(plan);
+        }
+        Err(PlanFault::NoMemory) => reported.lose(),
         Err(fault) => reported.say(&fault),
     }
-    Ok(())
 }
 
 fn print_steps(reported: &mut Reported, plan: &Plan) {

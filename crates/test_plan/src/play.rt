@@ -6,9 +6,9 @@ use crate::comparison::print_compared;
 use crate::devices::{SOUND, read_devices};
 use crate::mail::{print_of_message, print_of_side};
 use crate::marks::print_drawn;
+use crate::phrases::joined;
 use crate::planner_calls::print_planned;
 use crate::runs::{print_beginnings, print_run};
-use crate::turns::print_turns;
 use crate::written::print_written;
 use mailcore::uid::Uid;
 use std::alloc::Global;
@@ -42,46 +42,41 @@ impl Player for LastWorld {
     fn play(&mut self, line: &mut Words<'_>, script: &mut Script<'_>) -> Result<(), Failure> {
         let word = line.word();
         match word {
-            "world" => {
-                let text = script.block(b".")?;
-                self.text = Vec::from_slice(self.alloc, text)?;
-                print_run(self.alloc, &mut script.reported, SOUND, &self.text)
+            "world" => self.text = joined(self.alloc, &[script.block(b".")?], line),
+            "grow" => self.text = grown(self.alloc, &self.text, line),
+            _ => {
+                self.ask(word, line, &mut script.reported);
+                return Ok(());
             }
-            "grow" => {
-                self.text = grown(self.alloc, &self.text, line)?;
-                print_run(self.alloc, &mut script.reported, SOUND, &self.text)
-            }
-            _ => self.ask(word, line, &mut script.reported),
         }
+        print_run(self.alloc, &mut script.reported, SOUND, &self.text);
+        Ok(())
     }
 }
 
 impl LastWorld {
     /// Prints what is asked of the last world.
-    fn ask(
-        &self,
-        word: &str,
-        line: &mut Words<'_>,
-        reported: &mut Reported,
-    ) -> Result<(), Failure> {
+    fn ask(&self, word: &str, line: &mut Words<'_>, reported: &mut Reported) {
         let (alloc, world) = (self.alloc, self.text.as_slice());
         match word {
             "line" => {
                 let number = line.number();
-                let text = with_line(alloc, world, number, line)?;
-                print_run(alloc, reported, SOUND, &text)
+                let text = with_line(alloc, world, number, line);
+                print_run(alloc, reported, SOUND, &text);
             }
             "behind" => {
-                let text = with_more(alloc, world, line)?;
-                print_run(alloc, reported, SOUND, &text)
+                let text = with_more(alloc, world, line);
+                print_run(alloc, reported, SOUND, &text);
             }
             "beginnings" => print_beginnings(alloc, reported, world),
             "reader" | "writer" | "error" | "argument" => {
-                print_run(alloc, reported, read_devices(word, line), world)
+                let devices = read_devices(word, line);
+                print_run(alloc, reported, devices, world);
             }
             "written" => print_written(alloc, reported, world, line),
-            "news" | "unfit" | "plan" => print_planned(alloc, reported, world, word, line),
-            "turns" => print_turns(alloc, reported, world, line),
+            "news" | "unfit" | "plan" | "turns" => {
+                print_planned(alloc, reported, world, word, line);
+            }
             "compare" => print_compared(alloc, reported, line),
             _ => ask_mail(alloc, word, line, reported),
         }
@@ -89,23 +84,15 @@ impl LastWorld {
 }
 
 /// Prints what is asked of words of mail.
-fn ask_mail(
-    alloc: Global,
-    word: &str,
-    line: &mut Words<'_>,
-    reported: &mut Reported,
-) -> Result<(), Failure> {
+fn ask_mail(alloc: Global, word: &str, line: &mut Words<'_>, reported: &mut Reported) {
     match word {
         "sync" => print_cells(alloc, reported, line),
         "marks" => print_drawn(alloc, reported, line),
         "length" | "copy" | "copy_len" | "fit" => print_of_side(alloc, reported, word, line),
-        "uid" => {
-            match Uid::new(line.number()) {
-                Some(uid) => reported.say(&uid.get()),
-                None => reported.answer("none"),
-            }
-            Ok(())
-        }
+        "uid" => match Uid::new(line.number()) {
+            Some(uid) => reported.say(&uid.get()),
+            None => reported.answer("none"),
+        },
         _ => print_of_message(alloc, reported, word, line),
     }
 }

@@ -3,20 +3,14 @@
 use crate::devices::{Devices, SOUND, Sink, Source};
 use run_plan::run::run_plan;
 use std::alloc::Global;
-use test_scripts::failure::Failure;
 use test_scripts::reported::Reported;
 
 /// What standard error gets where memory runs out.
 const NO_MEMORY: &[u8] = b"mbplan: no memory\n";
 
 /// Prints what a run on this world writes to standard output and standard error, how many bytes it leaves unread, and its status.
-/// `NoMemory`: also where the run reports it; a writer that cuts this short hides it.
-pub fn print_run(
-    alloc: Global,
-    reported: &mut Reported,
-    devices: Devices,
-    world: &[u8],
-) -> Result<(), Failure> {
+/// Want of memory counts as a loss, also where the run reports it; a writer that cuts this short hides it.
+pub fn print_run(alloc: Global, reported: &mut Reported, devices: Devices, world: &[u8]) {
     let mut input = Source {
         rest: world,
         fails: devices.reader_fails,
@@ -41,9 +35,7 @@ pub fn print_run(
     }
     print_number(reported, "status ", u64::from(status), "");
     if out.wants_memory || err.wants_memory || err.bytes.as_slice() == NO_MEMORY {
-        Err(Failure::NoMemory)
-    } else {
-        Ok(())
+        reported.lose();
     }
 }
 
@@ -72,18 +64,15 @@ pub fn print_lines(reported: &mut Reported, name: &str, text: &[u8]) {
 }
 
 /// Prints what a run gives on each beginning of a world but the whole. Beginnings with one answer stand together.
-pub fn print_beginnings(
-    alloc: Global,
-    reported: &mut Reported,
-    world: &[u8],
-) -> Result<(), Failure> {
-    let mut is_whole = true;
+pub fn print_beginnings(alloc: Global, reported: &mut Reported, world: &[u8]) {
     let mut first = 0;
     let mut common = Reported::new(alloc);
     for length in 0..world.len() {
         let mut answer = Reported::new(alloc);
-        let run = print_run(alloc, &mut answer, SOUND, &world[..length]);
-        is_whole = is_whole && run.is_ok() && !answer.is_lost();
+        print_run(alloc, &mut answer, SOUND, &world[..length]);
+        if answer.is_lost() {
+            reported.lose();
+        }
         if answer.as_str() != common.as_str() {
             print_range(reported, first, length, common.as_str());
             first = length;
@@ -91,11 +80,6 @@ pub fn print_beginnings(
         }
     }
     print_range(reported, first, world.len(), common.as_str());
-    if is_whole {
-        Ok(())
-    } else {
-        Err(Failure::NoMemory)
-    }
 }
 
 /// Prints what the beginnings of these lengths give, up to the second length and without it.

@@ -1,7 +1,6 @@
 //! How a world is written.
 
 use crate::changes::{around, with_line};
-use crate::phrases::pass;
 use crate::runs::print_lines;
 use std::alloc::Global;
 use test_scripts::failure::Failure;
@@ -13,46 +12,35 @@ use worlds::world::{Waiting, World};
 use worlds::write::{write_from_far, write_world};
 
 /// Prints how what the rest of the line says is written of a world: all of it, a line, or its part from `far` on.
-pub fn print_written(
-    alloc: Global,
-    reported: &mut Reported,
-    world: &[u8],
-    line: &mut Words<'_>,
-) -> Result<(), Failure> {
+pub fn print_written(alloc: Global, reported: &mut Reported, world: &[u8], line: &mut Words<'_>) {
     if line.is_over() {
-        return print_part(alloc, reported, world, None);
+        return print_part(alloc, reported, world, None, line);
     }
     if line.word() == "line" {
         return print_line(alloc, reported, world, line);
     }
-    pass(line, "far");
+    line.expect("far");
     let waiting = if line.is_over() {
         Waiting::Kept
     } else {
-        pass(line, "admitted");
+        line.expect("admitted");
         Waiting::Admitted
     };
-    print_part(alloc, reported, world, Some(waiting))
+    print_part(alloc, reported, world, Some(waiting), line);
 }
 
 /// `N "BYTES"`: prints how line N is written, once the world has these bytes there.
-fn print_line(
-    alloc: Global,
-    reported: &mut Reported,
-    world: &[u8],
-    line: &mut Words<'_>,
-) -> Result<(), Failure> {
+fn print_line(alloc: Global, reported: &mut Reported, world: &[u8], line: &mut Words<'_>) {
     let number = line.number();
-    let text = with_line(alloc, world, number, line)?;
-    let written = written(alloc, &text, None)?;
+    let text = with_line(alloc, world, number, line);
+    let written = written(alloc, &text, None, line);
     match around(written.as_str().as_bytes(), number) {
-        Some((_, line, _)) => {
+        Some((_, words, _)) => {
             reported.begin();
-            reported.bytes(line);
+            reported.bytes(words);
             reported.end();
-            Ok(())
         }
-        None => Err(Failure::Script),
+        None => line.refuse(),
     }
 }
 
@@ -61,37 +49,44 @@ fn print_part(
     reported: &mut Reported,
     world: &[u8],
     from_far: Option<Waiting>,
-) -> Result<(), Failure> {
-    let written = written(alloc, world, from_far)?;
+    line: &mut Words<'_>,
+) {
+    let written = written(alloc, world, from_far, line);
     print_lines(reported, "", written.as_str().as_bytes());
-    Ok(())
 }
 
 /// How the world of a text is written: all of it, or what stands from its line `far` on, with what becomes of its waiting files.
-/// `Script`: the text is no world.
-fn written(alloc: Global, text: &[u8], from_far: Option<Waiting>) -> Result<String, Failure> {
-    let world = world_of(alloc, text, from_far.unwrap_or(Waiting::Kept))?;
-    text_of(alloc, &world, from_far.is_some())
+fn written(alloc: Global, text: &[u8], from_far: Option<Waiting>, line: &mut Words<'_>) -> String {
+    let mut written = String::new(alloc);
+    if let Some(world) = world_of(alloc, text, from_far.unwrap_or(Waiting::Kept), line) {
+        write(&mut written, &world, from_far.is_some(), line);
+        drop(world);
+    }
+    written
 }
 
-fn text_of(alloc: Global, world: &World, is_from_far: bool) -> Result<String, Failure> {
-    let mut text = String::new(alloc);
+fn write(text: &mut String, world: &World, is_from_far: bool, line: &mut Words<'_>) {
     let done = if is_from_far {
-        write_from_far(&mut text, world)
+        write_from_far(text, world)
     } else {
-        write_world(&mut text, world)
+        write_world(text, world)
     };
-    match done {
-        Ok(()) => Ok(text),
-        Err(_) => Err(Failure::NoMemory),
+    if done.is_err() {
+        line.fail(Failure::NoMemory);
     }
 }
 
-/// The world of a text. `Script`: it is none.
-pub fn world_of(alloc: Global, text: &[u8], waiting: Waiting) -> Result<World, Failure> {
+/// The world of a text. The line is bad if it is none.
+pub fn world_of(
+    alloc: Global,
+    text: &[u8],
+    waiting: Waiting,
+    line: &mut Words<'_>,
+) -> Option<World> {
     match read_world(alloc, text, waiting) {
-        Ok(world) => Ok(world),
-        Err(WorldFault::Line(_)) => Err(Failure::Script),
-        Err(WorldFault::NoMemory) => Err(Failure::NoMemory),
+        Ok(world) => return Some(world),
+        Err(WorldFault::Line(_)) => line.refuse(),
+        Err(WorldFault::NoMemory) => line.fail(Failure::NoMemory),
     }
+    None
 }

@@ -3,7 +3,6 @@
 use crate::sent::push_line;
 use imap_link::link::{Link, LinkFault};
 use std::alloc::Global;
-use test_scripts::failure::Failure;
 use test_scripts::mail::print_replies;
 use test_scripts::reported::Reported;
 use test_scripts::words::Words;
@@ -18,7 +17,7 @@ pub fn call<L: Link>(
     word: &str,
     line: &mut Words<'_>,
     reported: &mut Reported,
-) -> Result<(), Failure> {
+) {
     match word {
         "reconnect" => report(reported, link.reconnect()),
         "receive" => receive(link, reported),
@@ -33,26 +32,23 @@ fn send<L: Link>(
     word: &str,
     line: &mut Words<'_>,
     reported: &mut Reported,
-) -> Result<(), Failure> {
+) {
     let mut sent = Vec::new(alloc);
-    push_line(alloc, &mut sent, word, line)?;
-    report(reported, link.send(&sent))
+    push_line(alloc, &mut sent, word, line);
+    report(reported, link.send(&sent));
 }
 
 /// Receives once, and answers what came.
-fn receive<L: Link>(link: &mut L, reported: &mut Reported) -> Result<(), Failure> {
+fn receive<L: Link>(link: &mut L, reported: &mut Reported) {
     let mut piece = [0; PIECE_BYTES];
     match link.recv(&mut piece) {
-        Ok(count) => {
-            print_replies(reported, &piece[..count]);
-            Ok(())
-        }
+        Ok(count) => print_replies(reported, &piece[..count]),
         Err(fault) => report(reported, Err(fault)),
     }
 }
 
 /// Receives up to a short piece, and answers how many bytes came.
-fn count<L: Link>(link: &mut L, reported: &mut Reported) -> Result<(), Failure> {
+fn count<L: Link>(link: &mut L, reported: &mut Reported) {
     let mut piece = [0; PIECE_BYTES];
     let mut all = 0u64;
     for _ in 0..u64::MAX {
@@ -70,15 +66,13 @@ fn count<L: Link>(link: &mut L, reported: &mut Reported) -> Result<(), Failure> 
     reported.number(all);
     reported.text(" bytes");
     reported.end();
-    Ok(())
 }
 
-/// Answers `ok`, or that the call stopped. Where no memory is there, nothing is printed.
-fn report(reported: &mut Reported, answer: Result<(), LinkFault>) -> Result<(), Failure> {
+/// Answers `ok`, or that the call stopped. Want of memory counts as a loss.
+fn report(reported: &mut Reported, answer: Result<(), LinkFault>) {
     match answer {
         Ok(()) => reported.answer("ok"),
         Err(LinkFault::Stopped) => reported.answer("stopped"),
-        Err(LinkFault::NoMemory) => return Err(Failure::NoMemory),
+        Err(LinkFault::NoMemory) => reported.lose(),
     }
-    Ok(())
 }

@@ -1,8 +1,9 @@
 //! Links to a server, in memory or over loopback.
 
 use crate::calls::call;
-use crate::mailboxes::{add_mailbox, add_message, make_server, print_mailboxes};
+use crate::mailboxes::{add, make_server, print_mailboxes};
 use crate::stops::read_stop;
+use imap_server::server::Server;
 use mailcore::mailbox::StoredMailbox;
 use mem_link::loop_link::LoopLink;
 use mem_link::mem_link::MemLink;
@@ -42,70 +43,85 @@ impl Links {
     }
 
     /// `memory`, `memory N` or `loopback`: a link replaces the last one.
-    fn set_link(&mut self, line: &mut Words<'_>) -> Result<(), Failure> {
+    fn set_link(&mut self, line: &mut Words<'_>) {
+        match make_server(self.rt.alloc(), &mut self.mailboxes) {
+            Ok(server) => {
+                let link = self.link_to(server, line);
+                drop(self.link.replace(link));
+            }
+            Err(failure) => line.fail(failure),
+        }
+    }
+
+    fn link_to(&mut self, server: Server, line: &mut Words<'_>) -> AnyLink {
         let alloc = self.rt.alloc();
-        let server = make_server(alloc, &mut self.mailboxes)?;
         let schedule = Schedule::new(mem::replace(&mut self.stops, Vec::new(alloc)));
         let word = line.word();
-        self.link = Some(if word == "loopback" {
-            AnyLink::Loopback(LoopLink::new(self.rt, server, schedule))
-        } else {
-            if word != "memory" {
-                line.refuse();
-            }
-            let piece = if line.is_over() { 4096 } else { line.count() };
-            AnyLink::Memory(MemLink::new(alloc, server, schedule).in_pieces(piece))
-        });
-        Ok(())
+        if word == "loopback" {
+            return AnyLink::Loopback(LoopLink::new(self.rt, server, schedule));
+        }
+        if word != "memory" {
+            line.refuse();
+        }
+        let piece = if line.is_over() { 4096 } else { line.count() };
+        AnyLink::Memory(MemLink::new(alloc, server, schedule).in_pieces(piece))
     }
 
     /// Answers how many calls of the link have stopped, or what stands on its server.
-    fn look(&self, word: &str, reported: &mut Reported) -> Result<(), Failure> {
-        let (stops, server) = match &self.link {
-            Some(AnyLink::Memory(link)) => (link.stops(), link.server()),
-            Some(AnyLink::Loopback(link)) => (link.stops(), link.server()),
-            None => return Err(Failure::Script),
-        };
-        if word == "stops" {
-            reported.say(&stops);
-        } else {
-            print_mailboxes(reported, server);
+    fn look(&self, word: &str, line: &mut Words<'_>, reported: &mut Reported) {
+        match &self.link {
+            Some(AnyLink::Memory(link)) => print_link(word, reported, link.stops(), link.server()),
+            Some(AnyLink::Loopback(link)) => {
+                print_link(word, reported, link.stops(), link.server());
+            }
+            None => line.refuse(),
         }
-        Ok(())
     }
 
     /// Makes a call of the link, and answers what it gives.
-    fn call(
-        &mut self,
-        word: &str,
-        line: &mut Words<'_>,
-        reported: &mut Reported,
-    ) -> Result<(), Failure> {
+    fn call(&mut self, word: &str, line: &mut Words<'_>, reported: &mut Reported) {
         let alloc = self.rt.alloc();
         match &mut self.link {
             Some(AnyLink::Memory(link)) => call(alloc, link, word, line, reported),
             Some(AnyLink::Loopback(link)) => call(alloc, link, word, line, reported),
-            None => Err(Failure::Script),
+            None => line.refuse(),
+        }
+    }
+
+    fn add_stop(&mut self, line: &mut Words<'_>) {
+        if self.stops.push(read_stop(line)).is_err() {
+            line.fail(Failure::NoMemory);
         }
     }
 }
 
 impl Player for Links {
     fn begin(&mut self) -> Result<(), Failure> {
-        *self = Links::new(&self.rt);
+        let anew = Links::new(&self.rt);
+        drop(mem::replace(self, anew));
         Ok(())
     }
 
     fn play(&mut self, line: &mut Words<'_>, script: &mut Script<'_>) -> Result<(), Failure> {
-        let alloc = self.rt.alloc();
         let word = line.word();
         match word {
-            "mailbox" => add_mailbox(alloc, &mut self.mailboxes, line),
-            "message" => add_message(alloc, &mut self.mailboxes, line),
-            "stop" => Ok(self.stops.push(read_stop(line))?),
+            "mailbox" | "message" => add(self.rt.alloc(), &mut self.mailboxes, word, line),
+            "stop" => self.add_stop(line),
             "link" => self.set_link(line),
-            "stops" | "mailboxes" => self.look(word, &mut script.reported),
+            "stops" | "mailboxes" => self.look(word, line, &mut script.reported),
             _ => self.call(word, line, &mut script.reported),
         }
+        Ok(())
+    }
+}
+
+/// Answers how many calls have stopped, or what stands on a server.
+fn print_link(word: &str, reported: &mut Reported, stops: usize, server: &Server) {
+    if word == "stops" {
+        reported.begin();
+        reported.number(stops as u64);
+        reported.end();
+    } else {
+        print_mailboxes(reported, server);
     }
 }

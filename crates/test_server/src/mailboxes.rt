@@ -9,29 +9,18 @@ use mailcore::mailbox::StoredMailbox;
 use std::alloc::Global;
 use std::mem;
 use test_scripts::failure::Failure;
-use test_scripts::mail::{print_mailbox, read_mailbox, read_message};
+use test_scripts::mail::{add_mailbox, add_message, print_mailbox};
 use test_scripts::reported::Reported;
 use test_scripts::words::Words;
 
-/// `VALIDITY NEXT NAME`: adds an empty mailbox.
-pub fn add_mailbox(
-    alloc: Global,
-    mailboxes: &mut Vec<StoredMailbox>,
-    line: &mut Words<'_>,
-) -> Result<(), Failure> {
-    Ok(mailboxes.push(read_mailbox(alloc, line)?)?)
-}
-
-/// `UID FLAGS "BYTES"`: adds a message to the last mailbox.
-pub fn add_message(
-    alloc: Global,
-    mailboxes: &mut Vec<StoredMailbox>,
-    line: &mut Words<'_>,
-) -> Result<(), Failure> {
-    match mailboxes.last_mut() {
-        Some(mailbox) => Ok(mailbox.push(read_message(alloc, line)?)?),
-        None => Err(Failure::Script),
-    }
+/// `mailbox VALIDITY NEXT NAME` adds an empty mailbox, and `message UID FLAGS "BYTES"` a message to the last one.
+pub fn add(alloc: Global, mailboxes: &mut Vec<StoredMailbox>, word: &str, line: &mut Words<'_>) {
+    let added = if word == "mailbox" {
+        add_mailbox(alloc, mailboxes, line)
+    } else {
+        add_message(alloc, mailboxes, line)
+    };
+    line.note(added);
 }
 
 /// A server that takes these mailboxes, for the user `u` with the password `p`. `Script`: it cannot serve them.

@@ -19,12 +19,27 @@ pub fn serve_loopback(
     reported: &mut Reported,
 ) -> io::Result<()> {
     let listener = TcpListener::bind(rt, "127.0.0.1:0")?;
-    let client = TcpStream::connect(rt, listener.local_addr()?)?;
-    let (stream, _address) = listener.accept()?;
+    let ends = connect(rt, &listener);
+    drop(listener);
+    let (stream, client) = ends?;
     let mut got = Vec::new(rt.alloc());
-    let ended = talk(server, &stream, &client, sent, &mut got)?;
-    print_served(reported, &got, ended);
+    let ended = talk(server, &stream, &client, sent, &mut got);
+    drop(client);
+    drop(stream);
+    print_served(reported, &got, ended?);
     Ok(())
+}
+
+/// Both ends of a connection.
+fn connect(rt: &HostRuntime, listener: &TcpListener) -> io::Result<(TcpStream, TcpStream)> {
+    let client = TcpStream::connect(rt, listener.local_addr()?)?;
+    match listener.accept() {
+        Ok((stream, _address)) => Ok((stream, client)),
+        Err(fault) => {
+            drop(client);
+            Err(fault)
+        }
+    }
 }
 
 /// Writes what a client sends in full, serves it, and gives what the client reads then, and how serving ended.

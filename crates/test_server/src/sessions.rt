@@ -3,11 +3,12 @@
 ghost use Rattle.std.specs.Prelude.{◌<◌};
 
 use crate::arriving::arrive;
-use crate::mailboxes::{add_mailbox, add_message, make_server, print_mailboxes};
+use crate::mailboxes::{add, make_server, print_mailboxes};
 use crate::sent::{push_line, push_lines};
 use crate::serving::{serve_loopback, serve_memory};
 use imap_server::server::Server;
 use mailcore::mailbox::StoredMailbox;
+use std::mem;
 use test_scripts::failure::Failure;
 use test_scripts::mail::print_replies;
 use test_scripts::play::Player;
@@ -36,86 +37,81 @@ impl Sessions {
     }
 
     /// Plays a line that asks for a server.
-    fn ask(
-        &mut self,
-        word: &str,
-        line: &mut Words<'_>,
-        script: &mut Script<'_>,
-    ) -> Result<(), Failure> {
+    fn ask(&mut self, word: &str, line: &mut Words<'_>, script: &mut Script<'_>) {
         let Some(server) = &mut self.server else {
-            return Err(Failure::Script);
+            line.refuse();
+            return;
         };
         match word {
             "connect" => print_replies(&mut script.reported, server.connect()),
             "mailboxes" => print_mailboxes(&mut script.reported, server),
-            "hang" if line.word() == "up" => server.hang_up(),
-            "arrive" => return arrive(self.rt.alloc(), server, line, &mut script.reported),
-            _ => return self.send(word, line, script),
+            "hang" => {
+                line.expect("up");
+                server.hang_up();
+            }
+            "arrive" => arrive(self.rt.alloc(), server, line, &mut script.reported),
+            _ => self.send(word, line, script),
         }
-        Ok(())
     }
 
     /// Sends what this line says, or those up to a line `end`.
-    fn send(
-        &mut self,
-        word: &str,
-        line: &mut Words<'_>,
-        script: &mut Script<'_>,
-    ) -> Result<(), Failure> {
+    fn send(&mut self, word: &str, line: &mut Words<'_>, script: &mut Script<'_>) {
         let alloc = self.rt.alloc();
         let mut sent = Vec::new(alloc);
-        let pushed = match word {
-            "together" | "loopback" | "stream" => push_lines(alloc, &mut sent, script),
+        match word {
+            "together" | "loopback" | "stream" => push_lines(alloc, &mut sent, line, script),
             _ => push_line(alloc, &mut sent, word, line),
-        };
-        pushed?;
-        self.bring(word, line, &sent, &mut script.reported)
+        }
+        self.bring(word, line, &sent, &mut script.reported);
     }
 
     /// Brings these bytes to the server by the way that the line says.
-    fn bring(
-        &mut self,
-        word: &str,
-        line: &mut Words<'_>,
-        sent: &[u8],
-        reported: &mut Reported,
-    ) -> Result<(), Failure> {
+    fn bring(&mut self, word: &str, line: &mut Words<'_>, sent: &[u8], reported: &mut Reported) {
         let Some(server) = &mut self.server else {
-            return Err(Failure::Script);
+            line.refuse();
+            return;
         };
         match word {
-            "loopback" => return Ok(serve_loopback(&self.rt, server, sent, reported)?),
+            "loopback" => {
+                if let Err(fault) = serve_loopback(&self.rt, server, sent, reported) {
+                    line.fail(Failure::from(fault));
+                }
+            }
             "stream" => serve_memory(self.rt.alloc(), server, sent, line, reported),
             _ => feed(server, sent, self.piece.max(1), reported),
         }
-        Ok(())
+    }
+
+    /// A server with the mailboxes so far replaces the last one.
+    fn set_server(&mut self, line: &mut Words<'_>) {
+        match make_server(self.rt.alloc(), &mut self.mailboxes) {
+            Ok(server) => drop(self.server.replace(server)),
+            Err(failure) => line.fail(failure),
+        }
     }
 }
 
 impl Player for Sessions {
     fn begin(&mut self) -> Result<(), Failure> {
-        *self = Sessions::new(&self.rt);
+        let anew = Sessions::new(&self.rt);
+        drop(mem::replace(self, anew));
         Ok(())
     }
 
     fn play(&mut self, line: &mut Words<'_>, script: &mut Script<'_>) -> Result<(), Failure> {
-        let alloc = self.rt.alloc();
-        match line.word() {
-            "mailbox" => add_mailbox(alloc, &mut self.mailboxes, line),
-            "message" => add_message(alloc, &mut self.mailboxes, line),
-            "server" => {
-                self.server = Some(make_server(alloc, &mut self.mailboxes)?);
-                Ok(())
-            }
+        let word = line.word();
+        match word {
+            "mailbox" | "message" => add(self.rt.alloc(), &mut self.mailboxes, word, line),
+            "server" => self.set_server(line),
             "pieces" => {
                 self.piece = line.count();
                 if self.piece == 0 {
                     line.refuse();
                 }
-                Ok(())
             }
-            word => self.ask(word, line, script),
+            _ => self.ask(word, line, script),
         }
+        Ok(())
     }
 }
 
