@@ -1,5 +1,5 @@
 -- Devices on which a run is underway stand at its opening in another run, whose outside has named no message yet.
-use Rattle.std.proofs.Common.{◌≡◌, ◌⊎◌, ◌+◌, ◌<◌, ◌^◌, ℕ, Bool, false, List, [], ◌∷◌, ◌++◌, inl, inr, refl, subst, sym, ⊎_elim}
+use Rattle.std.proofs.Common.{◌≡◌, ◌⊎◌, ℕ, Bool, false, List, [], ◌∷◌, ◌++◌, inl, inr, refl, subst, sym, ⊎_elim}
 use Rattle.std.specs.Prelude.{Contains, flat_map}
 use Rattle.std.proofs.lemmas.List.Elements.{All-nil}
 use Rattle.mailcore.specs.declared.side.Side.{Side}
@@ -13,7 +13,7 @@ use Rattle.sync_state.specs.declared.journal.Logged.{Logged}
 use Rattle.law_outcome.specs.Steps.{Rises}
 use Rattle.law_outcome.specs.CommitLaws.{results_of}
 use Rattle.outside.specs.Devices.{Device, Named, box}
-use Rattle.run_states.specs.Conditions.{IsOver, IsPending, Underway}
+use Rattle.run_states.specs.Conditions.{IsOver, IsPending}
 use Rattle.run_states.specs.Moments.{Midway, Stands}
 use Rattle.run_states.specs.Openings.{Opening, Unplanned}
 use Rattle.run_states.specs.Plans.{NamedBy, names_of}

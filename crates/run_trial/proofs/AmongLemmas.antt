@@ -1,5 +1,5 @@
 -- What is left where others add messages that bear none of the marks of the run.
-use Rattle.std.proofs.Common.{◌≡◌, ◌∙◌, ◌&&◌, ℕ, Bool, List, map, true, false, None, refl, sym, ap, subst}
+use Rattle.std.proofs.Common.{◌≡◌, ◌∙◌, ◌&&◌, ℕ, Bool, List, map, true, false, refl, sym, ap, subst}
 use Rattle.std.specs.Prelude.{◌+◌, ◌^◌, All, Result, Ok, Err, IfErr, IfOk, IsErrAnd, OnOk}
 use Rattle.std.proofs.Math.Path.{fun_ext}
 use Rattle.std.proofs.lemmas.List.Elements.{All-map}

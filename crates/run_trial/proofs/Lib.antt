@@ -14,3 +14,5 @@ pub mod LinkedLemmas
 pub mod ContentsLemmas
 pub mod PrintedLemmas
 pub mod HeldLemmas
+pub mod CourseLemmas
+pub mod TextRunLemmas

@@ -12,3 +12,5 @@ pub mod Among
 pub mod Memory
 pub mod Printed
 pub mod Trials
+pub mod Courses
+pub mod FromText

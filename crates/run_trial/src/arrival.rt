@@ -1,6 +1,6 @@
 //! What others add in a trial, as its lines say it.
 
-ghost use Rattle.std.specs.Prelude.{◌≡◌, ◌&&◌, All, IfErr, true};
+ghost use Rattle.std.specs.Prelude.{◌≡◌, ◌&&◌, [], All, IfErr, true};
 ghost use Rattle.std.specs.List.{list_all};
 ghost use Rattle.mailcore.specs.Content.{mark_of};
 ghost use Rattle.mailcore.specs.Visitors.{IsForeign, is_foreign};
@@ -56,7 +56,10 @@ struct Coming<'a> {
 
 impl TrialArrivals {
     /// Nothing.
-    pub fn new(alloc: Global) -> Self {
+    pub fn new(alloc: Global) -> Self
+        ensures far { result.far.items ≡ [] }
+        ensures near { result.near.items ≡ [] }
+    {
         TrialArrivals {
             far: Vec::new(alloc),
             near: Vec::new(alloc),
@@ -64,7 +67,9 @@ impl TrialArrivals {
     }
 
     /// Whether nothing comes.
-    pub fn is_empty(&self) -> bool {
+    pub fn is_empty(&self) -> bool
+        ensures { self.now.far.items ≡ [] → self.now.near.items ≡ [] → result ≡ true }
+    {
         self.far.is_empty() && self.near.is_empty()
     }
 

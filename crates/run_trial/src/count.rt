@@ -19,7 +19,8 @@ pub fn read_count(word: &[u8]) -> Option<u64>
 
 /// The same of a number that is not 0.
 pub fn read_ordinal(word: &[u8]) -> Option<u64>
-    ensures { IfSome result (λ n. 0 < n) }
+    ensures positive { IfSome result (λ n. 0 < n) }
+    ensures spelled { IfSome result (λ n. n + 1 < 2 ^ 64 → decimal n ≡ word.now) }
 {
     match read_count(word) {
         Some(0) => None,

@@ -1,10 +1,9 @@
 //! How a trial is read from its text (docs/FORMATS.md, "Trial").
 
-ghost use Rattle.std.specs.Prelude.{◌≡◌, ◌+◌, ◌++◌, ◌≤◌, ◌<◌, IfErr, IfOk, List, ℕ};
-ghost use Rattle.worlds.specs.Keywords.{IsHead};
+ghost use Rattle.std.specs.Prelude.{◌≡◌, ◌+◌, ◌≤◌, ◌<◌, IfErr, IfOk, OnOk, codes};
 ghost use Rattle.worlds.specs.Lines.{IsOf, IsUpTo};
-ghost use Rattle.worlds.specs.WorldText.{text_from_far};
 ghost use Rattle.texts.specs.Lines.{line_count, line_ends};
+ghost use Rattle.run_trial.specs.Courses.{HasTries, IsCourse, IsTextOf, LacksLine, LacksStart};
 ghost use Rattle.run_trial.specs.Worlds.{IsNamed, world_of};
 
 use crate::arrival::TrialArrivals;
@@ -23,8 +22,7 @@ use worlds::world::Waiting;
 /// The trial that a text gives: after its world stands its course. `Line`: after this line no valid trial is possible, or one is, and the
 /// text ends too early, and this is the line after its last whole one.
 pub fn read_trial(alloc: Global, text: &[u8]) -> Result<Trial, WorldFault>
-    ensures text { IfOk result (λ trial. (course : List ℕ)
-        × IsHead trial.world.options.keywords (text_from_far (world_of trial.world) ++ course) text.now) }
+    ensures text { IfOk result (λ trial. IsTextOf trial text.now) }
     ensures named { IfOk result (λ trial. IsNamed trial.world.options.keywords (world_of trial.world)) }
     ensures fault { IfErr result (IsUpTo (line_ends text.now + 1)) }
 {
@@ -42,6 +40,7 @@ fn read_course(
     keywords: &Keywords,
     lines: &mut Lines<'_>,
 ) -> Result<TrialCourse, WorldFault>
+    ensures course { IfOk result (λ course. IsCourse course lines.old.rest.now) }
     ensures fault { IfErr result (IsUpTo (line_count lines.old + 1)) }
 {
     let mut course = TrialCourse {
@@ -60,6 +59,7 @@ fn read_course(
 /// The number of the line `tries`: how many attempts a run has.
 pub fn take_tries(lines: &mut Lines<'_>) -> Result<u32, WorldFault>
     ensures positive { IfOk result (λ tries. 0 < tries) }
+    ensures tries { IfOk result (λ tries. HasTries tries lines.new.rest.now lines.old.rest.now) }
     ensures count { line_count lines.new ≤ line_count lines.old }
     ensures fault { IfErr result (IsUpTo (line_count lines.old + 1)) }
 {
@@ -78,6 +78,9 @@ fn take_course(
     course: &mut TrialCourse,
     lines: &mut Lines<'_>,
 ) -> Result<(), WorldFault>
+    ensures tries { course.new.tries ≡ course.old.tries }
+    ensures journal { OnOk result (LacksLine (codes "journal ") lines.old.rest.now → course.new.journal ≡ course.old.journal) }
+    ensures arrivals { OnOk result (LacksLine (codes "arrive ") lines.old.rest.now → course.new.arrivals ≡ course.old.arrivals) }
     ensures fault { IfErr result (IsUpTo (line_count lines.old + 1)) }
 {
     while let Some(line) = lines.take_if(b"") {
@@ -97,7 +100,10 @@ fn add_line(
     course: &mut TrialCourse,
     line: Line<'_>,
 ) -> Result<(), WorldFault>
-    ensures { IfErr result (IsOf line.entry.number) }
+    ensures fault { IfErr result (IsOf line.entry.number) }
+    ensures tries { course.new.tries ≡ course.old.tries }
+    ensures journal { LacksStart (codes "journal ") line.entry.text.now → course.new.journal ≡ course.old.journal }
+    ensures arrivals { LacksStart (codes "arrive ") line.entry.text.now → course.new.arrivals ≡ course.old.arrivals }
 {
     if let Some(text) = line.text.strip_prefix(b"journal ") {
         return add_journal(alloc, course, text, line);
@@ -121,7 +127,9 @@ fn add_journal(
     text: &[u8],
     line: Line<'_>,
 ) -> Result<(), WorldFault>
-    ensures { IfErr result (IsOf line.entry.number) }
+    ensures fault { IfErr result (IsOf line.entry.number) }
+    ensures tries { course.new.tries ≡ course.old.tries }
+    ensures arrivals { course.new.arrivals ≡ course.old.arrivals }
 {
     if course.journal.is_some() {
         return Err(WorldFault::of(line));
@@ -132,7 +140,10 @@ fn add_journal(
 
 /// Adds the number of an APPEND whose reply comes without APPENDUID.
 fn add_mute(course: &mut TrialCourse, text: &[u8], line: Line<'_>) -> Result<(), WorldFault>
-    ensures { IfErr result (IsOf line.entry.number) }
+    ensures fault { IfErr result (IsOf line.entry.number) }
+    ensures tries { course.new.tries ≡ course.old.tries }
+    ensures journal { course.new.journal ≡ course.old.journal }
+    ensures arrivals { course.new.arrivals ≡ course.old.arrivals }
 {
     match read_ordinal(text) {
         Some(number) => Ok(course.mutes.push(number)?),

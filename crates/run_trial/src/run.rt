@@ -1,10 +1,17 @@
 //! The program `mbtrial`, over readers and writers.
 
-ghost use Rattle.std.specs.Prelude.{◌≡◌, ◌≤◌, All, IfOk, IsErr};
+ghost use Rattle.std.specs.Prelude.{◌≡◌, ◌≤◌, [], ℕ, List, All, IfOk, IfSome, IsErr, OnOk, string_bytes};
+ghost use Rattle.std.specs.Io.KnownBytes.{Appends};
 ghost use Rattle.imap_server.specs.Boxes.{AreServed};
 ghost use Rattle.mailcore.specs.Content.{mark_of};
 ghost use Rattle.mailcore.specs.Visitors.{IsForeign};
 ghost use Rattle.imap_client.specs.Seen.{HasMap};
+ghost use Rattle.run_trial.specs.FromText.{Reports, ReportsText};
+ghost use Rattle.run_trial.specs.Held.{held_in};
+ghost use Rattle.run_trial.specs.Printed.{Prints};
+ghost use Rattle.run_trial.specs.Reports.{status_of};
+ghost use Rattle.run_trial.specs.Trials.{IsStart};
+ghost use Rattle.run_trial.specs.Worlds.{world_of};
 
 use crate::among::run_among;
 use crate::devices::Devices;
@@ -53,6 +60,9 @@ pub enum TrialRequest {
 ///
 /// Else `err` gets the reason: status 2 for other arguments and for a bad text, status 1 for lack of memory, and where
 /// reading or writing failed.
+///
+/// With status 0, of a trial in memory that begins anew and to which others add nothing: after what the run came to, the world is printed
+/// that stands in the devices, and it is alike to the outcome that the rules name for the world which the text gives.
 pub fn run_trial<R: Net + AllocGlobal + Clone + Drop, I: Read, O: Write, E: Write>(
     rt: R,
     request: TrialRequest,
@@ -62,6 +72,8 @@ pub fn run_trial<R: Net + AllocGlobal + Clone + Drop, I: Read, O: Write, E: Writ
 ) -> u8
     ensures at_most { result ≤ 2 }
     ensures asked { request ≡ TrialRequest.Unknown → 1 ≤ result }
+    ensures text { request ≡ TrialRequest.Memory → result ≡ 0 → IfSome (I.remaining input.old) (λ text. (printed : List ℕ)
+        × ReportsText text printed 0 × Appends (O.contents out.old) (O.contents out.new) printed) }
 {
     match reported(rt, request, input) {
         Ok((text, status)) => match print(out, text.as_bytes()) {
@@ -75,7 +87,9 @@ pub fn run_trial<R: Net + AllocGlobal + Clone + Drop, I: Read, O: Write, E: Writ
     }
 }
 
-fn print<O: Write>(out: &mut O, text: &[u8]) -> io::Result<()> {
+fn print<O: Write>(out: &mut O, text: &[u8]) -> io::Result<()>
+    ensures { OnOk result (Appends (O.contents out.old) (O.contents out.new) text.now) }
+{
     out.write_all(text)?;
     out.flush()
 }
@@ -88,14 +102,27 @@ fn reported<R: Net + AllocGlobal + Clone + Drop, I: Read>(
 ) -> Result<(String, u8), TrialError>
     ensures status { IfOk result (λ reported. reported.1 ≤ 1) }
     ensures asked { request ≡ TrialRequest.Unknown → IsErr result }
+    ensures text { request ≡ TrialRequest.Memory → IfOk result (λ reported.
+        IfSome (I.remaining input.old) (λ text. ReportsText text (string_bytes reported.0) reported.1)) }
 {
     if request == TrialRequest::Unknown {
         return Err(TrialError::Usage);
     }
-    let alloc = rt.alloc();
-    let mut text = Vec::new(alloc);
+    let mut text = Vec::new(rt.alloc());
     input.read_to_end(&mut text)?;
-    let trial = read_trial(alloc, &text)?;
+    reported_of_text(rt, request, &text)
+}
+
+/// What is reported of the trial that a text gives, and the exit status.
+fn reported_of_text<R: Net + AllocGlobal + Clone + Drop>(
+    rt: R,
+    request: TrialRequest,
+    text: &[u8],
+) -> Result<(String, u8), TrialError>
+    ensures at_most { IfOk result (λ reported. reported.1 ≤ 1) }
+    ensures text { request ≡ TrialRequest.Memory → IfOk result (λ reported. ReportsText text.now (string_bytes reported.0) reported.1) }
+{
+    let trial = read_trial(rt.alloc(), text)?;
     reported_of_trial(rt, request, trial)
 }
 
@@ -105,19 +132,30 @@ fn reported_of_trial<R: Net + AllocGlobal + Clone + Drop>(
     request: TrialRequest,
     trial: Trial,
 ) -> Result<(String, u8), TrialError>
-    ensures { IfOk result (λ reported. reported.1 ≤ 1) }
+    ensures at_most { IfOk result (λ reported. reported.1 ≤ 1) }
+    ensures reports { request ≡ TrialRequest.Memory → trial.course.arrivals.far.items ≡ [] → trial.course.arrivals.near.items ≡ []
+        → IsStart trial → IfOk result (λ reported. Reports (world_of trial.world) trial.world.options (string_bytes reported.0) reported.1) }
 {
     let alloc = rt.alloc();
     match request {
         TrialRequest::Memory | TrialRequest::Unknown if trial.course.arrivals.is_empty() => {
-            let (outside, settled) = run_in_memory(alloc, trial)?;
-            reported_of(alloc, Devices::of(outside), settled)
+            reported_alone(alloc, trial)
         }
         TrialRequest::Memory | TrialRequest::Unknown => reported_among(alloc, trial),
         TrialRequest::Pieces(piece) => reported_in_pieces(alloc, trial, piece),
         TrialRequest::Face => reported_over_face(alloc, trial),
         TrialRequest::Loopback => reported_over_loopback(rt, trial),
     }
+}
+
+/// What is reported of this trial in memory, to which others add nothing.
+fn reported_alone(alloc: Global, trial: Trial) -> Result<(String, u8), TrialError>
+    ensures at_most { IfOk result (λ reported. reported.1 ≤ 1) }
+    ensures reports { IsStart trial
+        → IfOk result (λ reported. Reports (world_of trial.world) trial.world.options (string_bytes reported.0) reported.1) }
+{
+    let (outside, settled) = run_in_memory(alloc, trial)?;
+    reported_of(alloc, Devices::of(outside), settled)
 }
 
 /// What is reported of this trial, in which others add messages.
@@ -233,7 +271,9 @@ fn reported_of<L: TrialLink + Drop>(
     devices: Devices<L>,
     settled: Result<Settled, RunFault>,
 ) -> Result<(String, u8), TrialError>
-    ensures { IfOk result (λ reported. reported.1 ≤ 1) }
+    ensures at_most { IfOk result (λ reported. reported.1 ≤ 1) }
+    ensures status { IfOk result (λ reported. reported.1 ≡ status_of settled) }
+    ensures prints { IfOk result (λ reported. (ending : List ℕ) × Prints (held_in devices) ending (string_bytes reported.0)) }
 {
     let ending = Ending {
         settled,

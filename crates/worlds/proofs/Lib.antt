@@ -8,3 +8,4 @@ pub mod CountedMarks
 pub mod FileTexts
 pub mod KeywordTexts
 pub mod LetterLemmas
+pub mod OptionLemmas

@@ -1,5 +1,5 @@
 -- What is listed of the lines of a mailbox and of waiting files, and one line more.
-use Rattle.std.proofs.Common.{◌≡◌, ℕ, ◌+◌, List, [], ◌∷◌, ◌++◌, zero, suc, refl, sym, ap, subst, ◌∙◌, append_assoc, append-nil, length, length-append, arith}
+use Rattle.std.proofs.Common.{◌≡◌, ℕ, ◌+◌, List, [], ◌∷◌, ◌++◌, refl, sym, ap, ◌∙◌, append_assoc, append-nil, length, length-append, arith}
 use Rattle.std.specs.Prelude.{Bool, codes, decimal, map}
 use Rattle.std.specs.List.{flat_map, join_with_byte, range_with_len}
 use Rattle.std.proofs.lemmas.List.{map-append}
@@ -10,16 +10,14 @@ use Rattle.mailcore.specs.declared.side.Side.{Side}
 use Rattle.mailcore.specs.declared.side.Side.TheVariants.{Far, Near}
 use Rattle.mailcore.specs.Content.{fit}
 use Rattle.mailcore.specs.Listed.{item_of}
-use Rattle.mailcore.specs.Operations.{Shows}
 use Rattle.mailcore.specs.Stores.{Store, Waiting, numbered}
 use Rattle.mailcore.specs.Words.{side_word}
-use Rattle.rules.specs.declared.state.SyncState.{SyncState}
-use Rattle.rules.specs.Admission.{admitted, numbered_under}
+use Rattle.rules.specs.Admission.{numbered_under}
 use Rattle.rules.specs.World.{World}
 use Rattle.texts.specs.Lines.{IsLine}
 use Rattle.worlds.specs.declared.listed.ListedWorld.{ListedWorld}
 use Rattle.worlds.specs.Admission.{item_under}
-use Rattle.worlds.specs.Keywords.{IsHead}
+use Rattle.worlds.specs.OptionsText.{IsHead}
 use Rattle.worlds.specs.ListedWorlds.{ListsFiles, ListsMailbox, ListsMailboxes, ListsWorld}
 use Rattle.worlds.specs.WorldText.{line_of, mailbox_text, message_line, message_word, message_words, state_text, text_from_far, waiting_line, waiting_words}
 use Rattle.worlds.proofs.TextLemmas.{line_with, one_more, world_begins, world_ends}
@@ -127,14 +125,14 @@ numbered_in_range : (next : ℕ) (fs : List Waiting) → numbered_under (range_w
 numbered_in_range next [] = refl
 numbered_in_range next (f ∷ fs) = ap (λ (ms : List Message). let m : Message = record { uid = next; flags = f.flags; bytes = f.bytes } in m ∷ ms) (numbered_in_range (next + 1) fs)
 
-pub lists_world : (listed : ListedWorld) (first second third last text : List ℕ) → IsHead listed.options.keywords first text → ListsMailboxes first second listed.far listed.near
+pub lists_world : (listed : ListedWorld) (first second third last text : List ℕ) → IsHead listed.options first text → ListsMailboxes first second listed.far listed.near
     → second ≡ state_text listed.state ++ third → third ≡ line_of (codes "end" ∷ []) ++ last → last ≡ [] → ListsWorld listed text
 lists_world listed first second third last text head boxes recorded ends none =
     let w : World = record { far = boxes.far_store; near = boxes.near_store; waiting = boxes.waiting; state = listed.state } in
     record {
       world = w;
-      text = world_ends listed.options.keywords (text_from_far w) last text
-          (world_begins listed.options.keywords (mailbox_text Far w.far) (mailbox_text Near w.near) (flat_map waiting_line w.waiting) (state_text w.state) (line_of (codes "end" ∷ []))
+      text = world_ends listed.options (text_from_far w) last text
+          (world_begins listed.options (mailbox_text Far w.far) (mailbox_text Near w.near) (flat_map waiting_line w.waiting) (state_text w.state) (line_of (codes "end" ∷ []))
           first second third last text head boxes.text recorded ends) none;
       far = boxes.shows;
       near = record {

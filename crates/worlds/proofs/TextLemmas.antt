@@ -3,14 +3,14 @@ use Rattle.std.proofs.Common.{◌≡◌, ℕ, List, [], ◌∷◌, ◌++◌, ref
 use Rattle.std.specs.Prelude.{codes, decimal, map}
 use Rattle.std.specs.List.{flat_map, join_with_byte}
 use Rattle.std.proofs.lemmas.List.{map-append}
-use Rattle.mailcore.specs.declared.keywords.Keyword.{Keyword}
 use Rattle.mailcore.specs.declared.mailbox.StoredMailbox.{StoredMailbox}
 use Rattle.mailcore.specs.declared.mailbox.Message.{Message}
 use Rattle.mailcore.specs.declared.side.Side.{Side}
 use Rattle.mailcore.specs.Words.{side_word}
+use Rattle.rules.specs.declared.options.Options.{Options}
 use Rattle.texts.specs.Lines.{IsLine}
 use Rattle.worlds.specs.declared.world.WaitingFile.{WaitingFile}
-use Rattle.worlds.specs.Keywords.{IsHead}
+use Rattle.worlds.specs.OptionsText.{IsHead}
 use Rattle.worlds.specs.WorldText.{line_of, mailbox_text, message_line, message_word, message_words, waiting_line, waiting_words}
 use Rattle.worlds.specs.Worlds.{store_of, waiting_of}
 
@@ -72,15 +72,15 @@ files_more old new f line following rest whole is words more so_far =
 
 -- ---- the whole
 
-pub world_begins : (keywords : List Keyword) (far near waits state end first second third last text : List ℕ) → IsHead keywords first text → first ≡ far ++ (near ++ (waits ++ second)) → second ≡ state ++ third → third ≡ end ++ last
-    → IsHead keywords ((far ++ (near ++ (waits ++ (state ++ end)))) ++ last) text
-world_begins keywords far near waits state end first second third last text head boxes recorded ends =
+pub world_begins : (options : Options) (far near waits state end first second third last text : List ℕ) → IsHead options first text → first ≡ far ++ (near ++ (waits ++ second)) → second ≡ state ++ third → third ≡ end ++ last
+    → IsHead options ((far ++ (near ++ (waits ++ (state ++ end)))) ++ last) text
+world_begins options far near waits state end first second third last text head boxes recorded ends =
     let is : first ≡ (far ++ (near ++ (waits ++ (state ++ end)))) ++ last =
     boxes
     ∙ ap (λ (l : List ℕ). far ++ (near ++ (waits ++ l))) (recorded ∙ ap (λ (l : List ℕ). state ++ l) ends)
     ∙ simp append_assoc in
-    subst (λ (l : List ℕ). IsHead keywords l text) is head
+    subst (λ (l : List ℕ). IsHead options l text) is head
 
-pub world_ends : (keywords : List Keyword) (lines rest text : List ℕ) → IsHead keywords (lines ++ rest) text → rest ≡ [] → IsHead keywords lines text
-world_ends keywords lines rest text head none =
-    subst (λ (l : List ℕ). IsHead keywords l text) (ap (λ (l : List ℕ). lines ++ l) none ∙ append-nil lines) head
+pub world_ends : (options : Options) (lines rest text : List ℕ) → IsHead options (lines ++ rest) text → rest ≡ [] → IsHead options lines text
+world_ends options lines rest text head none =
+    subst (λ (l : List ℕ). IsHead options l text) (ap (λ (l : List ℕ). lines ++ l) none ∙ append-nil lines) head

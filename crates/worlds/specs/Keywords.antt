@@ -54,13 +54,3 @@ pub record Adds (old : List Keyword) (line : List ℕ) (new : List Keyword) : Ty
   pub text : keyword_text keyword ≡ line
   pub following : new ≡ old ++ keyword ∷ []
   pub is_map : IsMap new
-
--- a text begins with a line `sync` and a line `expunge`, and goes on with the keyword lines of a map
-pub record IsHead (keywords : List Keyword) (following text : List ℕ) : Type 0 where
-  pub sync : List ℕ
-  pub from_expunge : List ℕ
-  pub expunge : List ℕ
-  pub from_keywords : List ℕ
-  pub first : IsLine (codes "sync ") sync from_expunge text
-  pub second : IsLine (codes "expunge ") expunge from_keywords from_expunge
-  pub gives : Gives keywords following from_keywords

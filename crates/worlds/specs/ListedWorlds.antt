@@ -10,7 +10,7 @@ use Rattle.mailcore.specs.Stores.{Store, Waiting, numbered}
 use Rattle.rules.specs.Admission.{admitted}
 use Rattle.rules.specs.World.{World}
 use Rattle.worlds.specs.declared.listed.ListedWorld.{ListedWorld}
-use Rattle.worlds.specs.Keywords.{IsHead}
+use Rattle.worlds.specs.OptionsText.{IsHead}
 use Rattle.worlds.specs.WorldText.{mailbox_text, text_from_far, waiting_line}
 
 -- ---- parts
@@ -46,7 +46,7 @@ pub record ListsMailboxes (whole rest : List ℕ) (far near : Listing) : Type 0 
 -- its state.
 pub record ListsWorld (listed : ListedWorld) (whole : List ℕ) : Type 0 where
   pub world : World
-  pub text : IsHead listed.options.keywords (text_from_far world) whole
+  pub text : IsHead listed.options (text_from_far world) whole
   pub far : Shows Far world.far listed.far
   pub near : Shows Near (admitted world).near listed.near
   pub state : listed.state ≡ world.state

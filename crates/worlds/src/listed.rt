@@ -5,7 +5,7 @@ ghost use Rattle.std.specs.List.{join_with_byte};
 ghost use Rattle.mailcore.specs.Content.{fit};
 ghost use Rattle.mailcore.specs.KeywordNames.{IsWithin};
 ghost use Rattle.worlds.specs.Admission.{item_under};
-ghost use Rattle.worlds.specs.Keywords.{IsHead};
+ghost use Rattle.worlds.specs.OptionsText.{IsHead};
 ghost use Rattle.worlds.specs.Lines.{IsOf, IsUpTo};
 ghost use Rattle.worlds.specs.ListedWorlds.{ListsFiles, ListsMailbox, ListsMailboxes, ListsWorld};
 ghost use Rattle.worlds.specs.WorldText.{message_words};
@@ -48,7 +48,7 @@ pub struct ListedWorld {
 /// The world that a text gives. Nothing may follow its line `end`.
 pub fn read_listed_world(alloc: Global, text: &[u8]) -> Result<ListedWorld, WorldFault>
     ensures text { IfOk result (λ w. ListsWorld w text.now) }
-    ensures head { IfOk result (λ w. (following : List ℕ) × IsHead w.options.keywords following text.now) }
+    ensures head { IfOk result (λ w. (following : List ℕ) × IsHead w.options following text.now) }
     ensures far { IfOk result (λ w. AreListedNamed w.options.keywords w.far.items) }
     ensures near { IfOk result (λ w. AreListedNamed w.options.keywords w.near.items) }
     ensures fault { IfErr result (IsUpTo (line_ends text.now + 1)) }

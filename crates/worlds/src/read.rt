@@ -2,7 +2,7 @@
 
 ghost use Rattle.std.specs.Prelude.{◌≡◌, ◌≢◌, ◌+◌, ◌≤◌, ◌++◌, ◌∷◌, ℕ, List, [], IfErr, IfOk, OnErr, OnOk, codes, map};
 ghost use Rattle.std.specs.List.{flat_map};
-ghost use Rattle.worlds.specs.Keywords.{IsHead};
+ghost use Rattle.worlds.specs.OptionsText.{IsHead};
 ghost use Rattle.worlds.specs.Lines.{IsUpTo};
 ghost use Rattle.texts.specs.Lines.{line_count, line_ends};
 ghost use Rattle.worlds.specs.WorldText.{line_of, mailbox_text, text_from_far, waiting_line};
@@ -22,8 +22,8 @@ use texts::lines::Lines;
 
 /// The world that a text gives. Nothing may follow its line `end`.
 pub fn read_world(alloc: Global, text: &[u8], waiting: Waiting) -> Result<World, WorldFault>
-    ensures head { IfOk result (λ w. (following : List ℕ) × IsHead w.options.keywords following text.now) }
-    ensures text { waiting ≡ Waiting.Kept → IfOk result (λ w. IsHead w.options.keywords (text_from_far (world_of w)) text.now) }
+    ensures head { IfOk result (λ w. (following : List ℕ) × IsHead w.options following text.now) }
+    ensures text { waiting ≡ Waiting.Kept → IfOk result (λ w. IsHead w.options (text_from_far (world_of w)) text.now) }
     ensures named { IfOk result (λ w. IsNamed w.options.keywords (world_of w)) }
     ensures fault { IfErr result (IsUpTo (line_ends text.now + 1)) }
 {
@@ -52,9 +52,9 @@ pub fn take_world(
     waiting: Waiting,
     lines: &mut Lines<'_>,
 ) -> Result<World, WorldFault>
-    ensures head { IfOk result (λ w. (following : List ℕ) × IsHead w.options.keywords following lines.old.rest.now) }
+    ensures head { IfOk result (λ w. (following : List ℕ) × IsHead w.options following lines.old.rest.now) }
     ensures text { waiting ≡ Waiting.Kept → IfOk result (λ w.
-        IsHead w.options.keywords (text_from_far (world_of w) ++ lines.new.rest.now) lines.old.rest.now) }
+        IsHead w.options (text_from_far (world_of w) ++ lines.new.rest.now) lines.old.rest.now) }
     ensures named { IfOk result (λ w. IsNamed w.options.keywords (world_of w)) }
     ensures count { line_count lines.new ≤ line_count lines.old }
     ensures fault { IfErr result (IsUpTo (line_count lines.old + 1)) }

@@ -1,5 +1,5 @@
 -- The generator of a trial stands before its first word.
-use Rattle.std.proofs.Common.{List, Result, Ok, Err}
+use Rattle.std.proofs.Common.{Result, Ok, Err}
 use Rattle.std.specs.Prelude.{IfErr}
 use Rattle.rand_core.specs.Stream.{Stream}
 use Rattle.run_trial.proofs.attempts.settle_trial.Goals as goal

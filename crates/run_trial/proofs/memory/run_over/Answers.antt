@@ -3,9 +3,7 @@ use Rattle.std.proofs.Common.{◌∙◌, true, refl, sym, ap, subst}
 use Rattle.std.specs.Prelude.{IfErr}
 use Rattle.outside.specs.Calls.{Seen}
 use Rattle.run_pair.specs.Pairs.{seen_of}
-use Rattle.maildir.specs.Gains.{nobody}
 use Rattle.run_states.specs.Conditions.{Underway}
-use Rattle.run_states.specs.Openings.{Opening}
 use Rattle.runner.specs.Faults.{LeavesRun}
 use Rattle.run_trial.specs.Openings.{StandsAt}
 use Rattle.run_trial.specs.Settings.{device_in}

@@ -1,0 +1,20 @@
+use Rattle.std.proofs.Common.{◌∙◌, arith}
+use Rattle.std.specs.Prelude.{codes}
+use Rattle.run_trial.proofs.CourseLemmas.{line_lacks, lines_more, rest_after}
+use Rattle.run_trial.proofs.read.take_course.Goals as goal
+
+pub loop-line-preserved : goal.loop-line-preserved
+loop-line-preserved c =
+    let so_far = c.loop-line.invariant in
+    let before = so_far.taken.0 in
+    let are = so_far.taken.1 in
+    let whole = so_far.taken.2 in
+    let line = c.in-Some.ensures.line in
+    let text = c.in-Some.line.text.now in
+    record {
+      count = omega (arith, so_far.count, c.take_if.ensures.count);
+      tries = c.add_line.ensures.tries ∙ so_far.tries;
+      taken = (_, lines_more before text are, rest_after _ before _ text _ whole line);
+      journal = λ lacks. c.add_line.ensures.journal (line_lacks (codes "journal ") _ before _ text _ lacks are whole line) ∙ so_far.journal lacks;
+      arrivals = λ lacks. c.add_line.ensures.arrivals (line_lacks (codes "arrive ") _ before _ text _ lacks are whole line) ∙ so_far.arrivals lacks;
+    }

@@ -1,0 +1,41 @@
+-- What the lines of a trial say that stand after its world (docs/FORMATS.md, "Trial").
+use Rattle.std.specs.Prelude.{◌≡◌, ◌⊎◌, ◌+◌, ◌<◌, ◌^◌, ◌++◌, ℕ, List, [], ◌∷◌, None, codes, decimal}
+use Rattle.texts.specs.Lines.{IsLine}
+use Rattle.worlds.specs.OptionsText.{IsHead}
+use Rattle.worlds.specs.WorldText.{text_from_far}
+use Rattle.run_trial.specs.declared.trial.Trial.{Trial}
+use Rattle.run_trial.specs.declared.trial.TrialCourse.{TrialCourse}
+use Rattle.run_trial.specs.Worlds.{world_of}
+
+-- whole lines, of which the last one ends in LF
+abbrev pub AreLines : List ℕ → Type 0
+AreLines text = (text ≡ []) ⊎ ((most : List ℕ) × (text ≡ most ++ 10 ∷ []))
+
+-- no line of a text begins so
+abbrev pub LacksLine : (start text : List ℕ) → Type 0
+LacksLine start text = (before here line following : List ℕ) → AreLines before → text ≡ before ++ here → ¬ IsLine start line following here
+
+-- a line has no such beginning
+abbrev pub LacksStart : (start line : List ℕ) → Type 0
+LacksStart start line = (rest : List ℕ) → ¬ (line ≡ start ++ rest)
+
+-- the first line of a course has the number of attempts, a decimal number; the greatest of its type stands for greater ones too
+pub record HasTries (tries : ℕ) (following course : List ℕ) : Type 0 where
+  pub number : List ℕ
+  pub line : IsLine (codes "tries ") number following course
+  pub spelled : tries + 1 < 2 ^ 32 → decimal tries ≡ number
+
+-- This is what a course says. If no line after the first says that there is a journal, there is none, and if none says that something arrives,
+-- nothing does.
+pub record IsCourse (said : TrialCourse) (course : List ℕ) : Type 0 where
+  pub following : List ℕ
+  pub tries : HasTries said.tries following course
+  pub journal : LacksLine (codes "journal ") following → said.journal ≡ None
+  pub far : LacksLine (codes "arrive ") following → said.arrivals.far.items ≡ []
+  pub near : LacksLine (codes "arrive ") following → said.arrivals.near.items ≡ []
+
+-- a text is that of a trial: after its world stands its course
+pub record IsTextOf (trial : Trial) (text : List ℕ) : Type 0 where
+  pub course : List ℕ
+  pub head : IsHead trial.world.options (text_from_far (world_of trial.world) ++ course) text
+  pub says : IsCourse trial.course course
