@@ -1,14 +1,11 @@
 -- Which mailboxes stores lend, one thing after another.
-use Rattle.std.proofs.Common.{◌≡◌, ℕ, ◌+◌, ◌<◌, ◌≤◌, Bool, false, List, [], ◌∷◌, ◌++◌, Result, Ok, Err, IfOk, get_or, take, length, refl, ap, sym, subst, ◌∙◌, append_assoc, append-nil}
+use Rattle.std.proofs.Common.{◌≡◌, ℕ, ◌+◌, ◌<◌, ◌≤◌, Bool, List, [], ◌∷◌, ◌++◌, Result, Ok, Err, IfOk, get_or, take, length, refl, ap, sym, subst, ◌∙◌, append_assoc, append-nil}
 use Rattle.std.specs.List.{fold}
 use Rattle.std.proofs.lemmas.List.{take_all, take_more}
 use Rattle.rand_core.specs.Stream.{Stream}
 use Rattle.rules.specs.declared.options.Options.{Options}
-use Rattle.config.specs.declared.config.Boxes.{Boxes}
-use Rattle.config.specs.declared.config.Boxes.TheVariants.{Pair, Matching}
+use Rattle.config.specs.declared.config.Boxes.TheVariants.{Matching}
 use Rattle.config.specs.declared.config.Config.{Config}
-use Rattle.runner.specs.declared.pass.Pass.{Pass}
-use Rattle.channels.specs.declared.fault.BoxFailure.{BoxFailure}
 use Rattle.channels.specs.declared.stores.BoxLists.{Ghosts}
 use Rattle.channels.specs.declared.verdict.Verdict.{Verdict}
 use Rattle.channels.specs.declared.verdict.Verdict.TheVariants.{Clean}
@@ -16,9 +13,9 @@ use Rattle.channels.specs.declared.store_fault.StoreFault.{StoreFault}
 use Rattle.channels.specs.Asked.{IsJoined, Joined, Place}
 use Rattle.channels.specs.Asks.{SettlesFound, Ways, lists_asked}
 use Rattle.channels.specs.Boxes.{Reports, boxes_among}
-use Rattle.channels.specs.Lendings.{Choice, HasRun, HasRunFrom, IsLent, Lends, LendsFor, LendsNone, Lent, LentPlace}
+use Rattle.channels.specs.Lendings.{Choice, Lends, LendsFor, LendsNone, Lent, LentPlace}
 use Rattle.channels.specs.Scope.{options_of}
-use Rattle.channels.specs.Settlings.{AreSettled, IsFoundSettled, IsNamedSettled, SettlesAt, SettlesLent, SettlesOver}
+use Rattle.channels.specs.Settlings.{InTurn, IsFoundSettled, IsNamedSettled, SettlesAt, SettlesLent, SettlesOver}
 use Rattle.channels.specs.Streams.{IsReported}
 
 -- ---- from one moment to another
@@ -71,51 +68,51 @@ Lends-as is_such is_also turns was = record {
 -- ---- several mailboxes
 
 -- one more
-AreSettled-more : {X : Type 0} (is_settled : X → List LentPlace → Type 0) (xs : List X) (x : X) (earlier last : List LentPlace)
-    → AreSettled is_settled xs earlier → is_settled x last → AreSettled is_settled (xs ++ x ∷ []) (last ++ earlier)
-AreSettled-more is_settled [] x earlier last h k =
+InTurn-more : {X : Type 0} (is_such : X → List LentPlace → Type 0) (xs : List X) (x : X) (earlier last : List LentPlace)
+    → InTurn is_such xs earlier → is_such x last → InTurn is_such (xs ++ x ∷ []) (last ++ earlier)
+InTurn-more is_such [] x earlier last h k =
     record { first = last; rest = []; begun = k; followed = refl; all = ap (λ were. last ++ were) h ∙ append-nil last }
-AreSettled-more is_settled (y ∷ ys) x earlier last h k = record {
+InTurn-more is_such (y ∷ ys) x earlier last h k = record {
   first = h.first;
   rest = last ++ h.rest;
   begun = h.begun;
-  followed = AreSettled-more is_settled ys x h.rest last h.followed k;
+  followed = InTurn-more is_such ys x h.rest last h.followed k;
   all = ap (λ were. last ++ were) h.all ∙ sym (append_assoc last h.rest h.first);
 }
 
 -- none yet
-pub Lends-begun : {S X : Type 0} (honest : S → Type 0) (lent : S → List LentPlace) (is_settled : X → List LentPlace → Type 0) (old new : S)
-    → new ≡ old → Lends honest lent old new (AreSettled is_settled [])
-Lends-begun honest lent is_settled old new same = record {
+pub Lends-begun : {S X : Type 0} (honest : S → Type 0) (lent : S → List LentPlace) (is_such : X → List LentPlace → Type 0) (old new : S)
+    → new ≡ old → Lends honest lent old new (InTurn is_such [])
+Lends-begun honest lent is_such old new same = record {
   was_honest = λ h. subst honest same h;
   since = λ h. ([], ap lent same, refl);
 }
 
-Lends-more : {S X : Type 0} {honest : S → Type 0} {lent : S → List LentPlace} {first middle last : S} (is_settled : X → List LentPlace → Type 0)
-    (xs : List X) (x : X) → Lends honest lent first middle (AreSettled is_settled xs) → Lends honest lent middle last (is_settled x)
-    → Lends honest lent first last (AreSettled is_settled (xs ++ x ∷ []))
-Lends-more {S} {X} {honest} {lent} {first} is_settled xs x one next = record {
+Lends-more : {S X : Type 0} {honest : S → Type 0} {lent : S → List LentPlace} {first middle last : S} (is_such : X → List LentPlace → Type 0)
+    (xs : List X) (x : X) → Lends honest lent first middle (InTurn is_such xs) → Lends honest lent middle last (is_such x)
+    → Lends honest lent first last (InTurn is_such (xs ++ x ∷ []))
+Lends-more {S} {X} {honest} {lent} {first} is_such xs x one next = record {
   was_honest = λ h. one.was_honest (next.was_honest h);
   since = λ h.
       let new = next.since h in
       let were = one.since (next.was_honest h) in
-      (new.0 ++ were.0, new.1 ∙ ap (λ ls. new.0 ++ ls) were.1 ∙ sym (append_assoc new.0 were.0 (lent first)), AreSettled-more is_settled xs x were.0 new.0 were.2 new.2);
+      (new.0 ++ were.0, new.1 ∙ ap (λ ls. new.0 ++ ls) were.1 ∙ sym (append_assoc new.0 were.0 (lent first)), InTurn-more is_such xs x were.0 new.0 were.2 new.2);
 }
 
 -- the next of several
-pub Lends-next : {S X : Type 0} {honest : S → Type 0} {lent : S → List LentPlace} {first middle last : S} (is_settled : X → List LentPlace → Type 0)
-    (xs : List X) (i : ℕ) (x : X) → i < length xs → x ≡ get_or xs i x → Lends honest lent first middle (AreSettled is_settled (take i xs))
-    → Lends honest lent middle last (is_settled x) → Lends honest lent first last (AreSettled is_settled (take (i + 1) xs))
-Lends-next {S} {X} {honest} {lent} {first} {middle} {last} is_settled xs i x l e one next =
+pub Lends-next : {S X : Type 0} {honest : S → Type 0} {lent : S → List LentPlace} {first middle last : S} (is_such : X → List LentPlace → Type 0)
+    (xs : List X) (i : ℕ) (x : X) → i < length xs → x ≡ get_or xs i x → Lends honest lent first middle (InTurn is_such (take i xs))
+    → Lends honest lent middle last (is_such x) → Lends honest lent first last (InTurn is_such (take (i + 1) xs))
+Lends-next {S} {X} {honest} {lent} {first} {middle} {last} is_such xs i x l e one next =
     let more : take (i + 1) xs ≡ take i xs ++ x ∷ [] = take_more xs i x l ∙ ap (λ y. take i xs ++ y ∷ []) (sym e) in
-    subst (λ (ys : List X). Lends honest lent first last (AreSettled is_settled ys)) (sym more) (Lends-more is_settled (take i xs) x one next)
+    subst (λ (ys : List X). Lends honest lent first last (InTurn is_such ys)) (sym more) (Lends-more is_such (take i xs) x one next)
 
 -- all
-pub Lends-all : {S X : Type 0} {honest : S → Type 0} {lent : S → List LentPlace} {old new : S} (is_settled : X → List LentPlace → Type 0)
-    (xs : List X) (i : ℕ) → length xs ≤ i → Lends honest lent old new (AreSettled is_settled (take i xs))
-    → Lends honest lent old new (AreSettled is_settled xs)
-Lends-all {S} {X} {honest} {lent} {old} {new} is_settled xs i l h =
-    subst (λ (ys : List X). Lends honest lent old new (AreSettled is_settled ys)) (take_all i xs l) h
+pub Lends-all : {S X : Type 0} {honest : S → Type 0} {lent : S → List LentPlace} {old new : S} (is_such : X → List LentPlace → Type 0)
+    (xs : List X) (i : ℕ) → length xs ≤ i → Lends honest lent old new (InTurn is_such (take i xs))
+    → Lends honest lent old new (InTurn is_such xs)
+Lends-all {S} {X} {honest} {lent} {old} {new} is_such xs i l h =
+    subst (λ (ys : List X). Lends honest lent old new (InTurn is_such ys)) (take_all i xs l) h
 
 -- ---- what was reported
 
@@ -128,25 +125,15 @@ pub IfClean-as : {E P Q : Type 0} (result : Result Verdict E) → (P → Q) → 
 IfClean-as (Ok v) turns h = λ clean. turns (h clean)
 IfClean-as (Err fault) turns h = tt
 
--- a run over it was made with these options and this stream
-pub IfOk-ran : {S : Type 0} {honest : S → Type 0} {lent : S → List LentPlace} {old new : S} (opening : Choice) (place : Place) (asked options : Options)
-    (drawn stream : Stream) (answer : Result Pass BoxFailure) → asked ≡ options → drawn ≡ stream
-    → Lends honest lent old new (IsLent place (λ this. HasRun this (opening this.ours this.alone this.old.device asked) asked drawn answer))
-    → IfOk answer (λ pass. Lends honest lent old new (IsLent place (HasRunFrom opening options stream pass)))
-IfOk-ran {S} {honest} {lent} {old} {new} opening place asked options drawn stream (Ok pass) e d h =
-    subst (λ (o : Options). Lends honest lent old new (IsLent place (HasRunFrom opening o stream pass))) e
-    (subst (λ (s : Stream). Lends honest lent old new (IsLent place (HasRunFrom opening asked s pass))) d h)
-IfOk-ran opening place asked options drawn stream (Err fault) e d h = tt
-
 -- ---- a channel
 
 -- those that its patterns choose
 pub IsFoundSettled-matching : {R : Type 0} (opening : Choice) (stream : R → Stream) (options : Options) (of : Joined) (fars nears names patterns : List (List ℕ))
     (more : List LentPlace) → ((is_chosen : List ℕ → Bool) → Reports is_chosen patterns → names ≡ boxes_among is_chosen fars nears)
-    → AreSettled (IsNamedSettled opening stream options of) names more
+    → InTurn (IsNamedSettled opening stream options of) names more
     → IsFoundSettled opening stream options of fars nears (Matching patterns) more
 IsFoundSettled-matching opening stream options of fars nears names patterns more chosen h = λ is_chosen reports.
-    subst (λ (ns : List (List ℕ)). AreSettled (IsNamedSettled opening stream options of) ns more) (chosen is_chosen reports) h
+    subst (λ (ns : List (List ℕ)). InTurn (IsNamedSettled opening stream options of) ns more) (chosen is_chosen reports) h
 
 -- its stores were listed, and then its mailboxes settled
 pub IfClean-channel : {S R E : Type 0} (b : Ghosts S) (stream : R → Stream) (options : Options) (of : Joined) (fars nears : List (List ℕ)) (first middle last : S)

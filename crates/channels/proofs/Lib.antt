@@ -8,3 +8,4 @@ pub mod ChannelLemmas
 pub mod SearchLemmas
 pub mod LendingLemmas
 pub mod LendLemmas
+pub mod RunLemmas

@@ -18,3 +18,4 @@ pub mod Answered
 pub mod Lendings
 pub mod Causes
 pub mod Settlings
+pub mod Runs

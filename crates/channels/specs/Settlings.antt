@@ -45,17 +45,17 @@ pub record Later (is_first is_rest : List LentPlace → Type 0) (more : List Len
   pub followed : is_rest rest
   pub all : more ≡ rest ++ first
 
--- so is each of these, one after another; what was lent last stands first
-abbrev pub AreSettled : {X : Type 0} → (is_settled : X → List LentPlace → Type 0) → List X → List LentPlace → Type 0
-AreSettled is_settled [] more = more ≡ []
-AreSettled is_settled (x ∷ xs) more = Later (is_settled x) (AreSettled is_settled xs) more
+-- so it was of each of these, one after another; what was lent last stands first
+abbrev pub InTurn : {X : Type 0} → (is_such : X → List LentPlace → Type 0) → List X → List LentPlace → Type 0
+InTurn is_such [] more = more ≡ []
+InTurn is_such (x ∷ xs) more = Later (is_such x) (InTurn is_such xs) more
 
 -- of a channel whose stores have these mailboxes, the one on each side, or each one that the patterns choose, and no other
 abbrev pub IsFoundSettled : {R : Type 0} → Choice → (R → Stream) → Options → Joined → (fars nears : List (List ℕ)) → Boxes → List LentPlace → Type 0
 IsFoundSettled opening stream options of fars nears (Pair far near) more =
     IsBoxSettled opening stream options (record { of = of; far = far; near = near }) more
 IsFoundSettled opening stream options of fars nears (Matching patterns) more = (is_chosen : List ℕ → Bool) → Reports is_chosen patterns
-    → AreSettled (IsNamedSettled opening stream options of) (boxes_among is_chosen fars nears) more
+    → InTurn (IsNamedSettled opening stream options of) (boxes_among is_chosen fars nears) more
 
 -- ---- of stores, from one moment to another
 

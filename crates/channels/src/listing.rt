@@ -8,6 +8,7 @@ ghost use Rattle.channels.specs.declared.verdict.Verdict.TheVariants.{Clean};
 ghost use Rattle.channels.specs.Asks.{Asks, Lists, ListsBoth};
 ghost use Rattle.channels.specs.Courses.{Goes, IsListAsked, IsListedAlone, IsListedAsked, SoFar, listing_verdict};
 ghost use Rattle.channels.specs.Founds.{IsPair};
+ghost use Rattle.channels.specs.Lendings.{LendsNone};
 ghost use Rattle.channels.specs.Lines.{box_line};
 ghost use Rattle.channels.specs.Streams.{Extends, IsQuiet, Notes};
 
@@ -43,6 +44,7 @@ pub(crate) fn list_channel<S: BoxLists, O: Write, E: Write>(
         → Lists S.noted (joined_of of.entry) of.entry.channel.now.boxes (S.asked stores.old.stores.now) (S.asked stores.new.stores.now)) }
     ensures asked { Goes S.noted (S.asked stores.old.stores.now) (S.asked stores.new.stores.now)
         (SoFar result (IsListAsked (joined_of of.entry) of.entry.channel.now.boxes)) }
+    ensures lent { LendsNone S.honest S.lent stores.old.stores.now stores.new.stores.now }
 {
     match &of.channel.boxes {
         Boxes::Pair { far, .. } => {
@@ -69,6 +71,7 @@ fn matching<S: BoxLists, O: Write, E: Write>(
     ensures asks { OnOk result (ListsBoth S.noted (joined_of of.entry) (S.asked stores.old.stores.now) (S.asked stores.new.stores.now)) }
     ensures listed { Goes S.noted (S.asked stores.old.stores.now) (S.asked stores.new.stores.now)
         (IsListedAsked (joined_of of.entry) IsListedAlone (listing_verdict result)) }
+    ensures lent { LendsNone S.honest S.lent stores.old.stores.now stores.new.stores.now }
 {
     let found = Found::of(of, stores)?;
     found.matching(alloc, patterns)
@@ -89,6 +92,7 @@ fn list_boxes<S: BoxLists, O: Write, E: Write>(
     ensures failed { Notes false stores.new.write_failed result }
     ensures asks { Asks S.noted S.asked stores.old.stores stores.new.stores [] }
     ensures clean { IfOk result (λ verdict. verdict ≡ Clean) }
+    ensures lent { LendsNone S.honest S.lent stores.old.stores.now stores.new.stores.now }
 {
     stores.report_notices(of)?;
     print_boxes(stores, of.channel, boxes)?;

@@ -6,6 +6,7 @@ ghost use Rattle.channels.specs.declared.verdict.Verdict.TheVariants.{Clean};
 ghost use Rattle.channels.specs.Asks.{GoesAll, GoesAt, GoesOver, GoesThrough, ways_of};
 ghost use Rattle.channels.specs.Courses.{Goes, GoesAsFar, GoesUntil, IsLineAsked, IsPlaceAsked, SoFar};
 ghost use Rattle.channels.specs.Refusals.{IsRefused};
+ghost use Rattle.channels.specs.Runs.{RunsAt, RunsOnly, RunsOver, RunsThrough};
 ghost use Rattle.channels.specs.Settlings.{SettlesAll, SettlesAt, SettlesOver, SettlesThrough};
 ghost use Rattle.channels.specs.Streams.{Extends, HasNotices, IsQuiet, Notes};
 
@@ -59,6 +60,7 @@ pub fn run_config<S: Stores, R: Rng, O: Write, E: Write>(
     ensures refused { IsRefused config.now request.now → (0 < result) × (stores.new ≡ stores.old) × (rng.new ≡ rng.old) × (out.new ≡ out.old) }
     ensures settled { result ≡ 0 → request.now.lists ≡ false
         → SettlesAll S.BoxLists R.stream config.now request.now stores.old stores.new }
+    ensures runs { RunsOnly S.BoxLists R.stream config.now request.now stores.old stores.new }
 {
     let work = LineWork {
         alloc,
@@ -96,6 +98,8 @@ fn run_reported<S: Stores, R: Rng, O: Write, E: Write>(
         course.now.places.items) result (S.asked stores.old.stores.now) (S.asked stores.new.stores.now) }
     ensures settled { result ≡ 0 → work.entry.request.now.lists ≡ false → SettlesThrough S.BoxLists R.stream work.entry.config.now
         (ways_of work.entry.request.now course.now.cells) course.now.places.items stores.old.stores.now stores.new.stores.now }
+    ensures runs { RunsThrough S.BoxLists R.stream work.entry.config.now (ways_of work.entry.request.now course.now.cells) course.now.places.items
+        stores.old.stores.now stores.new.stores.now }
 {
     match run_course(work, course, stores, rng) {
         Ok(verdict) => {
@@ -129,6 +133,8 @@ fn run_course<S: Stores, R: Rng, O: Write, E: Write>(
     ensures settled { work.entry.request.now.lists ≡ false → IfOk result (λ verdict. verdict ≡ Clean
         → SettlesOver S.BoxLists R.stream work.entry.config.now (ways_of work.entry.request.now course.now.cells) course.now.places.items
         stores.old.stores.now stores.new.stores.now) }
+    ensures runs { RunsOver S.BoxLists R.stream work.entry.config.now (ways_of work.entry.request.now course.now.cells) course.now.places.items
+        stores.old.stores.now stores.new.stores.now }
 {
     let mut verdict = Verdict::Clean;
     for place in &course.places {
@@ -161,6 +167,8 @@ fn run_place<S: Stores, R: Rng, O: Write, E: Write>(
     ensures settled { work.entry.request.now.lists ≡ false → IfOk result (λ verdict. verdict ≡ Clean
         → SettlesAt S.BoxLists R.stream work.entry.config.now (ways_of work.entry.request.now cells) place stores.old.stores.now
         stores.new.stores.now) }
+    ensures runs { RunsAt S.BoxLists R.stream work.entry.config.now (ways_of work.entry.request.now cells) place stores.old.stores.now
+        stores.new.stores.now }
 {
     let Some(of) = ChannelStores::at(work.config, place) else {
         return stores.print_no_channel();

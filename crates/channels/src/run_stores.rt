@@ -11,10 +11,11 @@ ghost use Rattle.channels.specs.Asks.{Asks, run_attempts};
 ghost use Rattle.channels.specs.Boxes.{Rises};
 ghost use Rattle.channels.specs.Causes.{IsExplained, IsFailureOf, IsFaultOf, IsGivenUp, IsRunFault, NamesCause, NamesUid, copy_side};
 ghost use Rattle.channels.specs.Explanations.{explanation_line, explanations};
-ghost use Rattle.channels.specs.Lendings.{HasRunFrom, IsLent, Lends, LendsNone};
+ghost use Rattle.channels.specs.Lendings.{Lends, LendsNone};
 ghost use Rattle.channels.specs.Lines.{box_line};
 ghost use Rattle.channels.specs.Courses.{giving_asked, settled_asked};
 ghost use Rattle.channels.specs.Outcomes.{is_stale, outcome_of_box_fault, outcome_of_giving, outcome_of_run, verdict_of};
+ghost use Rattle.channels.specs.Runs.{IsGivenUpBy, IsRunBy, IsRunToEnd};
 ghost use Rattle.channels.specs.Streams.{Extends, HasNotices, IsReported, Notes};
 
 use crate::channel_box::{ChannelBox, ChannelStores};
@@ -340,8 +341,8 @@ impl<S: Stores, O: Write, E: Write> RunStores<'_, S, O, E> {
         requires going { self.old.write_failed ≡ false }
         ensures others { self.new ≡ record self.old { stores = self.new.stores } }
         ensures asks { Asks S.noted S.asked self.old.stores self.new.stores (settled_asked options.now (place_of place.entry) result) }
-        ensures lent { IfOk result (λ pass. Lends S.honest S.lent self.old.stores.now self.new.stores.now
-            (IsLent (place_of place.entry) (HasRunFrom S.opening options.now (R.stream rng.old) pass))) }
+        ensures lent { Lends S.honest S.lent self.old.stores.now self.new.stores.now
+            (IsRunToEnd S.opening options.now (R.stream rng.old) (place_of place.entry) result) }
         ensures answered { IsFailureOf result (S.answered self.old.stores.now) (S.answered self.new.stores.now) }
         ensures due { IfErr result (λ failure. is_some failure.giving_up ≡ is_stale failure.fault) }
     {
@@ -367,6 +368,7 @@ impl<S: Stores, O: Write, E: Write> RunStores<'_, S, O, E> {
         ensures others { self.new ≡ record self.old { stores = self.new.stores } }
         ensures asks { Asks S.noted S.asked self.old.stores self.new.stores
             (giving_asked (option_map outcome_of_giving result) (outcome_of_box_fault fault.now) (place_of place.entry)) }
+        ensures lent { Lends S.honest S.lent self.old.stores.now self.new.stores.now (IsGivenUpBy (place_of place.entry) result) }
         ensures answered { IsGivenUp (S.answered self.old.stores.now) (S.answered self.new.stores.now) result }
         ensures due { is_some result ≡ is_stale fault.now }
     {
@@ -383,6 +385,7 @@ impl<S: Stores, O: Write, E: Write> RunStores<'_, S, O, E> {
         ensures others { self.new ≡ record self.old { stores = self.new.stores } }
         ensures asks { Asks S.noted S.asked self.old.stores self.new.stores
             (GaveUp (place_of place.entry) (outcome_of_giving result) ∷ []) }
+        ensures lent { Lends S.honest S.lent self.old.stores.now self.new.stores.now (IsGivenUpBy (place_of place.entry) (Some result)) }
         ensures answered { IsGivenUp (S.answered self.old.stores.now) (S.answered self.new.stores.now) (Some result) }
     {
         match self.stores.work_over(place, GiveUp { alloc, options }) {
@@ -405,8 +408,8 @@ impl<S: Stores, O: Write, E: Write> RunStores<'_, S, O, E> {
         ensures others { self.new ≡ record self.old { stores = self.new.stores } }
         ensures asks { Asks S.noted S.asked self.old.stores self.new.stores
             (Ran (place_of place.entry) options.now run_attempts (outcome_of_run result) ∷ []) }
-        ensures lent { IfOk result (λ pass. Lends S.honest S.lent self.old.stores.now self.new.stores.now
-            (IsLent (place_of place.entry) (HasRunFrom S.opening options.now (R.stream rng.old) pass))) }
+        ensures lent { Lends S.honest S.lent self.old.stores.now self.new.stores.now
+            (IsRunBy S.opening options.now (R.stream rng.old) (place_of place.entry) result) }
         ensures answered { IsFaultOf result (S.answered self.old.stores.now) (S.answered self.new.stores.now) }
     {
         match self.settle_open(alloc, place, options, rng) {
@@ -427,8 +430,8 @@ impl<S: Stores, O: Write, E: Write> RunStores<'_, S, O, E> {
         ensures others { self.new ≡ record self.old { stores = self.new.stores } }
         ensures asks { Asks S.noted S.asked self.old.stores self.new.stores
             (Ran (place_of place.entry) options.now run_attempts (outcome_of_run result) ∷ []) }
-        ensures lent { IfOk result (λ pass. Lends S.honest S.lent self.old.stores.now self.new.stores.now
-            (IsLent (place_of place.entry) (HasRunFrom S.opening options.now (R.stream rng.old) pass))) }
+        ensures lent { Lends S.honest S.lent self.old.stores.now self.new.stores.now
+            (IsRunBy S.opening options.now (R.stream rng.old) (place_of place.entry) result) }
         ensures answered { S.answered self.new.stores.now ≡ S.answered self.old.stores.now }
     {
         let run = RunOnce::<'_, R, S>::new(alloc, options, rng);

@@ -11,8 +11,9 @@ ghost use Rattle.channels.specs.Boxes.{Rises};
 ghost use Rattle.channels.specs.Courses.{FindsAbsence, Follows, Goes, InOrder, IsBoxAsked, IsChannelAsked, IsFoundAsked, IsNamedAsked, IsRunAsked, Makes, SoFar, asking_if, is_over};
 ghost use Rattle.channels.specs.Explanations.{explanation_line, explanations};
 ghost use Rattle.channels.specs.Lendings.{Lends, LendsNone};
-ghost use Rattle.channels.specs.Settlings.{AreSettled, IsBoxSettled, IsFoundSettled, IsNamedSettled, SettlesLent};
+ghost use Rattle.channels.specs.Settlings.{InTurn, IsBoxSettled, IsFoundSettled, IsNamedSettled, SettlesLent};
 ghost use Rattle.channels.specs.Outcomes.{IsAbsence, IsAbsenceOf, IsReportedOf, outcome_of, outcome_of_box_fault, outcome_of_pass};
+ghost use Rattle.channels.specs.Runs.{MayRun, MayRunFound, MayRunNamed, RunsChannel};
 ghost use Rattle.channels.specs.Streams.{Extends, IsAnswered, IsQuiet, Notes};
 ghost use Rattle.reports.specs.Answers.{answer_of};
 
@@ -66,6 +67,7 @@ pub(crate) fn settle_channel<S: Stores, R: Rng, O: Write, E: Write>(
         (SoFar result (IsChannelAsked work.entry.options.now (joined_of work.entry.of))) }
     ensures settled { IfOk result (λ verdict. verdict ≡ Clean
         → SettlesLent S.BoxLists R.stream work.entry.options.now (joined_of work.entry.of) stores.old.stores.now stores.new.stores.now) }
+    ensures runs { RunsChannel S.BoxLists R.stream work.entry.options.now (joined_of work.entry.of) stores.old.stores.now stores.new.stores.now }
 {
     match Found::of(work.of, stores) {
         Ok(found) => {
@@ -100,6 +102,9 @@ fn settle_found<S: Stores, R: Rng, O: Write, E: Write>(
     ensures settled { IfOk result (λ verdict. verdict ≡ Clean → Lends S.honest S.lent stores.old.stores.now stores.new.stores.now
         (IsFoundSettled S.opening R.stream work.entry.options.now (joined_of work.entry.of) found.now.far.items found.now.near.items
         work.entry.of.channel.now.boxes)) }
+    ensures runs { Lends S.honest S.lent stores.old.stores.now stores.new.stores.now
+        (MayRunFound S.opening R.stream work.entry.options.now (joined_of work.entry.of) found.now.far.items found.now.near.items
+        work.entry.of.channel.now.boxes) }
 {
     match &work.of.channel.boxes {
         Boxes::Pair { far, near } => {
@@ -140,7 +145,9 @@ fn settle_boxes<S: Stores, R: Rng, O: Write, E: Write>(
         (SoFar result (InOrder is_over (IsNamedAsked work.entry.options.now (joined_of work.entry.of) found.now.far.items
         found.now.near.items) boxes.now)) }
     ensures settled { IfOk result (λ verdict. verdict ≡ Clean → Lends S.honest S.lent stores.old.stores.now stores.new.stores.now
-        (AreSettled (IsNamedSettled S.opening R.stream work.entry.options.now (joined_of work.entry.of)) boxes.now)) }
+        (InTurn (IsNamedSettled S.opening R.stream work.entry.options.now (joined_of work.entry.of)) boxes.now)) }
+    ensures runs { Lends S.honest S.lent stores.old.stores.now stores.new.stores.now
+        (InTurn (MayRunNamed S.opening R.stream work.entry.options.now (joined_of work.entry.of)) boxes.now) }
 {
     let mut verdict = Verdict::Clean;
     for name in boxes {
@@ -179,6 +186,8 @@ fn settle_box<S: Stores, R: Rng, O: Write, E: Write>(
         (SoFar result (IsBoxAsked work.entry.options.now (place_of place.entry) absent)) }
     ensures settled { IfOk result (λ verdict. verdict ≡ Clean → Lends S.honest S.lent stores.old.stores.now stores.new.stores.now
         (IsBoxSettled S.opening R.stream work.entry.options.now (place_of place.entry))) }
+    ensures runs { Lends S.honest S.lent stores.old.stores.now stores.new.stores.now
+        (MayRun S.opening R.stream work.entry.options.now (place_of place.entry)) }
 {
     let verdict = make_and_run(work, place, absent, stores, rng)?;
     stores.report_notices(place.of)?;
@@ -207,6 +216,8 @@ fn make_and_run<S: Stores, R: Rng, O: Write, E: Write>(
         (SoFar result (IsBoxAsked work.entry.options.now (place_of place.entry) absent)) }
     ensures settled { IfOk result (λ verdict. verdict ≡ Clean → Lends S.honest S.lent stores.old.stores.now stores.new.stores.now
         (IsBoxSettled S.opening R.stream work.entry.options.now (place_of place.entry))) }
+    ensures runs { Lends S.honest S.lent stores.old.stores.now stores.new.stores.now
+        (MayRun S.opening R.stream work.entry.options.now (place_of place.entry)) }
 {
     match make_absent(place, absent, stores) {
         Ok(()) => {
@@ -238,6 +249,8 @@ fn run_box<S: Stores, R: Rng, O: Write, E: Write>(
         (SoFar result (IsRunAsked work.entry.options.now (place_of place.entry))) }
     ensures settled { IfOk result (λ verdict. verdict ≡ Clean → Lends S.honest S.lent stores.old.stores.now stores.new.stores.now
         (IsBoxSettled S.opening R.stream work.entry.options.now (place_of place.entry))) }
+    ensures runs { Lends S.honest S.lent stores.old.stores.now stores.new.stores.now
+        (MayRun S.opening R.stream work.entry.options.now (place_of place.entry)) }
 {
     stores.print_box(place.of.channel, place.far)?;
     match stores.settle(work.alloc, place, work.options, rng) {
@@ -265,7 +278,7 @@ fn make_absent<S: Stores, O: Write, E: Write>(
     ensures asks { OnOk result (S.asked stores.new.stores.now
         ≡ fold S.noted (S.asked stores.old.stores.now) (makings (place_of place.entry) absent)) }
     ensures asked { Makes S.noted (place_of place.entry) absent (outcome_of result) (S.asked stores.old.stores.now) (S.asked stores.new.stores.now) }
-    ensures lent { OnOk result (LendsNone S.honest S.lent stores.old.stores.now stores.new.stores.now) }
+    ensures lent { LendsNone S.honest S.lent stores.old.stores.now stores.new.stores.now }
 {
     if let Some(side) = uncovered(absent, place.of.channel.create) {
         return Err(absence(side, place, stores));
@@ -288,6 +301,7 @@ fn absence<S: Stores, O: Write, E: Write>(
     ensures reported { IsAbsence side result }
     ensures ends { outcome_of_box_fault result ≡ Failed }
     ensures asked { FindsAbsence S.noted (place_of place.entry) side result (S.asked stores.old.stores.now) (S.asked stores.new.stores.now) }
+    ensures lent { LendsNone S.honest S.lent stores.old.stores.now stores.new.stores.now }
 {
     match stores.has_state(place) {
         Ok(true) => BoxFailure::Removed(side),
@@ -306,7 +320,7 @@ fn find_new<S: Stores, O: Write, E: Write>(
     ensures stores { stores.new.stores.ghost_name ≡ stores.old.stores.ghost_name }
     ensures asked { Follows S.noted (S.asked stores.old.stores.now) (S.asked stores.new.stores.now) (outcome_of result)
         (asking_if (absent.far || absent.near) (FoundNew (place_of place.entry)) (outcome_of result)) }
-    ensures lent { OnOk result (LendsNone S.honest S.lent stores.old.stores.now stores.new.stores.now) }
+    ensures lent { LendsNone S.honest S.lent stores.old.stores.now stores.new.stores.now }
 {
     let Some(side) = first_of(absent) else {
         return Ok(());
@@ -330,7 +344,7 @@ fn make_side<S: Stores, O: Write, E: Write>(
     ensures stores { stores.new.stores.ghost_name ≡ stores.old.stores.ghost_name }
     ensures asked { Follows S.noted (S.asked stores.old.stores.now) (S.asked stores.new.stores.now) (outcome_of result)
         (asking_if is_absent (Made side (place_of place.entry)) (outcome_of result)) }
-    ensures lent { OnOk result (LendsNone S.honest S.lent stores.old.stores.now stores.new.stores.now) }
+    ensures lent { LendsNone S.honest S.lent stores.old.stores.now stores.new.stores.now }
 {
     if is_absent {
         stores.make(side, place)?;
@@ -363,7 +377,7 @@ fn report_left_out<S: Stores, O: Write, E: Write>(
     ensures failed { Notes false stores.new.write_failed result }
     ensures asks { Asks S.noted S.asked stores.old.stores stores.new.stores [] }
     ensures goes_on { IfOk result (IsReportedOf Done) }
-    ensures lent { IfOk result (λ verdict. verdict ≡ Clean → LendsNone S.honest S.lent stores.old.stores.now stores.new.stores.now) }
+    ensures lent { LendsNone S.honest S.lent stores.old.stores.now stores.new.stores.now }
 {
     let paths = stores.left_out();
     report_paths(place, paths, stores)
@@ -384,7 +398,7 @@ fn report_paths<S: Stores, O: Write, E: Write>(
     ensures asks { Asks S.noted S.asked stores.old.stores stores.new.stores [] }
     ensures reported { IfOk result (λ verdict. verdict ≡ Clean → paths.items ≡ []) }
     ensures goes_on { IfOk result (IsReportedOf Done) }
-    ensures lent { IfOk result (λ verdict. verdict ≡ Clean → LendsNone S.honest S.lent stores.old.stores.now stores.new.stores.now) }
+    ensures lent { LendsNone S.honest S.lent stores.old.stores.now stores.new.stores.now }
 {
     if paths.is_empty() {
         return Ok(Verdict::Clean);
@@ -413,7 +427,7 @@ fn print_answer<S: Stores, O: Write, E: Write>(
         (flat_map explanation_line (explanations pass.now)) (E.contents stores.old.err.now) (E.contents stores.new.err.now)) }
     ensures asks { Asks S.noted S.asked stores.old.stores stores.new.stores [] }
     ensures states { IfOk result (IsReportedOf (outcome_of_pass pass.now)) }
-    ensures lent { OnOk result (LendsNone S.honest S.lent stores.old.stores.now stores.new.stores.now) }
+    ensures lent { LendsNone S.honest S.lent stores.old.stores.now stores.new.stores.now }
 {
     match answer_text(alloc, pass) {
         Ok(text) => {

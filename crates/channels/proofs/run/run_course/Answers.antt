@@ -8,6 +8,7 @@ use Rattle.channels.proofs.ChannelLemmas.{IsPlaceAsked-possible}
 use Rattle.channels.proofs.OrderLemmas.{Goes-all, Goes-begun, Goes-next, Goes-none, places_next}
 use Rattle.channels.proofs.AskLemmas.{GoesOver-next, both_clean}
 use Rattle.channels.proofs.LendLemmas.{SettlesOver-all, SettlesOver-next}
+use Rattle.channels.proofs.RunLemmas.{RunsOver-front, RunsOver-next}
 use Rattle.channels.proofs.run.run_course.Goals as goal
 
 -- what was reported of one more channel
@@ -27,6 +28,9 @@ loop-place-preserved g c = record {
       SettlesOver-next g.S.BoxLists g.R.Rng.stream c.args.work.config.now (ways_of c.args.work.request.now c.args.course.now.cells) c.args.course.now.places.items
       c.deref-place-items.result.now c.loop-place.place-index c.args.stores.now.stores.now c.loop-place.stores.stores.now c.run_place.new.stores.stores.now
       c.deref-place-items.ensures.value c.loop-place-test.true (c.loop-place.invariant.settled off both.0) (c.in_ok-run_place.ensures.settled off both.1);
+  runs = RunsOver-next g.S.BoxLists g.R.Rng.stream c.args.work.config.now (ways_of c.args.work.request.now c.args.course.now.cells) c.args.course.now.places.items
+      c.deref-place-items.result.now c.loop-place.place-index c.args.stores.now.stores.now c.loop-place.stores.stores.now c.run_place.new.stores.stores.now
+      c.deref-place-items.ensures.value c.loop-place-test.true c.loop-place.invariant.runs c.run_place.ensures.runs;
   going = grind (arith, common_steps);
 }
 
@@ -41,6 +45,7 @@ loop-place-init g c = record {
   whole = grind (arith, common_steps, stream_steps);
   asked = Goes-none g.S.BoxLists.noted (g.S.BoxLists.asked c.args.stores.now.stores.now) (g.S.BoxLists.asked c.args.stores.now.stores.now) (λ _. false) (IsPlaceAsked c.args.work.config.now (ways_of c.args.work.request.now c.args.course.now.cells)) c.args.course.now.places.items refl;
   settled = λ off clean. refl;
+  runs = refl;
   going = grind (arith, common_steps);
 }
 
@@ -64,3 +69,17 @@ returns-clause-settled g c = λ off clean.
     let all : length c.args.course.now.places.items ≤ c.loop-place.place-index = subst (λ xs. length xs ≤ c.loop-place.place-index) c.deref-place-items.ensures.value c.loop-place-test.false in
     SettlesOver-all g.S.BoxLists g.R.Rng.stream c.args.work.config.now (ways_of c.args.work.request.now c.args.course.now.cells) c.args.course.now.places.items
     c.loop-place.place-index c.args.stores.now.stores.now c.loop-place.stores.stores.now all (c.loop-place.invariant.settled off clean)
+
+-- whatever was reported, each of their mailboxes was run once at most
+pub returns-clause-runs : goal.returns-clause-runs
+returns-clause-runs g c =
+    RunsOver-front g.S.BoxLists g.R.Rng.stream c.args.work.config.now (ways_of c.args.work.request.now c.args.course.now.cells) c.loop-place.place-index
+    c.args.course.now.places.items c.args.stores.now.stores.now c.loop-place.stores.stores.now c.loop-place.invariant.runs
+
+pub returns-in_err-run_place-clause-runs : goal.returns-in_err-run_place-clause-runs
+returns-in_err-run_place-clause-runs g c =
+    RunsOver-front g.S.BoxLists g.R.Rng.stream c.args.work.config.now (ways_of c.args.work.request.now c.args.course.now.cells) (c.loop-place.place-index + 1)
+    c.args.course.now.places.items c.args.stores.now.stores.now c.run_place.new.stores.stores.now
+    (RunsOver-next g.S.BoxLists g.R.Rng.stream c.args.work.config.now (ways_of c.args.work.request.now c.args.course.now.cells) c.args.course.now.places.items
+    c.deref-place-items.result.now c.loop-place.place-index c.args.stores.now.stores.now c.loop-place.stores.stores.now c.run_place.new.stores.stores.now
+    c.deref-place-items.ensures.value c.loop-place-test.true c.loop-place.invariant.runs c.run_place.ensures.runs)

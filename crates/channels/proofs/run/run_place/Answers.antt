@@ -1,10 +1,11 @@
-use Rattle.std.proofs.Common.{◌≡◌, true, false, arith, sym, ◌∙◌}
+use Rattle.std.proofs.Common.{◌≡◌, true, false, arith, inl, sym, ◌∙◌}
 use Rattle.std.proofs.lemmas.Grind.{common_steps}
 use Rattle.channels.specs.Asked.{joined_of}
 use Rattle.channels.specs.Asks.{ways_of}
 use Rattle.channels.proofs.AskLemmas.{IfOk-listed, IfOk-settled}
 use Rattle.channels.proofs.ChannelLemmas.{SoFar-place_listed, SoFar-place_settled, SoFar-place_unsettled, SoFar-unjoined}
-use Rattle.channels.proofs.LendLemmas.{IfClean-place, never_clean}
+use Rattle.channels.proofs.LendLemmas.{IfClean-place, LendsNone-same}
+use Rattle.channels.proofs.RunLemmas.{RunsAt-channel}
 use Rattle.channels.proofs.run.run_place.Goals as goal
 
 -- the channel was listed
@@ -57,3 +58,22 @@ returns-in-Ok-clause-settled g c = λ off.
     IfClean-place g.S.BoxLists g.R.Rng.stream c.args.work.config.now (ways_of c.args.work.request.now c.args.cells) c.args.place (joined_of c.in-Some.of)
     c.in-Ok.options c.args.stores.now.stores.now c.settle_channel.new.stores.stores.now c.settle_channel.result c.in-Some.ensures c.in-Ok.ensures
     c.settle_channel.ensures.settled
+
+-- its mailboxes were run, with its options
+pub returns-in-Ok-clause-runs : goal.returns-in-Ok-clause-runs
+returns-in-Ok-clause-runs g c =
+    RunsAt-channel g.S.BoxLists g.R.Rng.stream c.args.work.config.now (ways_of c.args.work.request.now c.args.cells) c.args.place (joined_of c.in-Some.of)
+    c.in-Ok.options c.args.stores.now.stores.now c.settle_channel.new.stores.stores.now c.in-Some.ensures c.if-work.false c.in-Ok.ensures
+    c.settle_channel.ensures.runs
+
+-- or none was
+pub returns-in-Err-clause-runs : goal.returns-in-Err-clause-runs
+returns-in-Err-clause-runs g c = inl c.print_list.ensures.lent
+
+pub returns-then-work-clause-runs : goal.returns-then-work-clause-runs
+returns-then-work-clause-runs g c = inl c.list_channel.ensures.lent
+
+pub returns-in_default-clause-runs : goal.returns-in_default-clause-runs
+returns-in_default-clause-runs g c =
+    let same : c.print_no_channel.new.self.stores.now ≡ c.args.stores.now.stores.now = grind (arith, common_steps) in
+    inl (LendsNone-same _ _ _ _ same)

@@ -3,6 +3,7 @@ use Rattle.std.proofs.lemmas.Grind.{common_steps}
 use Rattle.channels.specs.Asks.{ways_of}
 use Rattle.channels.specs.Courses.{IsLineAsked}
 use Rattle.channels.proofs.ChannelLemmas.{GoesUntil-begun, GoesUntil-end, clean_status}
+use Rattle.channels.proofs.LendLemmas.{LendsNone-same}
 use Rattle.channels.proofs.run.run_reported.Goals as goal
 
 -- all of it, and then the end
@@ -34,4 +35,15 @@ returns-in-Ok-clause-settled g c = λ zero off. record {
   over = c.in-Ok.ensures.settled off (clean_status c.in-Ok.verdict (sym c.status.ensures ∙ zero));
   ended = c.end.ensures.asks.1;
   none = c.end.ensures.lent;
+}
+
+-- whatever was reported, their mailboxes were run once at most
+pub returns-in-Ok-clause-runs : goal.returns-in-Ok-clause-runs
+returns-in-Ok-clause-runs g c = record { last = c.run_course.new.stores.stores.now; over = c.run_course.ensures.runs; none = c.end.ensures.lent }
+
+pub returns-in-Err-clause-runs : goal.returns-in-Err-clause-runs
+returns-in-Err-clause-runs g c = record {
+  last = c.run_course.new.stores.stores.now;
+  over = c.run_course.ensures.runs;
+  none = LendsNone-same g.S.BoxLists.honest g.S.BoxLists.lent _ _ refl;
 }

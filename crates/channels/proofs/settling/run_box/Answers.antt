@@ -1,4 +1,4 @@
-use Rattle.std.proofs.Common.{◌≡◌, List, Option, None, option_map, arith, ap, sym, ◌∙◌}
+use Rattle.std.proofs.Common.{◌≡◌, List, Option, None, Ok, Err, option_map, arith, ap, ◌∙◌, refl, inl}
 use Rattle.std.specs.List.{fold}
 use Rattle.std.proofs.lemmas.Grind.{common_steps}
 use Rattle.channels.proofs.StreamLemmas.{IsQuiet-both, IsQuiet-from, stream_steps}
@@ -11,8 +11,9 @@ use Rattle.channels.proofs.CourseLemmas.{IsReportedOf-following, was_done}
 use Rattle.channels.proofs.OrderLemmas.{Begun-run, Begun-unrun, Goes-run, SoFar-fault}
 use Rattle.channels.specs.Lendings.{HasRunFrom, IsLent}
 use Rattle.channels.specs.Settlings.{IsBoxSettled}
-use Rattle.channels.proofs.AskLemmas.{both_clean}
-use Rattle.channels.proofs.LendLemmas.{Lends-after, Lends-as, Lends-then, LendsNone-same, never_clean}
+use Rattle.channels.specs.Runs.{MayRun}
+use Rattle.channels.proofs.LendLemmas.{Lends-after, Lends-as, Lends-then, LendsNone-both, LendsNone-same, never_clean}
+use Rattle.channels.proofs.RunLemmas.{Lends-none, Lends-once}
 use Rattle.channels.proofs.settling.run_box.Goals as goal
 
 -- the answer and what was left out were reported, over what the run left as it was
@@ -87,7 +88,6 @@ returns-in_ok-report_left_out-in-Ok-clause-asks g c =
 -- and it is settled
 pub returns-in_ok-report_left_out-in-Ok-clause-settled : goal.returns-in_ok-report_left_out-in-Ok-clause-settled
 returns-in_ok-report_left_out-in-Ok-clause-settled g c = λ clean.
-    let both = both_clean c.in_ok-verdict-in-Ok.verdict c.in_ok-report_left_out-in-Ok.field-0 (sym c.and.ensures ∙ clean) in
     let same : c.print_box.new.self.stores.now ≡ c.args.stores.now.stores.now = grind (arith, common_steps) in
     Lends-as (IsLent (place_of c.args.place) (HasRunFrom g.S.BoxLists.opening c.args.work.options.now (g.R.Rng.stream c.args.rng.now) c.in-Ok.pass))
     (IsBoxSettled g.S.BoxLists.opening g.R.Rng.stream c.args.work.options.now (place_of c.args.place))
@@ -100,8 +100,38 @@ returns-in_ok-report_left_out-in-Ok-clause-settled g c = λ clean.
           c.in_ok-verdict-in-Ok.ensures.states c.in_ok-report_left_out-in-Ok.ensures.goes_on) clean;
     })
     (Lends-after (LendsNone-same _ _ _ _ same) (Lends-then (Lends-then c.in-Ok.ensures.lent c.in_ok-verdict-in-Ok.ensures.lent)
-    (c.in_ok-report_left_out-in-Ok.ensures.lent both.1)))
+    c.in_ok-report_left_out-in-Ok.ensures.lent))
 
 -- of a fault it is not said
 pub returns-in-Err-clause-settled : goal.returns-in-Err-clause-settled
 returns-in-Err-clause-settled g c = never_clean _ c.report_failure.result c.report_failure.ensures.reported
+
+-- whatever was reported, it was run once at most
+pub returns-in_err-print_box-clause-runs : goal.returns-in_err-print_box-clause-runs
+returns-in_err-print_box-clause-runs g c =
+    let same : c.print_box.new.self.stores.now ≡ c.args.stores.now.stores.now = grind (arith, common_steps) in
+    Lends-none (MayRun g.S.BoxLists.opening g.R.Rng.stream c.args.work.options.now (place_of c.args.place)) (inl refl) (LendsNone-same _ _ _ _ same)
+
+pub returns-in_err-verdict-in-Ok-clause-runs : goal.returns-in_err-verdict-in-Ok-clause-runs
+returns-in_err-verdict-in-Ok-clause-runs g c =
+    let same : c.print_box.new.self.stores.now ≡ c.args.stores.now.stores.now = grind (arith, common_steps) in
+    Lends-once g.S.BoxLists.opening g.R.Rng.stream c.args.work.options.now (place_of c.args.place) c.args.rng.now (Ok c.in-Ok.pass) (LendsNone-same _ _ _ _ same)
+    c.in-Ok.ensures.lent c.in_err-verdict-in-Ok.ensures.lent
+
+pub returns-in_err-report_left_out-in-Ok-clause-runs : goal.returns-in_err-report_left_out-in-Ok-clause-runs
+returns-in_err-report_left_out-in-Ok-clause-runs g c =
+    let same : c.print_box.new.self.stores.now ≡ c.args.stores.now.stores.now = grind (arith, common_steps) in
+    Lends-once g.S.BoxLists.opening g.R.Rng.stream c.args.work.options.now (place_of c.args.place) c.args.rng.now (Ok c.in-Ok.pass) (LendsNone-same _ _ _ _ same)
+    c.in-Ok.ensures.lent (LendsNone-both c.in_ok-verdict-in-Ok.ensures.lent c.in_err-report_left_out-in-Ok.ensures.lent)
+
+pub returns-in_ok-report_left_out-in-Ok-clause-runs : goal.returns-in_ok-report_left_out-in-Ok-clause-runs
+returns-in_ok-report_left_out-in-Ok-clause-runs g c =
+    let same : c.print_box.new.self.stores.now ≡ c.args.stores.now.stores.now = grind (arith, common_steps) in
+    Lends-once g.S.BoxLists.opening g.R.Rng.stream c.args.work.options.now (place_of c.args.place) c.args.rng.now (Ok c.in-Ok.pass) (LendsNone-same _ _ _ _ same)
+    c.in-Ok.ensures.lent (LendsNone-both c.in_ok-verdict-in-Ok.ensures.lent c.in_ok-report_left_out-in-Ok.ensures.lent)
+
+pub returns-in-Err-clause-runs : goal.returns-in-Err-clause-runs
+returns-in-Err-clause-runs g c =
+    let same : c.print_box.new.self.stores.now ≡ c.args.stores.now.stores.now = grind (arith, common_steps) in
+    Lends-once g.S.BoxLists.opening g.R.Rng.stream c.args.work.options.now (place_of c.args.place) c.args.rng.now (Err c.in-Err.failure) (LendsNone-same _ _ _ _ same)
+    c.in-Err.ensures.lent c.report_failure.ensures.lent

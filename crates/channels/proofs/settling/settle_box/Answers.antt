@@ -32,3 +32,10 @@ returns-clause-asked g c =
 -- without a fault it is settled
 pub returns-clause-settled : goal.returns-clause-settled
 returns-clause-settled g c = λ clean. Lends-then (c.in_ok-verdict.ensures.settled clean) c.report_notices.ensures.lent
+
+-- whatever was reported, it was run once at most
+pub returns-in_err-report_notices-clause-runs : goal.returns-in_err-report_notices-clause-runs
+returns-in_err-report_notices-clause-runs g c = Lends-then c.make_and_run.ensures.runs c.report_notices.ensures.lent
+
+pub returns-clause-runs : goal.returns-clause-runs
+returns-clause-runs g c = Lends-then c.make_and_run.ensures.runs c.report_notices.ensures.lent

@@ -9,7 +9,9 @@ use Rattle.channels.proofs.ChannelLemmas.{Goes-named, IsNamedAsked-possible}
 use Rattle.channels.proofs.OrderLemmas.{Goes-all, Goes-begun, Goes-next, Goes-none, Goes-stops, drop_next, is_over-last, is_over-not}
 use Rattle.channels.proofs.AskLemmas.{boxes_asked-next, both_clean}
 use Rattle.channels.proofs.LendLemmas.{Lends-all, Lends-begun, Lends-next}
+use Rattle.channels.specs.Runs.{MayRunNamed}
 use Rattle.channels.specs.Settlings.{IsNamedSettled}
+use Rattle.channels.proofs.RunLemmas.{Lends-front}
 use Rattle.channels.proofs.settling.settle_boxes.Goals as goal
 
 -- what was reported of one more mailbox
@@ -30,6 +32,8 @@ loop-name-preserved g c = let over : c.and-verdict.result ≡ Over → ⊥ = gri
       let both = both_clean c.loop-name.verdict c.in_ok-settle_box.field-0 (sym c.and-verdict.ensures ∙ clean) in
       Lends-next (IsNamedSettled g.S.BoxLists.opening g.R.Rng.stream c.args.work.options.now (joined_of c.args.work.of)) c.args.boxes.now c.loop-name.name-index
       c.name-item.result c.loop-name-test.true c.name-item.is (c.loop-name.invariant.settled both.0) (c.in_ok-settle_box.ensures.settled both.1);
+  runs = Lends-next (MayRunNamed g.S.BoxLists.opening g.R.Rng.stream c.args.work.options.now (joined_of c.args.work.of)) c.args.boxes.now c.loop-name.name-index
+      c.name-item.result c.loop-name-test.true c.name-item.is c.loop-name.invariant.runs c.settle_box.ensures.runs;
   goes_on = over;
   going = grind (arith, common_steps);
 }
@@ -45,6 +49,8 @@ loop-name-init g c = record {
   whole = grind (arith, common_steps, stream_steps);
   asked = Goes-none g.S.BoxLists.noted (g.S.BoxLists.asked c.args.stores.now.stores.now) (g.S.BoxLists.asked c.args.stores.now.stores.now) is_over (IsNamedAsked c.args.work.options.now (joined_of c.args.work.of) c.args.found.now.far.items c.args.found.now.near.items) c.args.boxes.now refl;
   settled = λ clean. Lends-begun g.S.BoxLists.honest g.S.BoxLists.lent (IsNamedSettled g.S.BoxLists.opening g.R.Rng.stream c.args.work.options.now (joined_of c.args.work.of))
+      c.args.stores.now.stores.now c.args.stores.now.stores.now refl;
+  runs = Lends-begun g.S.BoxLists.honest g.S.BoxLists.lent (MayRunNamed g.S.BoxLists.opening g.R.Rng.stream c.args.work.options.now (joined_of c.args.work.of))
       c.args.stores.now.stores.now c.args.stores.now.stores.now refl;
   goes_on = grind (arith, common_steps);
   going = grind (arith, common_steps);
@@ -77,3 +83,21 @@ pub returns-clause-settled : goal.returns-clause-settled
 returns-clause-settled g c = λ clean.
     Lends-all (IsNamedSettled g.S.BoxLists.opening g.R.Rng.stream c.args.work.options.now (joined_of c.args.work.of)) c.args.boxes.now c.loop-name.name-index
     c.loop-name-test.false (c.loop-name.invariant.settled clean)
+
+-- whatever was reported, each was run once at most
+pub returns-clause-runs : goal.returns-clause-runs
+returns-clause-runs g c =
+    Lends-front g.S.BoxLists.opening g.R.Rng.stream c.args.work.options.now (joined_of c.args.work.of) c.args.boxes.now c.loop-name.name-index
+    c.loop-name.invariant.runs
+
+pub returns-then-eq-clause-runs : goal.returns-then-eq-clause-runs
+returns-then-eq-clause-runs g c =
+    Lends-front g.S.BoxLists.opening g.R.Rng.stream c.args.work.options.now (joined_of c.args.work.of) c.args.boxes.now (c.loop-name.name-index + 1)
+    (Lends-next (MayRunNamed g.S.BoxLists.opening g.R.Rng.stream c.args.work.options.now (joined_of c.args.work.of)) c.args.boxes.now c.loop-name.name-index
+    c.name-item.result c.loop-name-test.true c.name-item.is c.loop-name.invariant.runs c.settle_box.ensures.runs)
+
+pub returns-in_err-settle_box-clause-runs : goal.returns-in_err-settle_box-clause-runs
+returns-in_err-settle_box-clause-runs g c =
+    Lends-front g.S.BoxLists.opening g.R.Rng.stream c.args.work.options.now (joined_of c.args.work.of) c.args.boxes.now (c.loop-name.name-index + 1)
+    (Lends-next (MayRunNamed g.S.BoxLists.opening g.R.Rng.stream c.args.work.options.now (joined_of c.args.work.of)) c.args.boxes.now c.loop-name.name-index
+    c.name-item.result c.loop-name-test.true c.name-item.is c.loop-name.invariant.runs c.settle_box.ensures.runs)

@@ -1,11 +1,12 @@
-use Rattle.std.proofs.Common.{◌≡◌, Err, arith, ◌∙◌}
+use Rattle.std.proofs.Common.{◌≡◌, Err, arith, ◌∙◌, inl}
 use Rattle.std.proofs.lemmas.Grind.{common_steps}
 use Rattle.channels.proofs.StreamLemmas.{HasNotices-from, IfOk-before}
 use Rattle.std.proofs.lemmas.Result.{err_from_is_err_and}
 use Rattle.channels.specs.Asked.{joined_of}
-use Rattle.channels.specs.Courses.{IsFoundAsked}
+use Rattle.channels.specs.Courses.{IsFoundAsked, SoFar}
 use Rattle.channels.proofs.ChannelLemmas.{Begun-possible, IsFoundAsked-possible, SoFar-listed, SoFar-unlisted}
 use Rattle.channels.proofs.LendLemmas.{IfClean-channel, LendsNone-both, never_clean}
+use Rattle.channels.proofs.RunLemmas.{RunsChannel-listed}
 use Rattle.channels.proofs.settling.settle_channel.Goals as goal
 
 -- what the stores reported of the listing, and then the mailboxes
@@ -50,3 +51,19 @@ returns-in_ok-report_notices-in-Ok-clause-settled g c =
 
 pub returns-in-Err-clause-settled : goal.returns-in-Err-clause-settled
 returns-in-Err-clause-settled g c = never_clean _ c.report_unlisted.result c.report_unlisted.ensures.reported
+
+-- whatever was reported, each was run once at most
+pub returns-in_ok-report_notices-in-Ok-clause-runs : goal.returns-in_ok-report_notices-in-Ok-clause-runs
+returns-in_ok-report_notices-in-Ok-clause-runs g c =
+    RunsChannel-listed g.S.BoxLists g.R.Rng.stream c.args.work.options.now (joined_of c.args.work.of) c.in-Ok.found.far.items c.in-Ok.found.near.items
+    c.args.stores.now.stores.now c.report_notices.new.self.stores.now c.settle_found.new.stores.stores.now
+    (SoFar c.settle_found.result (IsFoundAsked c.args.work.options.now (joined_of c.args.work.of) c.in-Ok.found.far.items c.in-Ok.found.near.items
+    c.args.work.of.channel.now.boxes))
+    (LendsNone-both c.in-Ok.ensures.lent c.report_notices.ensures.lent) (c.report_notices.ensures.asks.1 ∙ c.in-Ok.ensures.asks) c.settle_found.ensures.asked
+    c.settle_found.ensures.runs
+
+pub returns-in_err-report_notices-in-Ok-clause-runs : goal.returns-in_err-report_notices-in-Ok-clause-runs
+returns-in_err-report_notices-in-Ok-clause-runs g c = inl (LendsNone-both c.in-Ok.ensures.lent c.report_notices.ensures.lent)
+
+pub returns-in-Err-clause-runs : goal.returns-in-Err-clause-runs
+returns-in-Err-clause-runs g c = inl (LendsNone-both c.in-Err.ensures.lent c.report_unlisted.ensures.lent)

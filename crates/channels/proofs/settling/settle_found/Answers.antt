@@ -5,8 +5,10 @@ use Rattle.config.specs.declared.config.Boxes.{Boxes}
 use Rattle.config.specs.declared.config.Boxes.TheVariants.{Matching}
 use Rattle.channels.specs.declared.verdict.Verdict.TheVariants.{Clean}
 use Rattle.channels.specs.Lendings.{Lends}
-use Rattle.channels.specs.Settlings.{AreSettled, IsFoundSettled, IsNamedSettled}
+use Rattle.channels.specs.Settlings.{InTurn, IsFoundSettled, IsNamedSettled}
+use Rattle.channels.specs.Runs.{MayRunFound}
 use Rattle.channels.proofs.LendLemmas.{IfClean-as, IsFoundSettled-matching, Lends-as, never_clean}
+use Rattle.channels.proofs.RunLemmas.{Lends-matching, Lends-none, Lends-pair, MayRunFound-none}
 use Rattle.channels.proofs.settling.settle_found.Goals as goal
 
 -- a mailbox on each side
@@ -43,7 +45,7 @@ returns-in-Ok-clause-settled g c =
     c.settle_boxes.new.stores.stores.now (IsFoundSettled g.S.BoxLists.opening g.R.Rng.stream c.args.work.options.now (joined_of c.args.work.of)
     c.args.found.now.far.items c.args.found.now.near.items boxes))) (sym c.in-Matching.is)
     (IfClean-as c.settle_boxes.result (Lends-as
-    (AreSettled (IsNamedSettled g.S.BoxLists.opening g.R.Rng.stream c.args.work.options.now (joined_of c.args.work.of)) c.deref.result.now)
+    (InTurn (IsNamedSettled g.S.BoxLists.opening g.R.Rng.stream c.args.work.options.now (joined_of c.args.work.of)) c.deref.result.now)
     (IsFoundSettled g.S.BoxLists.opening g.R.Rng.stream c.args.work.options.now (joined_of c.args.work.of) c.args.found.now.far.items c.args.found.now.near.items (Matching c.in-Matching.patterns))
     (λ more. IsFoundSettled-matching g.S.BoxLists.opening g.R.Rng.stream c.args.work.options.now (joined_of c.args.work.of) c.args.found.now.far.items c.args.found.now.near.items
     c.deref.result.now c.in-Matching.patterns more (λ is_chosen states. c.deref.ensures.value ∙ c.in-Ok.ensures is_chosen states)))
@@ -51,3 +53,22 @@ returns-in-Ok-clause-settled g c =
 
 pub returns-in-Err-clause-settled : goal.returns-in-Err-clause-settled
 returns-in-Err-clause-settled g c = never_clean _ c.print_list.result c.print_list.ensures.reported
+
+-- whatever was reported, each was run once at most
+pub returns-in-Pair-clause-runs : goal.returns-in-Pair-clause-runs
+returns-in-Pair-clause-runs g c =
+    Lends-pair g.S.BoxLists.opening g.R.Rng.stream c.args.work.options.now (joined_of c.args.work.of) c.args.found.now.far.items c.args.found.now.near.items
+    c.in-Pair.far c.in-Pair.near c.args.work.of.channel.now.boxes c.in-Pair.is c.settle_box.ensures.runs
+
+pub returns-in-Ok-clause-runs : goal.returns-in-Ok-clause-runs
+returns-in-Ok-clause-runs g c =
+    Lends-matching g.S.BoxLists.opening g.R.Rng.stream c.args.work.options.now (joined_of c.args.work.of) c.args.found.now.far.items c.args.found.now.near.items
+    c.deref.result.now c.in-Matching.patterns c.args.work.of.channel.now.boxes c.in-Matching.is
+    (λ is_chosen states. c.deref.ensures.value ∙ c.in-Ok.ensures is_chosen states) c.settle_boxes.ensures.runs
+
+pub returns-in-Err-clause-runs : goal.returns-in-Err-clause-runs
+returns-in-Err-clause-runs g c =
+    Lends-none (MayRunFound g.S.BoxLists.opening g.R.Rng.stream c.args.work.options.now (joined_of c.args.work.of) c.args.found.now.far.items
+    c.args.found.now.near.items c.args.work.of.channel.now.boxes)
+    (MayRunFound-none g.S.BoxLists.opening g.R.Rng.stream c.args.work.options.now (joined_of c.args.work.of) c.args.found.now.far.items c.args.found.now.near.items
+    c.args.work.of.channel.now.boxes) c.print_list.ensures.lent
