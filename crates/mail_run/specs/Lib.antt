@@ -1,1 +1,2 @@
 pub mod NamedBoxes
+pub mod Settled

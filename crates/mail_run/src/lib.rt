@@ -13,3 +13,4 @@ mod sources;
 pub mod world;
 mod world_box;
 pub mod world_line;
+mod world_stores;

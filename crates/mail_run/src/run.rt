@@ -1,26 +1,33 @@
 //! What a command line asks for, over servers and folders.
 
-ghost use Rattle.std.specs.Prelude.{◌≡◌, None, OnOk};
+ghost use Rattle.std.specs.Prelude.{◌≡◌, false, None, OnOk};
 ghost use Rattle.std.specs.List.{find};
+ghost use Rattle.channels.specs.Runs.{RunsOnly};
+ghost use Rattle.channels.specs.Settlings.{SettlesAll};
 ghost use Rattle.mail_run.specs.NamedBoxes.{names_own_part};
+ghost use Rattle.mail_run.specs.Settled.{HasRunOnly, HasSettled};
 
 use crate::boxes::{refused_channel, refused_name};
 use crate::failure::StartFailure;
 use crate::generator::generator;
-use crate::screen::{Screen, Wiping};
+use crate::screen::{ProgressLine, Screen, Wiping};
 use crate::shown_stores::ShownStores;
 use crate::sources::{open_config, read_fresh, read_home, read_seed};
 use channels::run::run_config;
-use channels::stores::Stores;
+use channels::stores::{BoxLists, Stores};
 use config::config::Config;
 use config::request::{Chosen, RunRequest};
 use mail_stores::mail_stores::MailStores;
 use mail_stores::notes::ServerNotes;
+use mail_stores::openings::Openings;
 use mailcore::keywords::Keywords;
 use near_places::home::Home;
+use rand_chacha::ChaCha20Rng;
+use rand_core::Rng;
 use std::alloc::{AllocError, Global};
 use std::fs::File;
 use std::io::Write;
+use std::marker::Brand;
 use std::net::Net;
 use std::num::NonZeroU32;
 use std::rt::{Clock, Env, Files};
@@ -96,7 +103,8 @@ pub fn run_mail<
         Ok(start) => {
             say_none(&start.config, request, err);
             let screen = Screen::new(terminal);
-            run_start(rt, request, start, &screen, out, err)
+            let (_, status) = run_start::<R, T, O, E, Brand>(rt, request, start, &screen, out, err);
+            status
         }
         Err(failure) => {
             let _ = writeln!(err, "mbsync: {failure}");
@@ -115,13 +123,27 @@ fn say_none<E: Write>(config: &Config, request: &RunRequest, err: &mut E) {
     }
 }
 
-/// Runs the channels over servers and folders.
+/// Runs the channels over servers and folders, and gives these beside the exit status. Where that is 0 and nothing was to be listed, each
+/// chosen mailbox was lent and is settled, from whatever opening its run is looked at (`C`). Whatever it is, no mailbox but such a one was
+/// lent, and the run over each is settled or underway.
 fn run_start<
     R: Net + Files<File = File> + Env + Clock + AllocGlobal + Clone + Drop,
     T: Write + Copy,
     O: Write,
     E: Write,
->(rt: R, request: &RunRequest, start: Start, screen: &Screen<T>, out: &mut O, err: &mut E) -> u8 {
+    C: Openings,
+>(
+    rt: R,
+    request: &RunRequest,
+    start: Start,
+    screen: &Screen<T>,
+    out: &mut O,
+    err: &mut E,
+) -> (MailStores<R, ProgressLine<T>, C>, u8)
+    ensures settled { result.1 ≡ 0 → request.now.lists ≡ false
+        → HasSettled ⟦<MailStores<R, ProgressLine<T>, C> as BoxLists>⟧ ⟦<ChaCha20Rng as Rng>⟧.stream start.config request.now result.0 }
+    ensures runs { HasRunOnly ⟦<MailStores<R, ProgressLine<T>, C> as BoxLists>⟧ ⟦<ChaCha20Rng as Rng>⟧.stream start.config request.now result.0 }
+{
     let Start {
         config,
         home,
@@ -149,25 +171,30 @@ struct RunWork<'a> {
     seed: [u8; 32],
 }
 
-/// Runs the channels over these stores.
+/// Runs the channels over these stores, and gives them back beside the exit status.
 fn run_over<S: Stores + Drop, T: Write + Copy, O: Write, E: Write>(
     work: RunWork<'_>,
     stores: S,
     screen: &Screen<T>,
     out: &mut O,
     err: &mut E,
-) -> u8 {
-    let mut stores = ShownStores::new(stores, screen);
+) -> (S, u8)
+    ensures settled { result.1 ≡ 0 → work.entry.request.now.lists ≡ false
+        → SettlesAll S.BoxLists ⟦<ChaCha20Rng as Rng>⟧.stream work.entry.config.now work.entry.request.now stores result.0 }
+    ensures runs { RunsOnly S.BoxLists ⟦<ChaCha20Rng as Rng>⟧.stream work.entry.config.now work.entry.request.now stores result.0 }
+{
+    let mut shown = ShownStores::new(stores, screen);
     let mut rng = generator(work.seed);
     let mut out = Wiping::new(screen, out);
     let mut err = Wiping::new(screen, err);
-    run_config(
+    let status = run_config(
         work.alloc,
         work.config,
         work.request,
-        &mut stores,
+        &mut shown,
         &mut rng,
         &mut out,
         &mut err,
-    )
+    );
+    (shown.into_stores(), status)
 }

@@ -1,5 +1,7 @@
 //! Stores of which a terminal shows which server is asked, and which mailbox is at work.
 
+ghost use Rattle.std.specs.Prelude.{◌≡◌};
+
 use crate::screen::Screen;
 use channels::channel_box::{ChannelBox, ChannelStores};
 use channels::notice::Notice;
@@ -20,8 +22,18 @@ pub(crate) struct ShownStores<'a, S: Stores + Drop, T: Write + Copy> {
 
 impl<'a, S: Stores + Drop, T: Write + Copy> ShownStores<'a, S, T> {
     /// These stores.
-    pub(crate) fn new(stores: S, screen: &'a Screen<T>) -> Self {
+    pub(crate) fn new(stores: S, screen: &'a Screen<T>) -> Self
+        ensures { result.stores ≡ stores }
+    {
         ShownStores { stores, screen }
+    }
+
+    /// Gives them back.
+    pub(crate) fn into_stores(self) -> S
+        ensures { result ≡ self.entry.stores }
+    {
+        let ShownStores { stores, .. } = self;
+        stores
     }
 }
 

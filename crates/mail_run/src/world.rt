@@ -4,10 +4,11 @@ use crate::no_world::NoWorld;
 use crate::run::{Start, start_of};
 use crate::world_box::{ChannelBoxes, NamedBox, named_box};
 use crate::world_line::{HELP, WorldLine};
+use crate::world_stores::WorldStores;
 use box_worlds::bodies::Bodies;
 use box_worlds::reader::WorldReader;
 use channels::scope::options_of;
-use channels::stores::{BoxLists, Stores};
+use channels::stores::Stores;
 use mail_stores::mail_stores::MailStores;
 use std::alloc::Global;
 use std::fs::File;
@@ -76,7 +77,21 @@ fn start_world<
         );
         return status_of(reported, 2);
     };
-    let mut stores = MailStores::new(rt, home, fresh, notes, seen_by, ());
+    let stores = MailStores::<R, ()>::new(rt, home, fresh, notes, seen_by, ());
+    print_world(alloc, named, mailbox, bodies, stores, out, err)
+}
+
+/// Prints the world of this mailbox of these stores, and gives the exit status.
+fn print_world<S: WorldStores + Drop, O: Write, E: Write>(
+    alloc: Global,
+    named: NamedBox<'_>,
+    mailbox: &str,
+    bodies: Bodies,
+    stores: S,
+    out: &mut O,
+    err: &mut E,
+) -> u8 {
+    let mut stores = stores;
     let read = world_text(alloc, named, bodies, &mut stores);
     let status = match read {
         Ok(text) => status_of(print(out, text.as_str()), 0),
@@ -94,11 +109,11 @@ fn start_world<
 }
 
 /// The text of the world of a mailbox.
-fn world_text<R: Net + Files<File = File> + Clock + AllocGlobal + Clone + Drop>(
+fn world_text<S: WorldStores>(
     alloc: Global,
     named: NamedBox<'_>,
     bodies: Bodies,
-    stores: &mut MailStores<R, ()>,
+    stores: &mut S,
 ) -> Result<String, NoWorld> {
     let listed = ChannelBoxes::of(alloc, named.of, stores)?;
     let Some(place) = listed.place(named) else {
@@ -111,7 +126,7 @@ fn world_text<R: Net + Files<File = File> + Clock + AllocGlobal + Clone + Drop>(
         options: &options,
         bodies,
     };
-    match stores.world(place, absent, reader) {
+    match stores.read_world(place, absent, reader) {
         Ok(Ok(text)) => Ok(text),
         Ok(Err(unread)) => Err(NoWorld::unread(alloc, place, unread, stores)),
         Err(fault) => Err(NoWorld::from(fault)),

@@ -1,3 +1,5 @@
+pub mod Lent
+pub mod Loans
 pub mod Names
 pub mod Notices
 pub mod Passwords

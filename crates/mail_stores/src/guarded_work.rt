@@ -1,8 +1,14 @@
 //! A work over both sides of a mailbox, with a guard.
 
 ghost use Rattle.std.specs.Prelude.{◌≡◌};
+ghost use Rattle.channels.specs.Asked.{place_of};
+ghost use Rattle.channels.specs.Lendings.{IsLent, Lends};
+ghost use Rattle.mail_stores.specs.Loans.{AreHonest, both_sides, lent_among_all};
 
+use crate::lend::lend;
+use crate::loans::Loans;
 use book::shelf::Shelf;
+use channels::channel_box::ChannelBox;
 use channels::stores::Work;
 use guarded::guard::Guard;
 use guarded::guarded_outside::GuardedOutside;
@@ -24,27 +30,32 @@ pub(crate) struct GuardedSides<L: Link, F: Folder, S: Shelf, G> {
 }
 
 impl<L: Link + Drop, F: Folder + Drop, S: Shelf + Drop, G: Guard + Drop> GuardedSides<L, F, S, G> {
-    /// Does this over both sides, while the lock of the mailbox is held. Its calls stop where the guard says no. All is closed then, and is
-    /// given back beside what the work came to. The UIDVALIDITY of the near mailbox is `fresh` where it has none, and its map of keywords
-    /// is that of the far one.
+    /// Lends both sides, which are those of this mailbox, and does this over them, while its lock is held. Its calls stop where the guard
+    /// says no. All is closed then, and is given back beside what the work came to. The UIDVALIDITY of the near mailbox is `fresh` where it
+    /// has none, and its map of keywords is that of the far one.
     pub(crate) fn work<W: Work + Drop, P: Progress>(
         self,
+        place: ChannelBox<'_>,
         _lock: &Lock,
         alloc: Global,
         fresh: NonZeroU32,
         keywords: Keywords,
         work: W,
         progress: &P,
+        loans: &mut Loans<L, F, S>,
     ) -> (Self, W::Answer)
         requires map { self.sides.far.far.keywords ≡ keywords }
         requires asked { keywords ≡ (W.options work).keywords }
+        ensures lent { Lends (AreHonest F.honest S.honest) (lent_among_all (both_sides L.visitors F.visitors)) loans.old loans.new
+            (IsLent (place_of place.entry) (λ this. W.did work this result.1)) }
     {
         let GuardedSides { sides, guard } = self;
         let both = sides.together(alloc, fresh, keywords);
         let mut outside = GuardedOutside::new(both, guard);
-        let answer = work.over(&mut outside, progress);
+        let answer = lend(place, &mut outside, work, progress, &mut loans.lent);
         let (both, guard) = outside.into_parts();
         let sides = BothSides::of(both);
+        loans.give_back(&sides);
         (GuardedSides { sides, guard }, answer)
     }
 

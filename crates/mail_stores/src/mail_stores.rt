@@ -1,18 +1,24 @@
 //! The real stores: servers over TCP, and folders of a disk.
 
-ghost use Rattle.std.specs.Prelude.{◌≡◌, IfOk, string_bytes};
+ghost use Rattle.std.specs.Prelude.{◌≡◌, [], IfOk, OnErr, string_bytes};
+ghost use Rattle.channels.specs.Asked.{place_of};
+ghost use Rattle.channels.specs.Lendings.{IsLent, Lends};
+ghost use Rattle.mail_stores.specs.Loans.{HaveKept, lent_of};
 ghost use Rattle.mail_stores.specs.Reached.{AreIn, IsAccount};
 
 use crate::asked::Asked;
 use crate::guarded_work::GuardedSides;
 use crate::last_box::{BoxLocation, LastBox, cause_of, path_texts};
+use crate::loans::Loans;
 use crate::names::{FarNames, is_servable};
 use crate::notes::ServerNotes;
 use crate::notices::Notices;
+use crate::openings::Openings;
 use crate::reach::{NearParts, Reach, RealSides};
 use crate::reported::{list_fault, lock_fault, make_fault, ordered, unlisted, unreached};
 use crate::server::{AskFault, RealLink, is_word};
 use crate::sessions::Sessions;
+use book::disk_shelf::DiskShelf;
 use channels::channel_box::{ChannelBox, ChannelStores};
 use channels::notice::Notice;
 use channels::stop_cause::StopCause;
@@ -28,12 +34,14 @@ use mail_sides::sides::BothSides;
 use mailcore::keywords::Keywords;
 use mailcore::mailbox_name::MailboxName;
 use mailcore::side::Side;
+use maildir::disk_folder::DiskFolder;
 use near_places::home::Home;
 use near_places::lock::{Lock, LockFault};
 use near_places::refusal::PlaceRefusal;
 use runner::progress::Progress;
 use std::alloc::{AllocError, Global};
 use std::fs::File;
+use std::marker::{Brand, PhantomData};
 use std::net::Net;
 use std::num::NonZeroU32;
 use std::rt::{Clock, Files};
@@ -44,10 +52,13 @@ use std::rt::{Clock, Files};
 /// stands: it goes from the list of a store to its mailboxes, from one to the next, and on to the next list of the same store. It is ended
 /// where another store is asked, or a mailbox by another map of keywords than that by which its server is seen, and at the end. A session
 /// that has failed is opened anew by what is asked next.
+///
+/// `C` is a choice of openings (`Openings`): it takes no memory, and changes nothing.
 #[derive(Drop)]
 pub struct MailStores<
     R: Net + Files<File = File> + AllocGlobal + Clone + Drop,
     P,
+    C = Brand,
     L: Link = RealLink<R, P>,
 > {
     pub(crate) reach: Reach<R, P>,
@@ -61,12 +72,16 @@ pub struct MailStores<
     seen_by: Keywords,
     /// What is known of the mailbox that was open last.
     pub(crate) last: LastBox,
+    /// The mailboxes that were lent.
+    loans: Loans<L, DiskFolder<R>, DiskShelf<R>>,
+    openings: PhantomData<C>,
 }
 
 impl<
     R: Net + Files<File = File> + Clock + AllocGlobal + Clone + Drop,
     P: Progress + Waits + Copy,
-> MailStores<R, P> {
+    C,
+> MailStores<R, P, C> {
     /// The stores of a user with this home folder. Near mailboxes that have no UIDVALIDITY yet get this one. The first server is seen by
     /// this map of keywords: where the first mailbox has the same, one login serves its list and the mailbox. `progress` shows how far the
     /// run over a mailbox is, and what mbsync waits for.
@@ -77,7 +92,9 @@ impl<
         notes: ServerNotes,
         seen_by: Keywords,
         progress: P,
-    ) -> Self {
+    ) -> Self
+        ensures unlent { lent_of result.loans ≡ [] }
+    {
         let alloc = rt.alloc();
         MailStores {
             reach: Reach {
@@ -93,25 +110,33 @@ impl<
             sessions: Sessions::new(),
             seen_by,
             last: LastBox::none(alloc),
+            loans: Loans::new(),
+            openings: PhantomData,
         }
     }
 
     /// The server of this store is asked from now on.
-    pub(crate) fn ask(&mut self, store: &ImapStore) {
+    pub(crate) fn ask(&mut self, store: &ImapStore)
+        ensures loans { self.new.loans ≡ self.old.loans }
+    {
         self.hear();
         self.reach.notes.renew();
         self.asked = Asked::new(self.reach.rt.alloc(), store).ok();
     }
 
     /// Notes what the server that was asked last has said beside faults.
-    fn hear(&mut self) {
+    fn hear(&mut self)
+        ensures loans { self.new.loans ≡ self.old.loans }
+    {
         if let Some(asked) = &self.asked {
             self.notices.hear(&self.reach.notes.words, asked);
         }
     }
 
     /// A session at the server of this store: the one that stands, or a new one.
-    fn session_at(&mut self, store: &ImapStore) -> Result<LoggedIn<RealLink<R, P>>, AskFault> {
+    fn session_at(&mut self, store: &ImapStore) -> Result<LoggedIn<RealLink<R, P>>, AskFault>
+        ensures loans { self.new.loans ≡ self.old.loans }
+    {
         match self.sessions.take_at(store.name.as_str()) {
             Some(session) => Ok(session),
             None => self.reach.log_in(store, &self.seen_by),
@@ -120,7 +145,9 @@ impl<
 
     /// The names of the mailboxes at the server of a store. A session that stood before may have been ended by the server meanwhile: then
     /// a new one is asked.
-    fn names_at(&mut self, store: &ImapStore) -> Result<Vec<MailboxName>, AskFault> {
+    fn names_at(&mut self, store: &ImapStore) -> Result<Vec<MailboxName>, AskFault>
+        ensures loans { self.new.loans ≡ self.old.loans }
+    {
         if self.sessions.stands_at(store.name.as_str()) {
             match self.names_over(store) {
                 Err(AskFault::Far(FarFault::Stopped)) => self.reach.notes.renew(),
@@ -131,7 +158,9 @@ impl<
     }
 
     /// The names that the session at the server of a store lists.
-    fn names_over(&mut self, store: &ImapStore) -> Result<Vec<MailboxName>, AskFault> {
+    fn names_over(&mut self, store: &ImapStore) -> Result<Vec<MailboxName>, AskFault>
+        ensures loans { self.new.loans ≡ self.old.loans }
+    {
         let session = self.session_at(store)?;
         let alloc = self.reach.rt.alloc();
         let names = self
@@ -146,7 +175,8 @@ impl<
 
     /// Those of the names at the server of a store that are synchronised. The others are noted.
     fn synchronised(&mut self, store: &ImapStore, names: FarNames) -> Vec<MailboxName>
-        ensures { result ≡ names.synchronised }
+        ensures names { result ≡ names.synchronised }
+        ensures loans { self.new.loans ≡ self.old.loans }
     {
         for name in &names.skipped {
             self.notices.skip(store.name.as_str(), name.as_str());
@@ -159,7 +189,9 @@ impl<
         &mut self,
         store: &MaildirStore,
         names: Vec<MailboxName>,
-    ) -> Result<Vec<MailboxName>, AllocError> {
+    ) -> Result<Vec<MailboxName>, AllocError>
+        ensures loans { self.new.loans ≡ self.old.loans }
+    {
         let alloc = self.reach.rt.alloc();
         let mut servable = Vec::new(alloc);
         for name in names {
@@ -174,7 +206,9 @@ impl<
 
     /// Makes a mailbox at the server of a store. `Refused`: the server says no, or it cannot have one of this name, and then it is not
     /// asked.
-    fn make_far(&mut self, store: &ImapStore, name: &MailboxName) -> Result<(), StoreFault> {
+    fn make_far(&mut self, store: &ImapStore, name: &MailboxName) -> Result<(), StoreFault>
+        ensures loans { self.new.loans ≡ self.old.loans }
+    {
         let alloc = self.reach.rt.alloc();
         match is_servable(alloc, name) {
             Ok(true) => {}
@@ -202,7 +236,11 @@ impl<
         &mut self,
         place: ChannelBox<'_>,
         work: W,
-    ) -> Result<W::Answer, LockFault> {
+    ) -> Result<W::Answer, LockFault>
+        ensures lent { IfOk result (λ answer. Lends HaveKept lent_of self.old.loans self.new.loans
+            (IsLent (place_of place.entry) (λ this. W.did work this answer))) }
+        ensures none { OnErr result (self.new.loans ≡ self.old.loans) }
+    {
         let folder = self.reach.folder_of(place)?;
         let path = folder.as_str();
         let lock = Lock::take(&self.reach.rt, path)?;
@@ -225,9 +263,20 @@ impl<
         requires near { AreIn folder.now sides.sides.folder sides.sides.shelf sides.guard.folder }
         requires map { sides.sides.far.far.keywords ≡ keywords }
         requires asked { keywords ≡ (W.options work).keywords }
+        ensures lent { Lends HaveKept lent_of self.old.loans self.new.loans
+            (IsLent (place_of place.entry) (λ this. W.did work this result)) }
     {
         let (alloc, fresh) = (self.reach.rt.alloc(), self.reach.fresh);
-        let (sides, answer) = sides.work(lock, alloc, fresh, keywords, work, &self.progress);
+        let (sides, answer) = sides.work(
+            place,
+            lock,
+            alloc,
+            fresh,
+            keywords,
+            work,
+            &self.progress,
+            &mut self.loans,
+        );
         self.note_end(place, folder, &sides);
         self.keep_far(place.of.far_store, sides.into_far());
         answer
@@ -243,6 +292,7 @@ impl<
         ensures far { IfOk result (λ sides. IsAccount place.entry.of.far_store.now place.entry.far.now sides.sides.far.account) }
         ensures near { IfOk result (λ sides. AreIn folder.now sides.sides.folder sides.sides.shelf sides.guard.folder) }
         ensures map { IfOk result (λ sides. sides.sides.far.far.keywords ≡ keywords.now) }
+        ensures loans { self.new.loans ≡ self.old.loans }
     {
         let near = match self.reach.near_parts(folder) {
             Ok(near) => near,
@@ -263,6 +313,7 @@ impl<
     ) -> Result<FarSide<RealLink<R, P>>, PlaceRefusal>
         ensures account { IfOk result (λ far. IsAccount place.entry.of.far_store.now place.entry.far.now far.account) }
         ensures map { IfOk result (λ far. far.far.keywords ≡ keywords.now) }
+        ensures loans { self.new.loans ≡ self.old.loans }
     {
         let alloc = self.reach.rt.alloc();
         let store = place.of.far_store;
@@ -281,7 +332,9 @@ impl<
     }
 
     /// Notes what stopped the run over a mailbox, and which files it left out or alone.
-    fn note_end(&mut self, place: ChannelBox<'_>, folder: &str, sides: &RealSides<R, P>) {
+    fn note_end(&mut self, place: ChannelBox<'_>, folder: &str, sides: &RealSides<R, P>)
+        ensures loans { self.new.loans ≡ self.old.loans }
+    {
         let alloc = self.reach.rt.alloc();
         let GuardedSides { sides, guard } = sides;
         let refused = guard.take_objection();
@@ -298,7 +351,9 @@ impl<
     }
 
     /// Keeps the session of the far side of a mailbox at this store, if it goes on.
-    pub(crate) fn keep_far(&mut self, store: &ImapStore, far: FarSide<RealLink<R, P>>) {
+    pub(crate) fn keep_far(&mut self, store: &ImapStore, far: FarSide<RealLink<R, P>>)
+        ensures loans { self.new.loans ≡ self.old.loans }
+    {
         if let Some(session) = far.into_session() {
             let alloc = self.reach.rt.alloc();
             self.sessions.keep(alloc, store.name.as_str(), session);
@@ -330,13 +385,21 @@ fn sides_of<R: Net + Files<File = File> + Clock + AllocGlobal + Clone + Drop, P:
 impl<
     R: Net + Files<File = File> + Clock + AllocGlobal + Clone + Drop,
     P: Progress + Waits + Copy,
-> BoxLists for MailStores<R, P> {
+    C: Openings,
+> BoxLists for MailStores<R, P, C> {
     ghost Record = { Unit {0} };
 
     ghost noted = { λ _ _. tt };
 
     ghost asked = { λ _. tt };
 
+    ghost honest = { λ stores. HaveKept stores.loans };
+
+    ghost lent = { λ stores. lent_of stores.loans };
+
+    ghost opening = { C.opening };
+
+    #[tactic(auto, using(crate::proofs::LoanLemmas::lends_none))]
     fn far_boxes(&mut self, store: &ImapStore) -> Result<Vec<MailboxName>, ListFault> {
         self.ask(store);
         match self.names_at(store) {
@@ -349,6 +412,7 @@ impl<
         }
     }
 
+    #[tactic(auto, using(crate::proofs::LoanLemmas::lends_none))]
     fn near_boxes(&mut self, store: &MaildirStore) -> Result<Vec<MailboxName>, ListFault> {
         let found = self.reach.near_boxes(store).map_err(list_fault)?;
         for name in &found.skipped {
@@ -374,7 +438,8 @@ impl<
 impl<
     R: Net + Files<File = File> + Clock + AllocGlobal + Clone + Drop,
     P: Progress + Waits + Copy,
-> Stores for MailStores<R, P> {
+    C: Openings,
+> Stores for MailStores<R, P, C> {
     fn has_state(&mut self, place: ChannelBox<'_>) -> Result<bool, StoreFault> {
         self.reach.has_state(place).map_err(lock_fault)
     }
@@ -389,7 +454,7 @@ impl<
         }
     }
 
-    #[tactic(auto, using(channels::proofs::LendLemmas::lends_unsaid))]
+    #[tactic(auto, using(crate::proofs::LoanLemmas::lends_since, crate::proofs::LoanLemmas::lends_none))]
     fn work_over<W: Work + Drop>(
         &mut self,
         place: ChannelBox<'_>,
@@ -397,7 +462,10 @@ impl<
     ) -> Result<W::Answer, StoreFault> {
         self.last = LastBox::none(self.reach.rt.alloc());
         self.ask(place.of.far_store);
-        self.work_in(place, work).map_err(lock_fault)
+        match self.work_in(place, work) {
+            Ok(answer) => Ok(answer),
+            Err(fault) => Err(lock_fault(fault)),
+        }
     }
 
     fn stop_cause(&mut self) -> Option<StopCause> {

@@ -26,7 +26,8 @@ type DiskFiles<R> = NearFiles<DiskFolder<R>, DiskShelf<R>>;
 impl<
     R: Net + Files<File = File> + Clock + AllocGlobal + Clone + Drop,
     P: Progress + Waits + Copy,
-> MailStores<R, P> {
+    C,
+> MailStores<R, P, C> {
     /// The text of the world of a mailbox, as the next run finds it: on a side on which it is absent, that run makes it. Its lock is held
     /// as long, if the file of the lock is there, and nothing is changed. `Ok` has in it why the world is not read.
     pub fn world(

@@ -40,6 +40,8 @@ pub use config::request::{Chosen, RunRequest};
 pub use channels::stores::{BoxLists, Stores};
 /// The real stores: servers over TCP and folders of a disk.
 pub use mail_stores::mail_stores::MailStores;
+/// From which openings runs over them are looked at, as a trait for contracts alone.
+pub use mail_stores::openings::Openings;
 /// Shows how far a run over the real stores is, as a trait.
 pub use runner::progress::Progress;
 /// The generator of random words, from a seed.

@@ -1,0 +1,2 @@
+pub mod LoanLemmas
+mod Walks
