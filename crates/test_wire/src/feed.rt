@@ -1,12 +1,14 @@
 //! A connection's buffer, which is fed piece by piece and read at each place.
 
-use imap_wire::{Read, Scanner, WireFault, read_reply};
+use crate::reader::Reader;
+use imap_wire::{Read, Scanner, WireFault};
 use std::alloc::Global;
+use wire_reader::side::Speaker;
 
 /// The bytes that came so far, and how far they are read.
 #[derive(Drop)]
 pub struct Buffer {
-    alloc: Global,
+    reader: Reader,
     bytes: Vec<u8>,
     scanner: Scanner,
     scanned: usize,
@@ -22,7 +24,10 @@ impl Buffer {
     /// An empty one.
     pub fn new(alloc: Global) -> Buffer {
         Buffer {
-            alloc,
+            reader: Reader {
+                alloc,
+                side: Speaker::Replies,
+            },
             bytes: Vec::new(alloc),
             scanner: Scanner::new(),
             scanned: 0,
@@ -53,8 +58,8 @@ impl Buffer {
         };
         self.scanned = self.scanned.saturating_add(count);
         let line = self.bytes.get(self.begin..self.scanned).unwrap_or_default();
-        match read_reply(self.alloc, line) {
-            Ok(Read::Whole(..)) => {
+        match self.reader.read(line) {
+            Ok(Read::Whole((), _)) => {
                 self.replies = self.replies.saturating_add(1);
                 self.begin = self.scanned;
                 self.scanner = Scanner::new();

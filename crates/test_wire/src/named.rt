@@ -1,6 +1,6 @@
 //! What lists of names and sets of UIDs name.
 
-use crate::pieces::read_pieces;
+use crate::pieces::{push_pieces, read_pieces};
 use crate::sets::print_set;
 use imap_wire::UidSet;
 use mailcore::uid::Uid;
@@ -14,11 +14,18 @@ use wire_tokens::names::read_names;
 use wire_tokens::uid_set::uid_set;
 
 /// `"NAME" names`, `"NAME" attributes` or `"NAME" no-attributes`, and bytes: whether the list at the front has the name.
-pub fn read_has(alloc: Global, line: &mut Words<'_>) -> Result<bool, Failure> {
-    let name = read_pieces(alloc, &mut Words::new(line.word().as_bytes()))?;
+pub fn read_has(alloc: Global, line: &mut Words<'_>) -> bool {
+    let mut name = Vec::new(alloc);
+    push_pieces(alloc, &mut name, line.word(), line);
     let list = line.word();
-    let bytes = read_pieces(alloc, line)?;
-    has(list, &name, &bytes).ok_or(Failure::Script)
+    let bytes = read_pieces(alloc, line);
+    match has(list, &name, &bytes) {
+        Some(has) => has,
+        None => {
+            line.refuse();
+            false
+        }
+    }
 }
 
 /// Whether the list has the name, if the bytes begin with such a list.
@@ -33,29 +40,20 @@ fn has(list: &str, name: &[u8], bytes: &[u8]) -> Option<bool> {
 
 /// `UID greatest UID`, and `set` with bytes or `alone`: reports whether the set at the front names the first, where the second is the
 /// greatest of the mailbox; `alone` is the set of the first.
-pub fn read_named(
-    alloc: Global,
-    line: &mut Words<'_>,
-    reported: &mut Reported,
-) -> Result<(), Failure> {
+pub fn print_named(alloc: Global, line: &mut Words<'_>, reported: &mut Reported) {
     let uid = line.uid();
-    if line.word() != "greatest" {
-        line.refuse();
-    }
+    line.expect("greatest");
     let greatest = read_greatest(line);
-    let set = match line.word() {
-        "set" => read_set(alloc, line)?,
-        "alone" => UidSet::one(alloc, uid)?,
-        _ => return Err(Failure::Script),
-    };
-    print_set(reported, "  ", &set);
-    reported.text(if set.names(uid, greatest) {
-        " names it"
-    } else {
-        " names it not"
-    });
-    reported.end();
-    Ok(())
+    if let Some(set) = read_set(alloc, uid, line) {
+        print_set(reported, "  ", &set);
+        reported.text(if set.names(uid, greatest) {
+            " names it"
+        } else {
+            " names it not"
+        });
+        reported.end();
+        drop(set);
+    }
 }
 
 /// A UID, or `-` for none.
@@ -68,11 +66,22 @@ fn read_greatest(line: &mut Words<'_>) -> Option<Uid> {
     Some(line.uid())
 }
 
-fn read_set(alloc: Global, line: &mut Words<'_>) -> Result<UidSet, Failure> {
-    let bytes = read_pieces(alloc, line)?;
-    match uid_set(alloc, &bytes) {
-        Ok((set, _)) => Ok(set),
-        Err(ReadError::At(_)) => Err(Failure::Script),
-        Err(ReadError::Memory) => Err(Failure::NoMemory),
+/// `set` with bytes, or `alone` for the set of this UID. The line is bad if there is none.
+fn read_set(alloc: Global, uid: Uid, line: &mut Words<'_>) -> Option<UidSet> {
+    match line.word() {
+        "set" => {
+            let bytes = read_pieces(alloc, line);
+            match uid_set(alloc, &bytes) {
+                Ok((set, _)) => return Some(set),
+                Err(ReadError::At(_)) => line.refuse(),
+                Err(ReadError::Memory) => line.fail(Failure::NoMemory),
+            }
+        }
+        "alone" => match UidSet::one(alloc, uid) {
+            Ok(set) => return Some(set),
+            Err(_) => line.fail(Failure::NoMemory),
+        },
+        _ => line.refuse(),
     }
+    None
 }

@@ -6,26 +6,25 @@ use test_scripts::words::Words;
 use texts::escape::unescape;
 
 /// The bytes that the rest of the line spells.
-pub fn read_pieces(alloc: Global, line: &mut Words<'_>) -> Result<Vec<u8>, Failure> {
+pub fn read_pieces(alloc: Global, line: &mut Words<'_>) -> Vec<u8> {
     let mut bytes = Vec::new(alloc);
-    push_pieces(alloc, &mut bytes, line.text())?;
-    Ok(bytes)
+    push_pieces(alloc, &mut bytes, line.text(), line);
+    bytes
 }
 
-fn push_pieces(alloc: Global, bytes: &mut Vec<u8>, text: &str) -> Result<(), Failure> {
+/// Adds the bytes that a text spells.
+pub fn push_pieces(alloc: Global, bytes: &mut Vec<u8>, text: &str, line: &mut Words<'_>) {
     let mut times = Some(0);
     // Between quotes, which no escaped text holds, stand a number of times and a text in turn; nothing follows the last.
     for (index, part) in text.split('"').enumerate() {
         if index % 2 == 0 {
             times = read_times(part);
         } else {
-            push_times(alloc, bytes, times, part)?;
+            push_times(alloc, bytes, times, part, line);
         }
     }
-    if text.ends_with('"') {
-        Ok(())
-    } else {
-        Err(Failure::Script)
+    if !text.ends_with('"') {
+        line.refuse();
     }
 }
 
@@ -44,10 +43,21 @@ fn push_times(
     bytes: &mut Vec<u8>,
     times: Option<u32>,
     text: &str,
-) -> Result<(), Failure> {
-    let piece = unescape(alloc, text.as_bytes())?;
-    for _ in 0..times.ok_or(Failure::Script)? {
-        bytes.extend_from_slice(&piece)?;
+    line: &mut Words<'_>,
+) {
+    let Some(times) = times else {
+        line.refuse();
+        return;
+    };
+    match unescape(alloc, text.as_bytes()) {
+        Ok(piece) => {
+            for _ in 0..times {
+                if bytes.extend_from_slice(&piece).is_err() {
+                    line.fail(Failure::NoMemory);
+                    break;
+                }
+            }
+        }
+        Err(fault) => line.fail(Failure::from(fault)),
     }
-    Ok(())
 }

@@ -11,34 +11,33 @@ const CHANGES: &[u8] = b"\x00\n\r \"(*0:[\\]{az\x7f\xe9";
 /// How many bytes a scanner is fed at once.
 const PIECE: usize = 3;
 
-/// The reader of commands or that of replies, and whether it found no memory.
+/// The reader of commands or that of replies.
 #[derive(Clone, Copy)]
 pub struct Reader {
-    alloc: Global,
-    side: Speaker,
-    /// Whether a growth was refused.
-    pub is_lost: bool,
+    /// What makes its values.
+    pub alloc: Global,
+    /// Whose lines it reads.
+    pub side: Speaker,
 }
 
 impl Reader {
-    /// The reader of this side.
-    pub fn new(alloc: Global, side: Speaker) -> Reader {
-        Reader {
-            alloc,
-            side,
-            is_lost: false,
+    /// What it answers, without the value that it reads.
+    pub fn read(self, bytes: &[u8]) -> Result<Read<()>, WireFault> {
+        match self.side {
+            Speaker::Commands => without_value(read_command(self.alloc, bytes)),
+            Speaker::Replies => without_value(read_reply(self.alloc, bytes)),
         }
     }
 
     /// Reports the answer to the whole.
-    pub fn answer_whole(&mut self, reported: &mut Reported, bytes: &[u8]) {
+    pub fn answer_whole(self, reported: &mut Reported, bytes: &[u8]) {
         reported.begin();
         self.answer(reported, bytes);
         reported.end();
     }
 
     /// Reports the answers to the beginnings, the places, and for each byte the answers to the bytes with it changed.
-    pub fn answer_parts(&mut self, reported: &mut Reported, bytes: &mut [u8]) {
+    pub fn answer_parts(self, reported: &mut Reported, bytes: &mut [u8]) {
         self.answer_beginnings(reported, bytes);
         print_places(reported, bytes);
         for place in 0..bytes.len() {
@@ -46,7 +45,7 @@ impl Reader {
         }
     }
 
-    fn answer_beginnings(&mut self, reported: &mut Reported, bytes: &[u8]) {
+    fn answer_beginnings(self, reported: &mut Reported, bytes: &[u8]) {
         reported.begin();
         for length in 0..bytes.len() {
             reported.text(if length > 0 { ", " } else { "" });
@@ -56,7 +55,7 @@ impl Reader {
     }
 
     /// Leaves the bytes as they were.
-    fn answer_changes(&mut self, reported: &mut Reported, bytes: &mut [u8], place: usize) {
+    fn answer_changes(self, reported: &mut Reported, bytes: &mut [u8], place: usize) {
         let kept = bytes.get(place).copied().unwrap_or_default();
         reported.begin();
         for (index, change) in CHANGES.iter().enumerate() {
@@ -68,29 +67,37 @@ impl Reader {
         put(bytes, place, kept);
     }
 
-    fn answer(&mut self, reported: &mut Reported, bytes: &[u8]) {
-        match self.side {
-            Speaker::Commands => self.report(reported, read_command(self.alloc, bytes)),
-            Speaker::Replies => self.report(reported, read_reply(self.alloc, bytes)),
-        }
-    }
-
-    fn report<T: Drop>(&mut self, reported: &mut Reported, answer: Result<Read<T>, WireFault>) {
-        self.is_lost |= matches!(answer, Err(WireFault::NoMemory));
-        print_answer(reported, &answer);
+    fn answer(self, reported: &mut Reported, bytes: &[u8]) {
+        print_answer(reported, self.read(bytes));
     }
 }
 
-/// Adds the letter of an answer, and the number after it if it has one.
-pub fn print_answer<T>(reported: &mut Reported, answer: &Result<Read<T>, WireFault>) {
+/// An answer without the value that was read.
+pub fn without_value<T: Drop>(answer: Result<Read<T>, WireFault>) -> Result<Read<()>, WireFault> {
+    match answer {
+        Ok(Read::Whole(value, used)) => {
+            drop(value);
+            Ok(Read::Whole((), used))
+        }
+        Ok(Read::WantsLiteral(octets)) => Ok(Read::WantsLiteral(octets)),
+        Ok(Read::Partial) => Ok(Read::Partial),
+        Err(fault) => Err(fault),
+    }
+}
+
+/// Adds the letter of an answer, and the number after it if it has one. Want of memory counts as a loss.
+pub fn print_answer(reported: &mut Reported, answer: Result<Read<()>, WireFault>) {
     let (letter, number) = match answer {
-        Ok(Read::Whole(_, used)) => ("w ", Some(*used)),
-        Ok(Read::WantsLiteral(octets)) => ("a ", Some(*octets as usize)),
+        Ok(Read::Whole((), used)) => ("w ", Some(used)),
+        Ok(Read::WantsLiteral(octets)) => ("a ", Some(octets as usize)),
         Ok(Read::Partial) => ("p", None),
-        Err(WireFault::Syntax(at)) => ("s ", Some(*at)),
-        Err(WireFault::LiteralTooLong(at)) => ("t ", Some(*at)),
+        Err(WireFault::Syntax(at)) => ("s ", Some(at)),
+        Err(WireFault::LiteralTooLong(at)) => ("t ", Some(at)),
         Err(WireFault::LineTooLong) => ("l", None),
-        Err(WireFault::NoMemory) => ("", None),
+        Err(WireFault::NoMemory) => {
+            reported.lose();
+            ("", None)
+        }
     };
     reported.text(letter);
     if let Some(number) = number {

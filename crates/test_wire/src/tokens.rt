@@ -2,7 +2,7 @@
 
 use crate::command::print_command;
 use crate::made::{make, make_of_vec};
-use crate::named::{read_has, read_named};
+use crate::named::{print_named, read_has};
 use crate::pieces::read_pieces;
 use crate::reply::print_reply;
 use crate::reporting::{print_count, print_line};
@@ -65,40 +65,32 @@ impl Tokens {
     }
 
     /// The lines that have words of their own before their bytes.
-    fn ask(
-        &mut self,
-        word: &str,
-        line: &mut Words<'_>,
-        reported: &mut Reported,
-    ) -> Result<(), Failure> {
+    fn ask(&mut self, word: &str, line: &mut Words<'_>, reported: &mut Reported) {
         match word {
             "has" => {
-                let has = read_has(self.alloc, line)?;
+                let has = read_has(self.alloc, line);
                 reported.answer(if has { "has it" } else { "has it not" });
             }
-            "uid" => read_named(self.alloc, line, reported)?,
+            "uid" => print_named(self.alloc, line, reported),
             "empty-set" => {
                 let set = UidSet::new(Vec::new(self.alloc));
                 reported.answer(if set.is_some() { "a set" } else { "none" });
             }
             "make" => {
                 let kind = line.word();
-                let bytes = read_pieces(self.alloc, line)?;
+                let bytes = read_pieces(self.alloc, line);
                 self.make(kind, bytes, line, reported);
             }
             "write" => {
-                if line.word() != "line-text" {
-                    line.refuse();
-                }
-                let text = read_pieces(self.alloc, line)?;
+                line.expect("line-text");
+                let text = read_pieces(self.alloc, line);
                 self.write_line_text(&text, reported);
             }
             _ => {
-                let bytes = read_pieces(self.alloc, line)?;
+                let bytes = read_pieces(self.alloc, line);
                 self.read(word, &bytes, line, reported);
             }
         }
-        Ok(())
     }
 
     fn make(&mut self, kind: &str, bytes: Vec<u8>, line: &mut Words<'_>, reported: &mut Reported) {
@@ -117,12 +109,14 @@ impl Tokens {
                 let read = read_command(self.alloc, bytes);
                 if let Some(command) = self.whole(reported, read) {
                     print_command(self, reported, &command);
+                    drop(command);
                 }
             }
             "reply" => {
                 let read = read_reply(self.alloc, bytes);
                 if let Some(reply) = self.whole(reported, read) {
                     print_reply(self, reported, &reply);
+                    drop(reply);
                 }
             }
             _ => match print_token(self, word, bytes, line, reported) {
@@ -177,9 +171,9 @@ impl Player for Tokens {
     fn play(&mut self, line: &mut Words<'_>, script: &mut Script<'_>) -> Result<(), Failure> {
         self.empty();
         let word = line.word();
-        self.ask(word, line, &mut script.reported)?;
+        self.ask(word, line, &mut script.reported);
         if self.is_lost {
-            return Err(Failure::NoMemory);
+            line.fail(Failure::NoMemory);
         }
         Ok(())
     }

@@ -5,7 +5,7 @@ use crate::feed::Buffer;
 use crate::made_replies::{body, listings};
 use crate::reader::Reader;
 use crate::reporting::print_count;
-use imap_wire::{Read, WireFault, read_reply};
+use imap_wire::{Read, WireFault};
 use std::alloc::Global;
 use test_scripts::failure::Failure;
 use test_scripts::play::Player;
@@ -16,12 +16,11 @@ use texts::cut::cut;
 use texts::escape::unescape;
 use wire_reader::side::Speaker;
 
-/// The replies that were made last, and whether a growth was refused.
+/// The replies that were made last.
 #[derive(Drop)]
 pub struct Wire {
     alloc: Global,
     replies: Reported,
-    is_lost: bool,
 }
 
 impl Wire {
@@ -30,52 +29,59 @@ impl Wire {
         Wire {
             alloc,
             replies: Reported::new(alloc),
-            is_lost: false,
         }
     }
 
     /// The lines that ask what a reader answers.
-    fn example(
-        &mut self,
-        letter: &str,
-        line: &mut Words<'_>,
-        reported: &mut Reported,
-    ) -> Result<(), Failure> {
-        let (side, in_parts) = match letter {
-            "C" => (Speaker::Commands, true),
-            "R" => (Speaker::Replies, true),
-            "c" => (Speaker::Commands, false),
-            "r" => (Speaker::Replies, false),
-            _ => return Err(Failure::Script),
+    fn example(&self, letter: &str, bytes: &mut [u8], reported: &mut Reported) {
+        let side = match letter {
+            "C" | "c" => Speaker::Commands,
+            _ => Speaker::Replies,
         };
-        let mut bytes = unescape(self.alloc, line.rest())?;
-        let mut reader = Reader::new(self.alloc, side);
-        reader.answer_whole(reported, &bytes);
-        if in_parts {
-            reader.answer_parts(reported, &mut bytes);
+        let alloc = self.alloc;
+        let reader = Reader { alloc, side };
+        reader.answer_whole(reported, bytes);
+        if letter == "C" || letter == "R" {
+            reader.answer_parts(reported, bytes);
         }
-        self.is_lost = reader.is_lost;
-        Ok(())
+    }
+
+    /// The lines whose bytes are read.
+    fn read_bytes(&self, letter: &str, line: &mut Words<'_>, reported: &mut Reported) {
+        match unescape(self.alloc, line.rest()) {
+            Ok(mut bytes) => match letter {
+                "b" => answer_buffered(self.alloc, reported, &bytes),
+                "C" | "R" | "c" | "r" => self.example(letter, &mut bytes, reported),
+                _ => line.refuse(),
+            },
+            Err(fault) => line.fail(Failure::from(fault)),
+        }
     }
 
     fn make(&mut self, replies: Reported, reported: &mut Reported) {
-        self.is_lost = replies.is_lost();
+        if replies.is_lost() {
+            reported.lose();
+        }
         print_count(reported, "", replies.as_str().len(), " bytes");
         self.replies = replies;
     }
 
-    fn read_all(&mut self, reported: &mut Reported) {
+    fn read_all(&self, reported: &mut Reported) {
+        let reader = Reader {
+            alloc: self.alloc,
+            side: Speaker::Replies,
+        };
         let mut rest = self.replies.as_str().as_bytes();
         let (mut replies, mut used) = (0usize, 0usize);
         for _ in 0..rest.len() {
-            match read_reply(self.alloc, rest) {
-                Ok(Read::Whole(_, length)) => {
+            match reader.read(rest) {
+                Ok(Read::Whole((), length)) => {
                     replies = replies.saturating_add(1);
                     used = used.saturating_add(length);
                     rest = rest.get(length..).unwrap_or_default();
                 }
                 Err(WireFault::NoMemory) => {
-                    self.is_lost = true;
+                    reported.lose();
                     break;
                 }
                 _ => break,
@@ -84,14 +90,14 @@ impl Wire {
         print_replies(reported, replies, used);
     }
 
-    fn feed(&mut self, line: &mut Words<'_>, reported: &mut Reported) {
-        if line.word() != "in" || line.word() != "pieces" || line.word() != "of" {
-            line.refuse();
-        }
+    fn feed(&self, line: &mut Words<'_>, reported: &mut Reported) {
+        line.expect("in pieces of");
         let size = line.count();
         let mut buffer = Buffer::new(self.alloc);
         buffer.feed_all(self.replies.as_str().as_bytes(), size);
-        self.is_lost = buffer.is_lost;
+        if buffer.is_lost {
+            reported.lose();
+        }
         print_replies(reported, buffer.replies, buffer.begin);
     }
 }
@@ -106,20 +112,17 @@ impl Player for Wire {
         match line.word() {
             "listings" => self.make(listings(self.alloc, line.number()), reported),
             "body" => self.make(body(self.alloc, line.number()), reported),
-            "read" if line.text() == "all" => self.read_all(reported),
+            "read" => {
+                line.expect("all");
+                self.read_all(reported);
+            }
             "feed" => self.feed(line, reported),
-            "line" if line.text() == "feeds" => {
+            "line" => {
+                line.expect("feeds");
                 let feeds = count_line_feeds(self.replies.as_str().as_bytes());
                 print_count(reported, "", feeds, " line feeds");
             }
-            "b" => {
-                let bytes = unescape(self.alloc, line.rest())?;
-                answer_buffered(self.alloc, reported, &bytes)?;
-            }
-            letter => self.example(letter, line, reported)?,
-        }
-        if self.is_lost {
-            return Err(Failure::NoMemory);
+            letter => self.read_bytes(letter, line, reported),
         }
         Ok(())
     }
