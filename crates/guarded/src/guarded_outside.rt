@@ -121,6 +121,12 @@ impl<O: Outside + FarNext, G: Guard> Outside for GuardedOutside<O, G> {
 
     ghost opened = { λ guarded. O.opened guarded.outside };
 
+    ghost Record = { Unit {0} };
+
+    ghost noted = { λ _ _. tt };
+
+    ghost asked = { λ _. tt };
+
     #[tactic(auto, using(crate::proofs::PlanReads::is_read_as_book))]
     fn open_book(&mut self) -> Result<(), OutsideFault> {
         self.outside.open_book()?;

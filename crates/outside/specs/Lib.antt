@@ -4,6 +4,7 @@ pub mod GoingOn
 pub mod Arrivals
 pub mod Calls
 pub mod Opened
+pub mod Asked
 pub mod BookCalls
 pub mod BoxCalls
 pub mod BoxArrivals

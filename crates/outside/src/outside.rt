@@ -43,6 +43,7 @@ pub trait Outside {
     ghost use Rattle.book.specs.GivingUp.{GivesUpHalf, GivesUpTo};
     ghost use Rattle.book.specs.LostSides.{AreRising};
     ghost use Rattle.outside.specs.Arrivals.{Arrives};
+    ghost use Rattle.outside.specs.Asked.{Asked, Begun, Cleared, Copied, Read, Removed, Set};
     ghost use Rattle.outside.specs.Devices.{box};
     ghost use Rattle.outside.specs.Calls.{Call, Changes, FromBook, FromBox, FromOpening, FromShelf, LeavesBy, Opens, Reads, Seen, Writes, opened_again, stopped};
     ghost use Rattle.outside.specs.Opened.{IsBook, IsHeld, IsOpen, IsRead, Opened, AreCommitted, AreGivenUp, TakesCommit, TakesDiscard, TakesGivingUp, TakesLog, TakesPlan, journal_of, shown_far, state_of, turned, with_box, with_listing};
@@ -69,10 +70,21 @@ pub trait Outside {
     /// What was read of the shelf, once it was, which UIDVALIDITY each open box has answered last, and which devices were listed.
     ghost opened: { Self → Option Opened };
 
+    /// A record of what an outside is asked for. Which record it is, an implementer says; what is proved over any outside holds for every
+    /// one, the list of all that was asked among them.
+    ghost Record: { Type 0 };
+
+    /// The record after one thing more.
+    ghost noted: { Record → Asked → Record };
+
+    /// The record of what this outside was asked for.
+    ghost asked: { Self → Record };
+
     /// Reads the shelf. `BadState` and `BadJournal`: its files hold no book, and this is the first line that shows it.
     fn open_book(&mut self) -> Result<(), OutsideFault>
         ensures was_honest { honest self.new → honest self.old }
         ensures keywords { keywords self.new ≡ keywords self.old }
+        ensures asked { asked self.new ≡ noted (asked self.old) (Read (journal_of (opened self.new))) }
         ensures book { OnOk result (IsBook (opened self.new)) }
         ensures call { Call (honest self.new) (Arrives ours alone) (λ _. 0) FromShelf (λ _. ReadsBook (opened self.new)) LeavesUnread
             (seen self.old) (seen self.new) result };
@@ -93,6 +105,7 @@ pub trait Outside {
         requires takes { TakesDiscard (opened self.old) }
         ensures was_honest { honest self.new → honest self.old }
         ensures keywords { keywords self.new ≡ keywords self.old }
+        ensures asked { asked self.new ≡ asked self.old }
         ensures opened { OnOk result (opened self.new ≡ turned (λ _. Missing) (opened self.old)) }
         ensures call { Writes (honest self.new) (Arrives ours alone) FromBook (OfBook (λ p. TurnsJournal p Missing) (opened self.old))
             (OfBook (λ p. TurnsHalf p Missing) (opened self.old)) (seen self.old) (seen self.new) result };
@@ -102,6 +115,7 @@ pub trait Outside {
         requires read { IsRead (opened self.old) }
         ensures was_honest { honest self.new → honest self.old }
         ensures keywords { keywords self.new ≡ keywords self.old }
+        ensures asked { asked self.new ≡ asked self.old }
         ensures opened { OnOk result (opened self.new ≡ turned mended (opened self.old)) }
         ensures call { Writes (honest self.new) (Arrives ours alone) FromBook (OfBook (λ p. TurnsJournal p (mended p)) (opened self.old))
             (OfBook (λ p. TurnsHalf p p) (opened self.old)) (seen self.old) (seen self.new) result };
@@ -111,6 +125,7 @@ pub trait Outside {
         requires takes { TakesPlan (opened self.old) plan }
         ensures was_honest { honest self.new → honest self.old }
         ensures keywords { keywords self.new ≡ keywords self.old }
+        ensures asked { asked self.new ≡ noted (asked self.old) (Begun plan) }
         ensures opened { OnOk result (opened self.new ≡ turned (λ _. begun plan) (opened self.old)) }
         ensures call { Writes (honest self.new) (Arrives ours alone) FromBook
             (OfBook (λ _. TurnsJournal Missing (begun plan)) (opened self.old)) (OfBook (λ _. TurnsHalf Missing Useless) (opened self.old))
@@ -123,6 +138,7 @@ pub trait Outside {
         requires takes { TakesLog (opened self.old) step (as_done copy) }
         ensures was_honest { honest self.new → honest self.old }
         ensures keywords { keywords self.new ≡ keywords self.old }
+        ensures asked { asked self.new ≡ asked self.old }
         ensures opened { OnOk result (opened self.new ≡ turned (λ p. logged_more p (as_done copy)) (opened self.old)) }
         ensures call { Writes (honest self.new) (Arrives ours alone) (FromLog (opened self.old) (as_done copy))
             (OfBook (λ p. TurnsJournal p (logged_more p (as_done copy))) (opened self.old))
@@ -133,6 +149,7 @@ pub trait Outside {
         requires takes { TakesLog (opened self.old) step Void }
         ensures was_honest { honest self.new → honest self.old }
         ensures keywords { keywords self.new ≡ keywords self.old }
+        ensures asked { asked self.new ≡ asked self.old }
         ensures opened { OnOk result (opened self.new ≡ turned (λ p. logged_more p Void) (opened self.old)) }
         ensures call { Writes (honest self.new) (Arrives ours alone) FromBook
             (OfBook (λ p. TurnsJournal p (logged_more p Void)) (opened self.old)) (OfBook (λ p. TurnsHalf p (torn p)) (opened self.old))
@@ -143,6 +160,7 @@ pub trait Outside {
         requires takes { TakesCommit (opened self.old) }
         ensures was_honest { honest self.new → honest self.old }
         ensures keywords { keywords self.new ≡ keywords self.old }
+        ensures asked { asked self.new ≡ asked self.old }
         ensures opened { OnOk result (AreCommitted (opened self.old) (opened self.new)) }
         ensures held { result ≡ Ok tt → honest self.new → IsHeld (opened self.new) (seen self.new).device }
         ensures call { Writes (honest self.new) (Arrives ours alone) FromBook (OfBook CommitsTo (opened self.old))
@@ -155,6 +173,7 @@ pub trait Outside {
         requires rising { AreRising lost.now }
         ensures was_honest { honest self.new → honest self.old }
         ensures keywords { keywords self.new ≡ keywords self.old }
+        ensures asked { asked self.new ≡ asked self.old }
         ensures opened { OnOk result (AreGivenUp lost.now (opened self.old) (opened self.new)) }
         ensures held { result ≡ Ok tt → honest self.new → IsHeld (opened self.new) (seen self.new).device }
         ensures call { Writes (honest self.new) (Arrives ours alone) FromBook (OfBook (GivesUpTo lost.now) (opened self.old))
@@ -164,6 +183,7 @@ pub trait Outside {
     fn open_box(&mut self, side: Side) -> Result<u32, OutsideFault>
         ensures was_honest { honest self.new → honest self.old }
         ensures keywords { keywords self.new ≡ keywords self.old }
+        ensures asked { asked self.new ≡ asked self.old }
         ensures opened { IfOk result (λ validity. opened self.new ≡ with_box side validity (opened self.old)) }
         ensures call { Opens (honest self.new) (Arrives ours alone) (λ validity d. validity ≡ (box d side).validity) (seen self.old)
             (seen self.new) result };
@@ -173,6 +193,7 @@ pub trait Outside {
         requires is_open { IsOpen Side.Near (opened self.old) }
         ensures was_honest { honest self.new → honest self.old }
         ensures keywords { keywords self.new ≡ keywords self.old }
+        ensures asked { asked self.new ≡ asked self.old }
         ensures opened { opened self.new ≡ opened self.old }
         ensures call { Call {T = Unit {0}} (honest self.new) (Arrives ours alone) (λ _. 0) FromOpening
             (λ _. Admits alone (seen self.old).device.near.waiting)
@@ -184,6 +205,7 @@ pub trait Outside {
         requires is_open { IsOpen Side.Far (opened self.old) }
         ensures was_honest { honest self.new → honest self.old }
         ensures keywords { keywords self.new ≡ keywords self.old }
+        ensures asked { asked self.new ≡ asked self.old }
         ensures opened { IfOk result (λ listing. opened self.new ≡ with_listing Side.Far listing.validity
             (shown_far listing.next (seen self.new).device) (opened self.old)) }
         ensures unlisted { OnErr result (opened self.new ≡ opened self.old) }
@@ -197,6 +219,7 @@ pub trait Outside {
         requires is_open { IsOpen Side.Far (opened self.old) }
         ensures was_honest { honest self.new → honest self.old }
         ensures keywords { keywords self.new ≡ keywords self.old }
+        ensures asked { asked self.new ≡ asked self.old }
         ensures opened { opened self.new ≡ opened self.old }
         ensures numbers { IfOk result HasNumbers }
         ensures within { honest self.new → IfOk result (ListsWithin (keywords self.old)) }
@@ -208,6 +231,7 @@ pub trait Outside {
         requires is_open { IsOpen Side.Near (opened self.old) }
         ensures was_honest { honest self.new → honest self.old }
         ensures keywords { keywords self.new ≡ keywords self.old }
+        ensures asked { asked self.new ≡ asked self.old }
         ensures opened { IfOk result (λ listing. opened self.new ≡ with_listing Side.Near listing.validity (seen self.new).device
             (opened self.old)) }
         ensures unlisted { OnErr result (opened self.new ≡ opened self.old) }
@@ -220,6 +244,7 @@ pub trait Outside {
         requires is_open { IsOpen Side.Near (opened self.old) }
         ensures was_honest { honest self.new → honest self.old }
         ensures keywords { keywords self.new ≡ keywords self.old }
+        ensures asked { asked self.new ≡ asked self.old }
         ensures opened { opened self.new ≡ opened self.old }
         ensures numbers { IfOk result HasNumbers }
         ensures within { honest self.new → IfOk result (ListsWithin (keywords self.old)) }
@@ -230,6 +255,7 @@ pub trait Outside {
         requires is_open { IsOpen side (opened self.old) }
         ensures was_honest { honest self.new → honest self.old }
         ensures keywords { keywords self.new ≡ keywords self.old }
+        ensures asked { asked self.new ≡ asked self.old }
         ensures opened { opened self.new ≡ opened self.old }
         ensures call { Reads (honest self.new) (Arrives ours alone) (λ found d. found ≡ marked_from mark from (box d side)) (seen self.old)
             (seen self.new) result };
@@ -246,6 +272,7 @@ pub trait Outside {
         requires near_open { IsOpen Side.Near (opened self.old) }
         ensures was_honest { honest self.new → honest self.old }
         ensures keywords { keywords self.new ≡ keywords self.old }
+        ensures asked { asked self.new ≡ noted (asked self.old) (Copied direction uid flags mark) }
         ensures opened { opened self.new ≡ opened self.old }
         ensures call { Call (honest self.new) (Arrives ours alone) copies_made FromBox
             (Carry direction uid (kept (keywords self.old) flags) mark)
@@ -257,6 +284,7 @@ pub trait Outside {
         requires is_open { IsOpen side (opened self.old) }
         ensures was_honest { honest self.new → honest self.old }
         ensures keywords { keywords self.new ≡ keywords self.old }
+        ensures asked { asked self.new ≡ noted (asked self.old) (Set side uid flags) }
         ensures opened { opened self.new ≡ opened self.old }
         ensures call { Changes {T = Unit {0}} (honest self.new) (Arrives ours alone)
             (λ _. Turns side uid (flags_added uid (kept (keywords self.old) flags))) (Names side uid) (seen self.old) (seen self.new) result };
@@ -266,6 +294,7 @@ pub trait Outside {
         requires is_open { IsOpen side (opened self.old) }
         ensures was_honest { honest self.new → honest self.old }
         ensures keywords { keywords self.new ≡ keywords self.old }
+        ensures asked { asked self.new ≡ noted (asked self.old) (Cleared side uid flags) }
         ensures opened { opened self.new ≡ opened self.old }
         ensures call { Changes {T = Unit {0}} (honest self.new) (Arrives ours alone)
             (λ _. Turns side uid (flags_removed uid (kept (keywords self.old) flags))) (Names side uid) (seen self.old) (seen self.new) result };
@@ -276,6 +305,7 @@ pub trait Outside {
         requires is_open { IsOpen side (opened self.old) }
         ensures was_honest { honest self.new → honest self.old }
         ensures keywords { keywords self.new ≡ keywords self.old }
+        ensures asked { asked self.new ≡ noted (asked self.old) (Removed side uid) }
         ensures opened { opened self.new ≡ opened self.old }
         ensures call { Changes {T = Unit {0}} (honest self.new) (Arrives ours alone) (λ _. Turns side uid (removed uid))
             (Names side uid) (seen self.old) (seen self.new) result };
@@ -284,6 +314,7 @@ pub trait Outside {
     fn stop(&mut self) -> OutsideFault
         ensures was_honest { honest self.new → honest self.old }
         ensures keywords { keywords self.new ≡ keywords self.old }
+        ensures asked { asked self.new ≡ asked self.old }
         ensures fault { result ≡ OutsideFault.Stopped }
         ensures stopped { seen self.new ≡ stopped (seen self.old) }
         ensures opened { opened self.new ≡ opened self.old };
@@ -293,5 +324,6 @@ pub trait Outside {
         ensures seen { seen self.new ≡ opened_again (seen self.old) }
         ensures was_honest { honest self.new → honest self.old }
         ensures keywords { keywords self.new ≡ keywords self.old }
+        ensures asked { asked self.new ≡ asked self.old }
         ensures opened { opened self.new ≡ None };
 }

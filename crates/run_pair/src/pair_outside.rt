@@ -64,6 +64,12 @@ impl<F: Mailbox + Drop, N: Mailbox + Drop, S: Shelf + Drop> Outside for Pair<F, 
 
     ghost opened = { opened_of };
 
+    ghost Record = { Unit {0} };
+
+    ghost noted = { λ _ _. tt };
+
+    ghost asked = { λ _. tt };
+
     fn open_book(&mut self) -> Result<(), OutsideFault>
         ensures was_honest { honest_of self.new → honest_of self.old }
         ensures keywords { F.keywords self.new.far ≡ F.keywords self.old.far }

@@ -1,6 +1,7 @@
 pub mod PartCalls
 pub mod StepParts
 pub mod Stages
+pub mod Asking
 pub mod Wholes
 pub mod Within
 pub mod SomeFlags

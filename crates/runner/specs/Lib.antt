@@ -2,6 +2,7 @@ pub mod Faults
 pub mod FaultTexts
 pub mod Parts
 pub mod Going
+pub mod Asking
 pub mod Before
 pub mod Results
 pub mod Answers

@@ -1,11 +1,12 @@
 //! A step that changes flags of a message, or removes it.
 
-ghost use Rattle.std.specs.Prelude.{◌≡◌, Some, IfOk, true, false};
+ghost use Rattle.std.specs.Prelude.{◌≡◌, ◌∷◌, [], Some, IfOk, true, false};
 ghost use Rattle.rules.specs.declared.plan.Step.TheVariants as step;
 ghost use Rattle.sync_state.specs.declared.journal.Logged.TheVariants.{Done};
 ghost use Rattle.law_outcome.specs.Steps.{changed_uid};
 ghost use Rattle.run_states.specs.Conditions.{Underway};
 ghost use Rattle.run_states.specs.Openings.{Opening};
+ghost use Rattle.runner.specs.Asking.{Calls};
 ghost use Rattle.runner.specs.Parts.{StepPart};
 ghost use Rattle.runner.specs.Going.{IsGoing, DuringStep, AfterStep, BeforeStep, logged_of, made_by, next_at, sets_some};
 
@@ -57,6 +58,8 @@ fn set_flags<O: Outside>(outside: &mut O, number: usize, flags: &FlagStep) -> Re
         (BeforeStep opening (O.opened outside.old) true) (Underway opening) (λ _. 0)
         (λ _. DuringStep opening (O.opened outside.old) (sets_some flags.now.set)) (O.seen outside.old)
         (O.seen outside.new) result }
+    ensures asked { Calls O.noted (step.Flags flags.now.direction flags.now.far flags.now.near flags.now.set
+        flags.now.cleared ∷ []) (O.asked outside.old) (O.asked outside.new) }
 {
     if flags.set.is_empty() {
         return Ok(());
@@ -85,6 +88,8 @@ fn clear_flags<O: Outside>(outside: &mut O, number: usize, flags: &FlagStep) -> 
         (DuringStep opening (O.opened outside.old) (sets_some flags.now.set))
         (Underway opening) (λ _. 0) (λ _. AfterStep opening (O.opened outside.old) Done) (O.seen outside.old)
         (O.seen outside.new) result }
+    ensures asked { Calls O.noted (step.Flags flags.now.direction flags.now.far flags.now.near flags.now.set
+        flags.now.cleared ∷ []) (O.asked outside.old) (O.asked outside.new) }
 {
     if flags.cleared.is_empty() {
         return Ok(());
@@ -117,6 +122,8 @@ pub(crate) fn carry_flags<O: Outside>(
     ensures part { StepPart number (O.opened outside.old) (O.honest outside.new)
         (BeforeStep opening (O.opened outside.old) true) (Underway opening) made_by
         (λ r. AfterStep opening (O.opened outside.old) (logged_of r)) (O.seen outside.old) (O.seen outside.new) result }
+    ensures asked { Calls O.noted (step.Flags flags.now.direction flags.now.far flags.now.near flags.now.set
+        flags.now.cleared ∷ []) (O.asked outside.old) (O.asked outside.new) }
 {
     set_flags(outside, number, flags)?;
     clear_flags(outside, number, flags)?;
@@ -141,6 +148,7 @@ pub(crate) fn mark_deleted<O: Outside>(
     ensures part { StepPart number (O.opened outside.old) (O.honest outside.new)
         (BeforeStep opening (O.opened outside.old) true) (Underway opening) made_by
         (λ r. AfterStep opening (O.opened outside.old) (logged_of r)) (O.seen outside.old) (O.seen outside.new) result }
+    ensures asked { Calls O.noted (step.Gone direction far near ∷ []) (O.asked outside.old) (O.asked outside.new) }
 {
     let side = direction.target();
     let uid = changed_uid(direction, far, near);
@@ -167,6 +175,7 @@ pub(crate) fn remove<O: Outside>(
     ensures part { StepPart number (O.opened outside.old) (O.honest outside.new)
         (BeforeStep opening (O.opened outside.old) true) (Underway opening) made_by
         (λ r. AfterStep opening (O.opened outside.old) (logged_of r)) (O.seen outside.old) (O.seen outside.new) result }
+    ensures asked { Calls O.noted (step.Expunge side uid ∷ []) (O.asked outside.old) (O.asked outside.new) }
 {
     match outside.expunge(side, uid) {
         Ok(()) => Ok(StepResult::Plain),

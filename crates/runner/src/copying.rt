@@ -1,10 +1,11 @@
 //! A step that copies a message.
 
-ghost use Rattle.std.specs.Prelude.{◌≡◌, None, Some, IfOk, true, false};
+ghost use Rattle.std.specs.Prelude.{◌≡◌, ◌∷◌, [], None, Some, IfOk, true, false};
 ghost use Rattle.rules.specs.declared.plan.Step.TheVariants as step;
 ghost use Rattle.sync_state.specs.JournalText.{LogsNew};
 ghost use Rattle.run_states.specs.Conditions.{Underway};
 ghost use Rattle.run_states.specs.Openings.{Opening};
+ghost use Rattle.runner.specs.Asking.{Calls};
 ghost use Rattle.runner.specs.Parts.{StepPart};
 ghost use Rattle.runner.specs.Going.{IsGoing, AfterCopy, AfterStep, BeforeStep, AfterSearch, CopiesUnder, FoundCopy, logged_of, made_by, next_at, plan_at};
 ghost use Rattle.runner.specs.Finding.{OfSame, copy_at, copy_under, reported_found};
@@ -39,6 +40,7 @@ fn seek<O: Outside>(
     ensures found { IfOk result (λ found. O.honest outside.new → BeforeStep opening (O.opened outside.old) true
         (O.seen outside.old).device → OfSame O.ours (O.seen outside.old).device (λ d. found ≡ copy_under
         (plan_at (O.opened outside.old)) direction mark d)) }
+    ensures asked { O.asked outside.new ≡ O.asked outside.old }
 {
     let side = direction.target();
     let from = first_uid(outside, side);
@@ -64,6 +66,7 @@ fn find_copy<O: Outside>(
     ensures part { StepPart number (O.opened outside.old) (O.honest outside.new)
         (AfterCopy opening (O.opened outside.old)) (Underway opening) (λ _. 0)
         (FoundCopy opening (O.opened outside.old)) (O.seen outside.old) (O.seen outside.new) result }
+    ensures asked { O.asked outside.new ≡ O.asked outside.old }
 {
     let side = direction.target();
     let from = first_uid(outside, side);
@@ -96,6 +99,7 @@ fn copy<O: Outside>(
     ensures part { StepPart number (O.opened outside.old) (O.honest outside.new)
         (BeforeStep opening (O.opened outside.old) false) (Underway opening) made_by
         (λ r. AfterStep opening (O.opened outside.old) (logged_of r)) (O.seen outside.old) (O.seen outside.new) result }
+    ensures asked { Calls O.noted (step.New direction uid flags mark ∷ []) (O.asked outside.old) (O.asked outside.new) }
 {
     let carried = match outside.carry(direction, uid, mark, flags) {
         Ok(carried) => carried,
@@ -138,6 +142,7 @@ pub(crate) fn bring<O: Outside>(
     ensures part { StepPart number (O.opened outside.old) (O.honest outside.new)
         (BeforeStep opening (O.opened outside.old) is_resumed) (Underway opening) made_by
         (λ r. AfterStep opening (O.opened outside.old) (logged_of r)) (O.seen outside.old) (O.seen outside.new) result }
+    ensures asked { Calls O.noted (step.New direction uid flags mark ∷ []) (O.asked outside.old) (O.asked outside.new) }
 {
     if !is_resumed {
         return copy(outside, number, direction, uid, flags, mark);

@@ -6,7 +6,8 @@ ghost use Rattle.book.specs.Books.{mended};
 ghost use Rattle.book.specs.BookLogs.{begun};
 ghost use Rattle.outside.specs.MailboxOperations.{HasNumbers};
 ghost use Rattle.mailcore.specs.Spared.{spares};
-ghost use Rattle.outside.specs.Opened.{IsBook, IsHeld, IsOpen, IsRead, TakesPlan, shown_far, state_of, turned, with_listing};
+ghost use Rattle.outside.specs.Asked.{Begun, Read};
+ghost use Rattle.outside.specs.Opened.{IsBook, IsHeld, IsOpen, IsRead, TakesPlan, journal_of, shown_far, state_of, turned, with_listing};
 ghost use Rattle.run_states.specs.Conditions.{Underway};
 ghost use Rattle.run_states.specs.Openings.{Opening, once_listed};
 ghost use Rattle.runner.specs.Faults.{ReportsUnread, because, or_unread};
@@ -39,6 +40,7 @@ pub(crate) fn recall<O: Outside>(outside: &mut O) -> Result<(), RunFault>
     ensures part { PartOr (or_unread (ReportsUnread (O.honest outside.new) (O.seen outside.new).device) Never) (O.honest outside.new)
         (Underway opening) (Underway opening)
         (λ _. 0) (λ _. ReadUnderway opening (O.opened outside.new)) (O.seen outside.old) (O.seen outside.new) result }
+    ensures asked { O.asked outside.new ≡ O.noted (O.asked outside.old) (Read (journal_of (O.opened outside.new))) }
 {
     match outside.open_book() {
         Ok(()) => Ok(()),
@@ -60,6 +62,7 @@ pub(crate) fn forget<O: Outside>(outside: &mut O) -> Result<(), RunFault>
     ensures stores { OnOk result (LeavesBoxes (O.honest outside.new) O.alone (O.seen outside.old).device (O.seen outside.new).device) }
     ensures part { Part (O.honest outside.new) (ReadUnderway opening (O.opened outside.old)) (Underway opening)
         (λ _. 0) (λ _. ReadUnderway opening (O.opened outside.new)) (O.seen outside.old) (O.seen outside.new) result }
+    ensures asked { O.asked outside.new ≡ O.asked outside.old }
 {
     if outside.pending().is_some() {
         return Ok(());
@@ -80,6 +83,7 @@ pub(crate) fn untear<O: Outside>(outside: &mut O) -> Result<(), RunFault>
     ensures same { OnOk result (O.honest outside.new → FindsSame O.ours (O.seen outside.old).device (O.seen outside.new).device) }
     ensures part { Part (O.honest outside.new) (Resumed opening (O.opened outside.old)) (Underway opening)
         (λ _. 0) (λ _. BeforeStep opening (O.opened outside.new) true) (O.seen outside.old) (O.seen outside.new) result }
+    ensures asked { O.asked outside.new ≡ O.asked outside.old }
 {
     match outside.mend() {
         Ok(()) => Ok(()),
@@ -97,6 +101,7 @@ fn empty<O: Outside>(outside: &mut O) -> Result<(), RunFault>
     ensures validities { OnOk result (O.honest outside.new → KeepsValidities (O.seen outside.old).device (O.seen outside.new).device) }
     ensures part { Part (O.honest outside.new) (HasNone opening (O.opened outside.old)) (Underway opening) (λ _. 0)
         (λ _. IsClear opening (O.opened outside.new) false) (O.seen outside.old) (O.seen outside.new) result }
+    ensures asked { O.asked outside.new ≡ O.asked outside.old }
 {
     match outside.discard() {
         Ok(()) => Ok(()),
@@ -114,6 +119,7 @@ fn admit<O: Outside>(outside: &mut O) -> Result<(), RunFault>
     ensures validities { OnOk result (O.honest outside.new → KeepsValidities (O.seen outside.old).device (O.seen outside.new).device) }
     ensures part { Part (O.honest outside.new) (IsClear opening (O.opened outside.old) false) (Underway opening)
         (λ _. 0) (λ _. IsClear opening (O.opened outside.new) true) (O.seen outside.old) (O.seen outside.new) result }
+    ensures asked { O.asked outside.new ≡ O.asked outside.old }
 {
     match outside.admit() {
         Ok(()) => Ok(()),
@@ -132,6 +138,7 @@ pub(crate) fn clear<O: Outside>(outside: &mut O) -> Result<(), RunFault>
     ensures validities { OnOk result (O.honest outside.new → KeepsValidities (O.seen outside.old).device (O.seen outside.new).device) }
     ensures part { Part (O.honest outside.new) (HasNone opening (O.opened outside.old)) (Underway opening) (λ _. 0)
         (λ _. IsClear opening (O.opened outside.new) true) (O.seen outside.old) (O.seen outside.new) result }
+    ensures asked { O.asked outside.new ≡ O.asked outside.old }
 {
     empty(outside)?;
     admit(outside)
@@ -151,6 +158,7 @@ fn list_far<O: Outside>(outside: &mut O) -> Result<Listing, RunFault>
     ensures validity { IfOk result (λ far. O.honest outside.new → far.validity ≡ (O.seen outside.new).device.far.validity) }
     ensures part { Part (O.honest outside.new) (IsClear opening (O.opened outside.old) true) (Underway opening)
         (λ _. 0) (λ far. FarListed opening (O.opened outside.new) far) (O.seen outside.old) (O.seen outside.new) result }
+    ensures asked { O.asked outside.new ≡ O.asked outside.old }
 {
     match outside.list_far() {
         Ok(far) => Ok(far),
@@ -178,6 +186,7 @@ fn list_near<O: Outside>(
     ensures part { Part (O.honest outside.new) (FarListed opening (O.opened outside.old) far.now) (Underway opening)
         (λ _. 0) (λ near. BothListed opening (O.opened outside.new) far.now near) (O.seen outside.old) (O.seen outside.new)
         result }
+    ensures asked { O.asked outside.new ≡ O.asked outside.old }
 {
     match outside.list_near(spared) {
         Ok(near) => Ok(near),
@@ -210,6 +219,7 @@ pub(crate) fn list_both<O: Outside>(alloc: Global, outside: &mut O) -> Result<Li
     ensures part { Part (O.honest outside.new) (IsClear opening (O.opened outside.old) true) (Underway opening)
         (λ _. 0) (λ both. BothListed opening (O.opened outside.new) both.far both.near) (O.seen outside.old)
         (O.seen outside.new) result }
+    ensures asked { O.asked outside.new ≡ O.asked outside.old }
 {
     let far = list_far(outside)?;
     let Ok(spared) = old_messages(alloc, outside.state()) else {
@@ -229,6 +239,7 @@ pub(crate) fn write_plan<O: Outside>(outside: &mut O, plan: Plan) -> Result<(), 
     ensures part { Part (O.honest outside.new) (IsMade opening (O.opened outside.old) plan) (Underway opening) (λ _. 0)
         (λ _. BeforeStep (once_listed opening (world_shown (O.opened outside.new))) (O.opened outside.new) false)
         (O.seen outside.old) (O.seen outside.new) result }
+    ensures asked { O.asked outside.new ≡ O.noted (O.asked outside.old) (Begun plan) }
 {
     match outside.begin(plan) {
         Ok(()) => Ok(()),
@@ -272,6 +283,7 @@ fn open_one<O: Outside>(outside: &mut O, side: Side) -> Result<(), RunFault>
         (O.honest outside.new) (ReadUnderway opening (O.opened outside.old))
         (Underway opening) (λ _. 0) (λ _. ReadUnderway opening (O.opened outside.new)) (O.seen outside.old)
         (O.seen outside.new) result }
+    ensures asked { O.asked outside.new ≡ O.asked outside.old }
 {
     let recorded = recorded_validity(outside, side);
     match outside.open_box(side) {
@@ -304,6 +316,7 @@ pub(crate) fn open_boxes<O: Outside>(outside: &mut O) -> Result<(), RunFault>
         (O.honest outside.new) (ReadUnderway opening (O.opened outside.old))
         (Underway opening) (λ _. 0) (λ _. ReadUnderway opening (O.opened outside.new)) (O.seen outside.old)
         (O.seen outside.new) result }
+    ensures asked { O.asked outside.new ≡ O.asked outside.old }
 {
     open_one(outside, Side::Far)?;
     open_one(outside, Side::Near)

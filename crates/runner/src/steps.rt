@@ -9,6 +9,7 @@ ghost use Rattle.outside.specs.BookCalls.{FromLog, OfBook};
 ghost use Rattle.outside.specs.Opened.{TakesLog, turned};
 ghost use Rattle.run_states.specs.Conditions.{Underway};
 ghost use Rattle.run_states.specs.Openings.{Opening};
+ghost use Rattle.runner.specs.Asking.{Calls};
 ghost use Rattle.runner.specs.Parts.{Never, PartOr, RunPart, StepPart};
 ghost use Rattle.runner.specs.Going.{IsGoing, AfterStep, BeforeStep, FitsNext, HasLogged, log_at, logged_of, logs_of, made, made_by, next_at, number_at, plan_at, steps_of};
 ghost use Rattle.runner.specs.Finding.{AreFoundSo, IsFoundSo, OfSame, copy_at, reported_found};
@@ -48,6 +49,7 @@ fn perform<O: Outside>(
     ensures part { StepPart number (O.opened outside.old) (O.honest outside.new)
         (BeforeStep opening (O.opened outside.old) is_resumed) (Underway opening) made_by
         (λ r. AfterStep opening (O.opened outside.old) (logged_of r)) (O.seen outside.old) (O.seen outside.new) result }
+    ensures asked { Calls O.noted (step.now ∷ []) (O.asked outside.old) (O.asked outside.new) }
 {
     match *step {
         Step::New {
@@ -101,6 +103,7 @@ fn write<O: Outside>(outside: &mut O, number: usize, logged: Logged) -> Result<(
     ensures call { Writes (O.honest outside.new) (Arrives O.ours O.alone) (FromLog (O.opened outside.old) logged)
         (OfBook (λ p. Turns p (logged_more p logged)) (O.opened outside.old)) (OfBook (λ p. TurnsHalf p (torn p)) (O.opened outside.old))
         (O.seen outside.old) (O.seen outside.new) result }
+    ensures asked { O.asked outside.new ≡ O.asked outside.old }
 {
     match logged {
         Logged::Copied(copy) => outside.done(number, Some(copy)),
@@ -121,6 +124,7 @@ fn log<O: Outside>(outside: &mut O, number: usize, became: &StepResult) -> Resul
     ensures part { PartOr Never (O.honest outside.new)
         (AfterStep opening (O.opened outside.old) (logged_of became.now)) (Underway opening) (λ _. 0)
         (λ _. BeforeStep opening (O.opened outside.new) false) (O.seen outside.old) (O.seen outside.new) result }
+    ensures asked { O.asked outside.new ≡ O.asked outside.old }
 {
     match write(outside, number, logged_as(became)) {
         Ok(()) => Ok(()),
@@ -151,6 +155,7 @@ fn advance<O: Outside>(
     ensures part { RunPart Never (O.opened outside.new) (O.honest outside.new)
         (BeforeStep opening (O.opened outside.old) is_resumed) (Underway opening) (λ p. made_by p.result)
         (λ _. BeforeStep opening (O.opened outside.new) false) (O.seen outside.old) (O.seen outside.new) result }
+    ensures asked { Calls O.noted (plan_at (O.opened outside.old)).steps (O.asked outside.old) (O.asked outside.new) }
 {
     let result = perform(outside, number, &step, is_resumed)?;
     log(outside, number, &result)?;
@@ -182,6 +187,7 @@ pub(crate) fn carry_out<O: Outside, P: Progress>(
     ensures part { RunPart Never (O.opened outside.new) (O.honest outside.new) (BeforeStep opening (O.opened outside.old) is_resumed)
         (Underway opening) (λ performed. made performed.items)
         (λ _. BeforeStep opening (O.opened outside.new) is_resumed) (O.seen outside.old) (O.seen outside.new) result }
+    ensures asked { Calls O.noted (plan_at (O.opened outside.old)).steps (O.asked outside.old) (O.asked outside.new) }
 {
     let mut performed = Vec::new(alloc);
     report_logged(outside, progress);

@@ -11,6 +11,7 @@ use Rattle.runner.proofs.Stages.{begun_arrives, begun_held, begun_named, begun_u
 use Rattle.runner.proofs.Wholes.{sets_none}
 use Rattle.runner.proofs.SomeFlags.{clear_last}
 use Rattle.runner.proofs.Within.{cleared_whole}
+use Rattle.runner.proofs.Asking.{calls_cleared, calls_none}
 use Rattle.runner.proofs.changing.clear_flags.Goals as goal
 
 pub returns-then-is_empty-clause-part : goal.returns-then-is_empty-clause-part
@@ -53,3 +54,12 @@ returns-in-Ok-clause-idle g c = λ e. absurd (both_ways (c.args.flags.now.cleare
 
 pub returns-in-Err-clause-idle : goal.returns-in-Err-clause-idle
 returns-in-Err-clause-idle g c = λ e. absurd (both_ways (c.args.flags.now.cleared == 0) (sym c.is_empty.ensures ∙ c.if-is_empty.false) (ap (λ (x : ℕ). x == 0) e))
+
+pub returns-then-is_empty-clause-asked : goal.returns-then-is_empty-clause-asked
+returns-then-is_empty-clause-asked g c = calls_none g.O.Outside.noted _ _ _ refl
+
+pub returns-in-Ok-clause-asked : goal.returns-in-Ok-clause-asked
+returns-in-Ok-clause-asked g c = let f = c.args.flags.now in calls_cleared g.O.Outside.noted f.direction f.far f.near f.set f.cleared c.target-side.result c.changed_uid-uid.result _ _ c.target-side.ensures c.changed_uid-uid.ensures c.remove_flags.ensures.asked
+
+pub returns-in-Err-clause-asked : goal.returns-in-Err-clause-asked
+returns-in-Err-clause-asked g c = let f = c.args.flags.now in calls_cleared g.O.Outside.noted f.direction f.far f.near f.set f.cleared c.target-side.result c.changed_uid-uid.result _ _ c.target-side.ensures c.changed_uid-uid.ensures c.remove_flags.ensures.asked

@@ -9,6 +9,7 @@ use Rattle.runner.proofs.PartCalls.{from_box, left_step, line_of_box, passed_cal
 use Rattle.runner.proofs.Stages.{done_underway, left_by, ready_arrives, ready_held, ready_named, ready_underway, whole_made}
 use Rattle.runner.proofs.Wholes.{marked}
 use Rattle.runner.proofs.Within.{deleted_whole}
+use Rattle.runner.proofs.Asking.{calls_gone}
 use Rattle.runner.proofs.changing.mark_deleted.Goals as goal
 
 pub add_flags-requires : goal.add_flags-requires
@@ -40,3 +41,9 @@ returns-in-Err-clause-part g c =
           (λ part. ready_underway g.opening opened true s1.device (ready_named g.opening opened (step.Gone d far near) (target d) (changed_uid d far near) c.requires.1.1 refl _ m s1.device a at (rw (c.target-side.ensures, c.changed_uid-uid.ensures) at part)))
           (λ x does. done_underway g.opening opened Done s1.device (whole_made g.opening opened (step.Gone d far near) c.requires.1.1 refl _ m s1.device a at (marked d far near (kept (g.O.Outside.keywords c.args.outside.now) c.only.result) m s1.device (deleted_whole _ c.only.result c.only.ensures) (rw (c.target-side.ensures, c.changed_uid-uid.ensures) at does)))),
     )))
+
+pub returns-in-Ok-clause-asked : goal.returns-in-Ok-clause-asked
+returns-in-Ok-clause-asked g c = calls_gone g.O.Outside.noted c.args.direction c.args.far c.args.near c.target-side.result c.changed_uid-uid.result c.only.result _ _ c.target-side.ensures c.changed_uid-uid.ensures c.only.ensures c.add_flags.ensures.asked
+
+pub returns-in-Err-clause-asked : goal.returns-in-Err-clause-asked
+returns-in-Err-clause-asked g c = calls_gone g.O.Outside.noted c.args.direction c.args.far c.args.near c.target-side.result c.changed_uid-uid.result c.only.result _ _ c.target-side.ensures c.changed_uid-uid.ensures c.only.ensures c.add_flags.ensures.asked

@@ -5,6 +5,7 @@ use Rattle.sync_state.specs.declared.journal.Logged.TheVariants.{Done}
 use Rattle.run_states.specs.Conditions.{Underway}
 use Rattle.runner.proofs.PartCalls.{from_box, left_step, line_of_box, passed_call}
 use Rattle.runner.proofs.Stages.{done_underway, expunge_made, left_by, ready_arrives, ready_held, ready_named, ready_underway}
+use Rattle.runner.proofs.Asking.{calls_removed}
 use Rattle.runner.proofs.changing.remove.Goals as goal
 
 pub expunge-requires : goal.expunge-requires
@@ -34,3 +35,9 @@ returns-in-Err-clause-part g c =
           (λ part. ready_underway g.opening opened true s1.device (ready_named g.opening opened (step.Expunge side uid) side uid c.requires.1.1 refl _ m s1.device a at part))
           (λ x does. done_underway g.opening opened Done s1.device (expunge_made g.opening opened side uid c.requires.1.1 _ m s1.device a at does)),
     )))
+
+pub returns-in-Ok-clause-asked : goal.returns-in-Ok-clause-asked
+returns-in-Ok-clause-asked g c = calls_removed g.O.Outside.noted c.args.side c.args.uid _ _ c.expunge.ensures.asked
+
+pub returns-in-Err-clause-asked : goal.returns-in-Err-clause-asked
+returns-in-Err-clause-asked g c = calls_removed g.O.Outside.noted c.args.side c.args.uid _ _ c.expunge.ensures.asked

@@ -8,6 +8,7 @@ use Rattle.runner.specs.Going.{DuringStep, sets_some}
 use Rattle.runner.proofs.PartCalls.{from_box, left_step, line_of_box, passed_call, passed_none}
 use Rattle.runner.proofs.Stages.{begun_underway, left_by, ready_arrives, ready_held, ready_named, ready_underway, set_called, set_none}
 use Rattle.runner.proofs.Within.{set_whole}
+use Rattle.runner.proofs.Asking.{calls_none, calls_set}
 use Rattle.runner.proofs.changing.set_flags.Goals as goal
 
 pub add_flags-requires : goal.add_flags-requires
@@ -49,3 +50,12 @@ returns-in-Ok-clause-idle g c = λ e. absurd (both_ways (c.args.flags.now.set ==
 
 pub returns-in-Err-clause-idle : goal.returns-in-Err-clause-idle
 returns-in-Err-clause-idle g c = λ e. absurd (both_ways (c.args.flags.now.set == 0) (sym c.is_empty.ensures ∙ c.if-is_empty.false) (ap (λ (x : ℕ). x == 0) e))
+
+pub returns-then-is_empty-clause-asked : goal.returns-then-is_empty-clause-asked
+returns-then-is_empty-clause-asked g c = calls_none g.O.Outside.noted _ _ _ refl
+
+pub returns-in-Ok-clause-asked : goal.returns-in-Ok-clause-asked
+returns-in-Ok-clause-asked g c = let f = c.args.flags.now in calls_set g.O.Outside.noted f.direction f.far f.near f.set f.cleared c.target-side.result c.changed_uid-uid.result _ _ c.target-side.ensures c.changed_uid-uid.ensures c.add_flags.ensures.asked
+
+pub returns-in-Err-clause-asked : goal.returns-in-Err-clause-asked
+returns-in-Err-clause-asked g c = let f = c.args.flags.now in calls_set g.O.Outside.noted f.direction f.far f.near f.set f.cleared c.target-side.result c.changed_uid-uid.result _ _ c.target-side.ensures c.changed_uid-uid.ensures c.add_flags.ensures.asked

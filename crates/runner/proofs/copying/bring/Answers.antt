@@ -2,6 +2,7 @@ use Rattle.std.proofs.Common.{◌≡◌, true, false, arith}
 use Rattle.std.proofs.lemmas.Grind.{common_steps}
 use Rattle.runner.proofs.StepParts.{step_after}
 use Rattle.runner.proofs.Finding.{made_fresh, made_sought}
+use Rattle.runner.proofs.Asking.{calls_after, calls_none}
 use Rattle.runner.proofs.copying.bring.Goals as goal
 
 pub returns-in-None-clause-part : goal.returns-in-None-clause-part
@@ -25,3 +26,9 @@ pub returns-in-Some-clause-part : goal.returns-in-Some-clause-part
 returns-in-Some-clause-part g c =
     let up : c.args.is_resumed ≡ true = grind (arith, common_steps) in
     rw up (rw c.in-Some.is at c.in_ok-copy.ensures.part)
+
+pub returns-in-None-clause-asked : goal.returns-in-None-clause-asked
+returns-in-None-clause-asked g c = calls_after g.O.Outside.noted _ _ _ _ c.seek.ensures.asked c.copy-in-None.ensures.asked
+
+pub returns-in-Some-clause-asked : goal.returns-in-Some-clause-asked
+returns-in-Some-clause-asked g c = calls_none g.O.Outside.noted _ _ _ c.seek.ensures.asked

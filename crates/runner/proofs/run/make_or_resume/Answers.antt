@@ -7,6 +7,7 @@ use Rattle.runner.proofs.Passes.{end_reaches, known_least, reads_beyond, run_of_
 use Rattle.runner.proofs.PlanFacts.{moved_none}
 use Rattle.runner.proofs.Readings.{book_read}
 use Rattle.runner.proofs.StageLemmas.{answer_skipped, drawn_left, drawn_weaker, never_skipped, runs_skipped}
+use Rattle.runner.proofs.Asking.{asks_none}
 use Rattle.runner.proofs.run.make_or_resume.Goals as goal
 
 pub state-requires : goal.state-requires
@@ -71,3 +72,12 @@ pub returns-clause-beyond : goal.returns-clause-beyond
 returns-clause-beyond g c = λ more.
     let same = run_of_state (g.O.Outside.opened c.args.outside.now) c.state.result.now c.state.ensures.state in
     absurd (omega (arith, same, more, c.if-run-last.false, c.if-run-last-gt1.false))
+
+pub returns-then-run-last-clause-asked : goal.returns-then-run-last-clause-asked
+returns-then-run-last-clause-asked g c = asks_none g.O.Outside.noted _ _ _ c.skip.ensures.asked
+
+pub returns-then-run-last-gt1-clause-asked : goal.returns-then-run-last-gt1-clause-asked
+returns-then-run-last-gt1-clause-asked g c = asks_none g.O.Outside.noted _ _ _ refl
+
+pub returns-clause-asked : goal.returns-clause-asked
+returns-clause-asked g c = c.open_and_work.ensures.asked

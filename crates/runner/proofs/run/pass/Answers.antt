@@ -1,5 +1,6 @@
-use Rattle.std.proofs.Common.{◌≤◌, ◌+◌, ◌∙◌, refl, rules}
+use Rattle.std.proofs.Common.{[], ◌≤◌, ◌+◌, ◌∙◌, refl, rules}
 use Rattle.std.proofs.lemmas.Result.{err_from_is_err_and}
+use Rattle.outside.specs.Opened.{journal_of}
 use Rattle.runner.specs.Answers.{Inputs, PassStart, ReadPassStart}
 use Rattle.runner.proofs.PartCalls.{left_reported, left_weaker, part_after, part_reported, passed_weaker, passed_with}
 use Rattle.runner.proofs.PassReports.{answers_so, made_so, reports_so}
@@ -11,6 +12,7 @@ use Rattle.runner.proofs.Reported.{reported_from}
 use Rattle.runner.proofs.Finding.{finds_held}
 use Rattle.runner.proofs.Naming.{names_held}
 use Rattle.runner.proofs.StageLemmas.{by_files_in, copies_in, emptied_in, names_in, report_in, results_in, stores_in}
+use Rattle.runner.proofs.Asking.{asks_read, asks_reading}
 use Rattle.runner.proofs.run.pass.Goals as goal
 
 pub make_or_resume-requires : goal.make_or_resume-requires
@@ -120,3 +122,9 @@ returns-clause-results g c = let drawn = c.make_or_resume.ensures.stage in let s
 
 pub returns-clause-moved : goal.returns-clause-moved
 returns-clause-moved g c = let drawn = c.make_or_resume.ensures.stage in drawn.moved
+
+pub returns-in_err-recall-clause-asked : goal.returns-in_err-recall-clause-asked
+returns-in_err-recall-clause-asked g c = asks_reading g.O.Outside.noted [] (journal_of (g.O.Outside.opened c.recall.new.outside)) _ _ c.recall.ensures.asked
+
+pub returns-clause-asked : goal.returns-clause-asked
+returns-clause-asked g c = asks_read g.O.Outside.noted [] (journal_of (g.O.Outside.opened c.recall.new.outside)) _ _ _ c.recall.ensures.asked c.make_or_resume.ensures.asked

@@ -1,7 +1,8 @@
-use Rattle.std.proofs.Common.{◌≡◌, Option, refl, rules, ap, subst, sym, ◌∙◌}
+use Rattle.std.proofs.Common.{◌≡◌, [], Option, refl, rules, ap, subst, sym, ◌∙◌}
 use Rattle.std.proofs.lemmas.Result.{err_from_is_err_and}
 use Rattle.book.specs.declared.book.Pending.TheVariants.{Missing}
 use Rattle.book.specs.BookLogs.{begun}
+use Rattle.outside.specs.Asked.{Begun}
 use Rattle.outside.specs.Opened.{Opened, state_of, turned, with_listing}
 use Rattle.mailcore.specs.declared.side.Side.TheVariants.{Far, Near}
 use Rattle.planner.specs.Listed.{all_unfit}
@@ -21,6 +22,7 @@ use Rattle.runner.proofs.PlanFacts.{moved_none}
 use Rattle.runner.proofs.Listings.{listed_no_journal, listed_open, listed_read, listed_run, listed_state, lists_changed, turned_is_shown, turned_shown, two_shown}
 use Rattle.runner.proofs.Readings.{none_read, turned_open, turned_read, turned_state}
 use Rattle.runner.proofs.Validities.{listed_answers, missing_here, unless_same}
+use Rattle.runner.proofs.Asking.{asks_beginning, asks_none}
 use Rattle.runner.proofs.run.propose.Goals as goal
 
 pub list_both-requires : goal.list_both-requires
@@ -152,3 +154,35 @@ returns-clause-proposed g c =
           let here = skipped_by g.opening now c.args.options.now (g.R.Rng.stream c.args.rng.now) both.far both.near unfit c.in_ok-unfit.ensures.unfit (g.O.Outside.seen c.list_both.new.outside).device k.asked shown in
           subst (λ (w : World). unfit ≡ all_unfit (scene_of w g.opening.options)) (sym world) here;
     }
+
+pub returns-in_err-clear-clause-asked : goal.returns-in_err-clear-clause-asked
+returns-in_err-clear-clause-asked g c = asks_none g.O.Outside.noted _ _ _ c.clear.ensures.asked
+
+pub returns-in_err-both-clause-asked : goal.returns-in_err-both-clause-asked
+returns-in_err-both-clause-asked g c = asks_none g.O.Outside.noted _ _ _ (c.list_both.ensures.asked ∙ c.clear.ensures.asked)
+
+pub returns-in_err-plan-clause-asked : goal.returns-in_err-plan-clause-asked
+returns-in_err-plan-clause-asked g c = asks_none g.O.Outside.noted _ _ _ (c.list_both.ensures.asked ∙ c.clear.ensures.asked)
+
+pub returns-in_err-unfit-clause-asked : goal.returns-in_err-unfit-clause-asked
+returns-in_err-unfit-clause-asked g c = asks_none g.O.Outside.noted _ _ _ (c.list_both.ensures.asked ∙ c.clear.ensures.asked)
+
+pub returns-in_err-write_plan-clause-asked : goal.returns-in_err-write_plan-clause-asked
+returns-in_err-write_plan-clause-asked g c = asks_beginning g.O.Outside.noted [] c.in_ok-plan.plan _ _ (c.write_plan.ensures.asked ∙ ap (λ l. g.O.Outside.noted l (Begun c.in_ok-plan.plan)) (c.list_both.ensures.asked ∙ c.clear.ensures.asked))
+
+pub returns-clause-asked : goal.returns-clause-asked
+returns-clause-asked g c = asks_beginning g.O.Outside.noted [] c.in_ok-plan.plan _ _ (c.write_plan.ensures.asked ∙ ap (λ l. g.O.Outside.noted l (Begun c.in_ok-plan.plan)) (c.list_both.ensures.asked ∙ c.clear.ensures.asked))
+
+pub returns-clause-begun : goal.returns-clause-begun
+returns-clause-begun g c =
+    let old = g.O.Outside.opened c.args.outside.now in
+    let both = c.in_ok-both.both in
+    let plan = c.in_ok-plan.plan in
+    let listed = c.in_ok-both.ensures.opened in
+    let cleared = turned (λ _. Missing) old in
+    let start = with_listing Near both.near.validity listed.1 (with_listing Far both.far.validity listed.0 cleared) in
+    let emptied : g.O.Outside.opened c.list_both.new.outside ≡ start = listed.2 ∙ ap (λ (x : Option Opened). with_listing Near both.near.validity listed.1 (with_listing Far both.far.validity listed.0 x)) c.in_ok-clear.ensures.opened in
+    let read = listed_read Near both.near.validity listed.1 (with_listing Far both.far.validity listed.0 cleared) (listed_read Far both.far.validity listed.0 cleared (turned_read (λ _. Missing) old (none_read old c.requires.1.1.none))) in
+    let written : g.O.Outside.opened c.write_plan.new.outside ≡ turned (λ _. begun plan) start = c.in_ok-write_plan.ensures.opened ∙ ap (turned (λ _. begun plan)) emptied in
+    let same : plan_at (g.O.Outside.opened c.write_plan.new.outside) ≡ plan = ap plan_at written ∙ begun_plan start plan read in
+    rw same (c.write_plan.ensures.asked ∙ ap (λ l. g.O.Outside.noted l (Begun plan)) (c.list_both.ensures.asked ∙ c.clear.ensures.asked))

@@ -14,6 +14,7 @@ use Rattle.runner.proofs.Finding.{finds_tried}
 use Rattle.runner.proofs.Naming.{names_tried}
 use Rattle.runner.proofs.AttemptLemmas.{attempt_answer}
 use Rattle.runner.proofs.StageLemmas.{frame_of, frame_then}
+use Rattle.runner.proofs.Asking.{asks_then}
 use Rattle.runner.proofs.settle.attempt.Goals as goal
 
 pub returns-in_err-number : goal.returns-in_err-number
@@ -34,6 +35,7 @@ returns-in_err-number g c =
         stuck = fixed.stuck;
         part = left_reported _ _ _ _ _ _ _ _ (record { changed = λ side n. absurd n; keywords = λ n. absurd n; repeats = λ n. absurd n; beyond = λ n. absurd n; greatest = λ n. n; unread = λ e t. t; refused = λ step n. absurd n }) (left_mapped _ _ _ _ _ _ _ _ (λ d k. (k.asked, k.tried)) (λ d k. record { asked = k.0; tried = k.1 }) (left_with (Inputs g.opening c.args.options.now (g.R.Rng.stream c.args.rng.now)) _ _ _ _ _ _ fixed.part));
       };
+      asked = c.fix_run.ensures.asked;
     })
 
 pub returns : goal.returns
@@ -89,4 +91,5 @@ returns g c =
               refused = refused_from _ _ _ _ _ leads;
             }) passed.part)));
       };
+      asked = asks_then g.O.Outside.noted _ _ _ _ c.fix_run.ensures.asked c.pass.ensures.asked;
     }

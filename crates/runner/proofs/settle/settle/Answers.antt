@@ -12,12 +12,14 @@ use Rattle.runner.proofs.Ends.{changed_last, kept_last, settled_so}
 use Rattle.runner.proofs.Reopening.{attempted_more, attempted_none, began_at, reopens_more}
 use Rattle.runner.proofs.PartCalls.{leaves_after, leaves_map, more_after, more_none}
 use Rattle.runner.proofs.PlanFacts.{moved_none}
+use Rattle.runner.proofs.Asking.{asks_after, asks_none, asks_then}
 use Rattle.runner.proofs.settle.settle.Goals as goal
 
 pub loop-tried-init : goal.loop-tried-init
 loop-tried-init g c = record {
   was_honest = λ h. h;
   keywords = refl;
+  asked = asks_none g.O.Outside.noted _ _ _ refl;
   moved = moved_none _;
   stops = omega arith;
   reported = more_none _ _ refl;
@@ -52,6 +54,7 @@ loop-tried-preserved g c =
     record {
       was_honest = λ h. i.was_honest (c.again.ensures.frame.was_honest (c.attempt.ensures.attempt.frame.was_honest h));
       keywords = c.attempt.ensures.attempt.frame.keywords ∙ c.again.ensures.frame.keywords ∙ i.keywords;
+      asked = asks_then g.O.Outside.noted _ _ _ _ i.asked (asks_after g.O.Outside.noted _ _ _ _ c.again.ensures.asked c.attempt.ensures.asked);
       moved = moved_twice _ _ _ i.moved c.attempt.ensures.attempt.moved;
       stops = stops_more _ _ _ tried s0 now s1 s2 _ i.stops i.first e c.attempt.ensures.attempt.stuck part;
       reported = more_after s0 s1 s2 (more_found tried s0 now s1 i.reported e) n.reported;
@@ -220,3 +223,9 @@ returns-in-Err-clause-stuck g c = λ few.
     let s1 = g.O.Outside.seen c.again.new.outside in
     let s2 = g.O.Outside.seen c.attempt.new.outside in
     stuck_first {T = Pass} c.loop-tried.tried s0 now s1 s2 (Err c.in-Err.fault) (omega (arith, few)) i.first c.again.ensures.seen c.in-Err.ensures.attempt.stuck
+
+pub returns-in-Ok-clause-asked : goal.returns-in-Ok-clause-asked
+returns-in-Ok-clause-asked g c = let i = c.loop-tried.invariant in asks_then g.O.Outside.noted _ _ _ _ i.asked (asks_after g.O.Outside.noted _ _ _ _ c.again.ensures.asked c.attempt.ensures.asked)
+
+pub returns-in-Err-clause-asked : goal.returns-in-Err-clause-asked
+returns-in-Err-clause-asked g c = let i = c.loop-tried.invariant in asks_then g.O.Outside.noted _ _ _ _ i.asked (asks_after g.O.Outside.noted _ _ _ _ c.again.ensures.asked c.attempt.ensures.asked)

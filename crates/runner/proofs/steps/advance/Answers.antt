@@ -1,6 +1,7 @@
 use Rattle.std.proofs.lemmas.Result.{err_from_is_err_and}
 use Rattle.runner.proofs.StepParts.{next_reported, unrefused_reported}
 use Rattle.runner.proofs.PartCalls.{add_none, left_after, left_reported, passed_after, passed_weaker}
+use Rattle.runner.proofs.Asking.{calls_before, calls_next}
 use Rattle.runner.proofs.steps.advance.Goals as goal
 
 pub returns-in_err-result-clause-part : goal.returns-in_err-result-clause-part
@@ -24,3 +25,12 @@ returns-clause-part g c =
 
 pub returns-clause-found : goal.returns-clause-found
 returns-clause-found g c = λ h k d same. c.in_ok-result.ensures.found (c.in_ok-log.ensures.was_honest h) k d same
+
+pub returns-in_err-result-clause-asked : goal.returns-in_err-result-clause-asked
+returns-in_err-result-clause-asked g c = calls_next g.O.Outside.noted (g.O.Outside.opened c.args.outside.now) c.args.step _ _ c.requires.1.1.1.0 c.perform.ensures.asked
+
+pub returns-in_err-log-clause-asked : goal.returns-in_err-log-clause-asked
+returns-in_err-log-clause-asked g c = calls_next g.O.Outside.noted (g.O.Outside.opened c.args.outside.now) c.args.step _ _ c.requires.1.1.1.0 (calls_before g.O.Outside.noted _ _ _ _ c.perform.ensures.asked c.log.ensures.asked)
+
+pub returns-clause-asked : goal.returns-clause-asked
+returns-clause-asked g c = calls_next g.O.Outside.noted (g.O.Outside.opened c.args.outside.now) c.args.step _ _ c.requires.1.1.1.0 (calls_before g.O.Outside.noted _ _ _ _ c.perform.ensures.asked c.log.ensures.asked)

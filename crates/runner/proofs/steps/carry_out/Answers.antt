@@ -10,6 +10,7 @@ use Rattle.runner.proofs.Stages.{either_ready, ready_underway}
 use Rattle.runner.proofs.Finding.{found_next, not_none}
 use Rattle.runner.proofs.LoopLemmas.{made_more, logged_on, steps_on, less_left}
 use Rattle.runner.proofs.Reported.{IsFitting}
+use Rattle.runner.proofs.Asking.{calls_along, calls_then}
 use Rattle.runner.proofs.steps.carry_out.Goals as goal
 
 pub returns-in_default-try_reserve-clause-part : goal.returns-in_default-try_reserve-clause-part
@@ -49,6 +50,7 @@ loop-number-preserved g c =
       was_honest = λ h. i.was_honest (one.was_honest h);
       keywords = one.keywords ∙ i.keywords;
       part = rw (← made_more ps p) (passed_after _ _ _ _ _ _ _ _ s1 _ one.was_honest i.part went);
+      asked = calls_then g.O.Outside.noted _ _ _ _ i.asked (calls_along g.O.Outside.noted (plan_at b) (plan_at start) _ _ (let h = i.opened in h.plan) c.advance.ensures.asked);
       first = λ e. absurd (not_none ps p e);
       later = λ e h k. let before = i.part in let after = one.part in after.reaches h (before.reaches (one.was_honest h) k);
       found = λ h k. let before = i.part in found_next g.opening start b c.args.is_resumed ps p (g.O.Outside.seen c.args.outside.now) s1 i.opened is i.first (λ e. i.later e (one.was_honest h) k) (before.reaches (one.was_honest h) k) (i.found (one.was_honest h) k) (one.found h);
@@ -60,3 +62,6 @@ returns-clause-steps g c =
     let o = g.O.Outside.opened c.loop-number.outside in
     let none : next_at o ≡ None = c.in_default.ensures in
     sym (append-nil _) ∙ ap (λ (l : List Step). steps_of c.loop-number.performed.items ++ l) (sym (drop_none (plan_at o).steps (log_at o) none)) ∙ i.steps
+
+pub returns-in_err-one-clause-asked : goal.returns-in_err-one-clause-asked
+returns-in_err-one-clause-asked g c = let i = c.loop-number.invariant in calls_then g.O.Outside.noted _ _ _ _ i.asked (calls_along g.O.Outside.noted (plan_at (g.O.Outside.opened c.loop-number.outside)) (plan_at (g.O.Outside.opened c.args.outside.now)) _ _ (let h = i.opened in h.plan) c.advance.ensures.asked)
