@@ -1,5 +1,6 @@
 -- A run to which others add messages: what they add, and what it leaves of a world.
 use Rattle.std.specs.Prelude.{◌≡◌, ℕ, Bool, false, List}
+use Rattle.mailcore.specs.declared.side.Side.TheVariants.{Near}
 use Rattle.mem_link.specs.declared.command.CommandName.{CommandName}
 use Rattle.mem_link.specs.declared.command.CommandName.TheVariants as link
 use Rattle.mem_link.specs.declared.arrivals.Arrival.{Arrival}
@@ -8,6 +9,7 @@ use Rattle.book.specs.MemShelves.{files_of}
 use Rattle.rules.specs.declared.options.Options.{Options}
 use Rattle.rules.specs.declared.state.SyncState.{SyncState}
 use Rattle.rules.specs.World.{World}
+use Rattle.outside.specs.BoxArrivals.{Arrives}
 use Rattle.outside.specs.Calls.{Seen}
 use Rattle.outside.specs.Devices.{Device}
 use Rattle.run_pair.specs.Tallies.{seen_with, untouched}
@@ -55,3 +57,9 @@ OthersLeftAmong ours w options d = OthersLeft (opening_of ours false w options) 
 -- the run that began with this world, on this device, is underway still
 abbrev pub LeavesAmong : (ours : List ℕ → Bool) → World → Options → Device → RunFault → Seen → Type 0
 LeavesAmong ours w options d fault new = LeavesRun (Underway (opening_of ours false w options)) fault (seen_with d untouched) new
+
+-- A device holds what a run has left, and the files that others had still to add.
+pub record HoldsAll (ours : List ℕ → Bool) (left held : Device) : Type 0 where
+  pub far : held.far ≡ left.far
+  pub near : Arrives Near ours false left.near held.near
+  pub files : held.files ≡ left.files

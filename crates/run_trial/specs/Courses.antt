@@ -3,9 +3,10 @@ use Rattle.std.specs.Prelude.{◌≡◌, ◌⊎◌, ◌+◌, ◌<◌, ◌^◌, �
 use Rattle.texts.specs.Lines.{IsLine}
 use Rattle.worlds.specs.OptionsText.{IsHead}
 use Rattle.worlds.specs.WorldText.{text_from_far}
+use Rattle.worlds.specs.Worlds.{world_of}
 use Rattle.run_trial.specs.declared.trial.Trial.{Trial}
 use Rattle.run_trial.specs.declared.trial.TrialCourse.{TrialCourse}
-use Rattle.run_trial.specs.Worlds.{world_of}
+use Rattle.run_trial.specs.CourseLines.{AllSay, nothing, said_in}
 
 -- whole lines, of which the last one ends in LF
 abbrev pub AreLines : List ℕ → Type 0
@@ -25,11 +26,12 @@ pub record HasTries (tries : ℕ) (following course : List ℕ) : Type 0 where
   pub line : IsLine (codes "tries ") number following course
   pub spelled : tries + 1 < 2 ^ 32 → decimal tries ≡ number
 
--- This is what a course says. If no line after the first says that there is a journal, there is none, and if none says that something arrives,
--- nothing does.
+-- This is what a course says: its first line the attempts, each other line one thing. If none of these says that there is a journal, there is
+-- none, and if none says that something arrives, nothing does.
 pub record IsCourse (said : TrialCourse) (course : List ℕ) : Type 0 where
   pub following : List ℕ
   pub tries : HasTries said.tries following course
+  pub lines : AllSay following nothing (said_in said)
   pub journal : LacksLine (codes "journal ") following → said.journal ≡ None
   pub far : LacksLine (codes "arrive ") following → said.arrivals.far.items ≡ []
   pub near : LacksLine (codes "arrive ") following → said.arrivals.near.items ≡ []

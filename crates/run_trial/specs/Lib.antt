@@ -8,9 +8,12 @@ pub mod Calls
 pub mod Statuses
 pub mod Settings
 pub mod Held
+pub mod Arriving
 pub mod Among
 pub mod Memory
 pub mod Printed
 pub mod Trials
+pub mod CourseLines
+pub mod Coming
 pub mod Courses
 pub mod FromText

@@ -1,10 +1,14 @@
 //! What others add in a trial, as its lines say it.
 
-ghost use Rattle.std.specs.Prelude.{◌≡◌, ◌&&◌, [], All, IfErr, true};
-ghost use Rattle.std.specs.List.{list_all};
+ghost use Rattle.std.specs.Prelude.{◌≡◌, ◌↔◌, [], All, IfErr, IfSome, IsTrue, ◌++◌, ◌∷◌, ℕ, List, OnOk, true};
 ghost use Rattle.mailcore.specs.Content.{mark_of};
-ghost use Rattle.mailcore.specs.Visitors.{IsForeign, is_foreign};
+ghost use Rattle.maildir.specs.declared.mem_folder.FolderCall.{FolderCall};
+ghost use Rattle.mailcore.specs.Visitors.{IsForeign};
 ghost use Rattle.worlds.specs.Lines.{IsOf};
+ghost use Rattle.run_trial.specs.Arriving.{AreNone, are_foreign};
+ghost use Rattle.run_trial.specs.Calls.{command_word, folder_word};
+ghost use Rattle.run_trial.specs.Coming.{IsComing};
+ghost use Rattle.run_trial.specs.CourseLines.{AddsArrival, Said, with_arrivals};
 
 use crate::count::read_ordinal;
 use crate::folder::arrival_name;
@@ -68,15 +72,14 @@ impl TrialArrivals {
 
     /// Whether nothing comes.
     pub fn is_empty(&self) -> bool
-        ensures { self.now.far.items ≡ [] → self.now.near.items ≡ [] → result ≡ true }
+        ensures { IsTrue result ↔ AreNone self.now }
     {
         self.far.is_empty() && self.near.is_empty()
     }
 
     /// Whether each of the messages and files is one that these others may add.
     pub fn are_of<O: Others>(&self) -> bool
-        ensures exact { result ≡ (list_all (λ a. is_foreign O.ours (mark_of a.bytes)) self.now.far.items
-            && list_all (λ a. is_foreign O.ours (mark_of a.bytes)) self.now.near.items) }
+        ensures exact { result ≡ are_foreign O.ours self.now }
         ensures foreign { result ≡ true → All (λ a. IsForeign O.ours (mark_of a.bytes)) self.now.far.items }
     {
         let far = self
@@ -99,7 +102,8 @@ impl TrialArrivals {
         keywords: &Keywords,
         line: Line<'_>,
     ) -> Result<(), WorldFault>
-        ensures { IfErr result (IsOf line.entry.number) }
+        ensures fault { IfErr result (IsOf line.entry.number) }
+        ensures adds { OnOk result ((said : Said) → AddsArrival text.now (with_arrivals self.old said) (with_arrivals self.new said)) }
     {
         let Some(coming) = Coming::read(text, keywords) else {
             return Err(WorldFault::of(line));
@@ -117,7 +121,10 @@ impl TrialArrivals {
         bytes: Vec<u8>,
         line: Line<'_>,
     ) -> Result<(), WorldFault>
-        ensures { IfErr result (IsOf line.entry.number) }
+        ensures fault { IfErr result (IsOf line.entry.number) }
+        ensures near { self.new.near ≡ self.old.near }
+        ensures adds { OnOk result ((command : StopCommand) × (command_word command ≡ coming.entry.call.now) × (self.new.far.items
+            ≡ self.old.far.items ++ record { command = command; number = coming.entry.number; flags = coming.entry.flags; bytes = bytes.items } ∷ [])) }
     {
         let Some(command) = command_of(coming.call) else {
             return Err(WorldFault::of(line));
@@ -144,7 +151,10 @@ impl TrialArrivals {
         keywords: &Keywords,
         line: Line<'_>,
     ) -> Result<(), WorldFault>
-        ensures { IfErr result (IsOf line.entry.number) }
+        ensures fault { IfErr result (IsOf line.entry.number) }
+        ensures far { self.new.far ≡ self.old.far }
+        ensures adds { OnOk result ((call : FolderCall) × (name : List ℕ) × (folder_word call ≡ coming.entry.call.now) × (self.new.near.items
+            ≡ self.old.near.items ++ record { call = call; number = coming.entry.number; name = name; bytes = bytes.items } ∷ [])) }
     {
         let Some(call) = folder_call_of(coming.call) else {
             return Err(WorldFault::of(line));
@@ -163,7 +173,9 @@ impl TrialArrivals {
 }
 
 impl<'a> Coming<'a> {
-    fn read(text: &'a [u8], keywords: &Keywords) -> Option<Coming<'a>> {
+    fn read(text: &'a [u8], keywords: &Keywords) -> Option<Coming<'a>>
+        ensures { IfSome result (IsComing text.now) }
+    {
         let (side, text) = split_word(text)?;
         let (moment, text) = split_word(text)?;
         let (call, text) = split_word(text)?;

@@ -177,6 +177,7 @@ impl<L: TrialLink + Drop> Devices<L> {
     ghost use Rattle.maildir.specs.VisitedFolders.{AddsAlone};
     ghost use Rattle.run_pair.specs.BookParts.{files_of as files_in};
     ghost use Rattle.mailcore.specs.Visitors.{others_but};
+    ghost use Rattle.run_trial.specs.Among.{HoldsAll};
     ghost use Rattle.run_trial.specs.Held.{held_in};
 
     /// What the outside of a run stands on: another run over it finds what that one has left.
@@ -203,6 +204,7 @@ impl<L: TrialLink + Drop> Devices<L> {
         ensures fresh { IfOk result (λ devices. devices.fresh ≡ outside.near.fresh) }
         ensures shelf { IfOk result (λ devices. files_of devices.shelf ≡ files_in outside.book) }
         ensures map { IfOk result (λ devices. devices.keywords ≡ outside.far.far.keywords) }
+        ensures seen { IfOk result (λ devices. HoldsAll O.ours (seen_of outside).device (held_in devices)) }
     {
         let (BothSides { far, folder, shelf }, fresh) = BothSides::apart(outside);
         let folder = folder.into_folder()?;

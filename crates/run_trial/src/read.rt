@@ -1,8 +1,9 @@
 //! How a trial is read from its text (docs/FORMATS.md, "Trial").
 
-ghost use Rattle.std.specs.Prelude.{◌≡◌, ◌+◌, ◌≤◌, ◌<◌, IfErr, IfOk, OnOk, codes};
+ghost use Rattle.std.specs.Prelude.{◌≡◌, ◌+◌, ◌≤◌, ◌<◌, IfErr, IfOk, IfSome, OnOk, codes};
 ghost use Rattle.worlds.specs.Lines.{IsOf, IsUpTo};
 ghost use Rattle.texts.specs.Lines.{line_count, line_ends};
+ghost use Rattle.run_trial.specs.CourseLines.{Adds, AddsJournal, AddsMute, AllSay, SaysStop, said_in};
 ghost use Rattle.run_trial.specs.Courses.{HasTries, IsCourse, IsTextOf, LacksLine, LacksStart};
 ghost use Rattle.run_trial.specs.Worlds.{IsNamed, world_of};
 
@@ -81,6 +82,7 @@ fn take_course(
     ensures tries { course.new.tries ≡ course.old.tries }
     ensures journal { OnOk result (LacksLine (codes "journal ") lines.old.rest.now → course.new.journal ≡ course.old.journal) }
     ensures arrivals { OnOk result (LacksLine (codes "arrive ") lines.old.rest.now → course.new.arrivals ≡ course.old.arrivals) }
+    ensures lines { OnOk result (AllSay lines.old.rest.now (said_in course.old) (said_in course.new)) }
     ensures fault { IfErr result (IsUpTo (line_count lines.old + 1)) }
 {
     while let Some(line) = lines.take_if(b"") {
@@ -104,6 +106,7 @@ fn add_line(
     ensures tries { course.new.tries ≡ course.old.tries }
     ensures journal { LacksStart (codes "journal ") line.entry.text.now → course.new.journal ≡ course.old.journal }
     ensures arrivals { LacksStart (codes "arrive ") line.entry.text.now → course.new.arrivals ≡ course.old.arrivals }
+    ensures adds { OnOk result (Adds line.entry.text.now (said_in course.old) (said_in course.new)) }
 {
     if let Some(text) = line.text.strip_prefix(b"journal ") {
         return add_journal(alloc, course, text, line);
@@ -130,6 +133,7 @@ fn add_journal(
     ensures fault { IfErr result (IsOf line.entry.number) }
     ensures tries { course.new.tries ≡ course.old.tries }
     ensures arrivals { course.new.arrivals ≡ course.old.arrivals }
+    ensures adds { OnOk result (AddsJournal text.now (said_in course.old) (said_in course.new)) }
 {
     if course.journal.is_some() {
         return Err(WorldFault::of(line));
@@ -144,6 +148,7 @@ fn add_mute(course: &mut TrialCourse, text: &[u8], line: Line<'_>) -> Result<(),
     ensures tries { course.new.tries ≡ course.old.tries }
     ensures journal { course.new.journal ≡ course.old.journal }
     ensures arrivals { course.new.arrivals ≡ course.old.arrivals }
+    ensures adds { OnOk result (AddsMute text.now (said_in course.old) (said_in course.new)) }
 {
     match read_ordinal(text) {
         Some(number) => Ok(course.mutes.push(number)?),
@@ -151,7 +156,10 @@ fn add_mute(course: &mut TrialCourse, text: &[u8], line: Line<'_>) -> Result<(),
     }
 }
 
-fn stop_of(text: &[u8]) -> Option<DeviceStop> {
+/// The stop that a line says.
+fn stop_of(text: &[u8]) -> Option<DeviceStop>
+    ensures { IfSome result (λ stop. SaysStop stop text.now) }
+{
     if let Some(text) = text.strip_prefix(b"stop ") {
         return read_stop(text);
     }

@@ -1,17 +1,20 @@
 //! The program `mbtrial`, over readers and writers.
 
-ghost use Rattle.std.specs.Prelude.{◌≡◌, ◌≤◌, [], ℕ, List, All, IfOk, IfSome, IsErr, OnOk, string_bytes};
+ghost use Rattle.std.specs.Prelude.{◌≡◌, ◌≤◌, true, ℕ, List, All, IfOk, IfSome, IsErr, OnOk, string_bytes};
 ghost use Rattle.std.specs.Io.KnownBytes.{Appends};
 ghost use Rattle.imap_server.specs.Boxes.{AreServed};
 ghost use Rattle.mailcore.specs.Content.{mark_of};
 ghost use Rattle.mailcore.specs.Visitors.{IsForeign};
 ghost use Rattle.imap_client.specs.Seen.{HasMap};
-ghost use Rattle.run_trial.specs.FromText.{Reports, ReportsText};
+ghost use Rattle.run_trial.specs.Arriving.{AreNone, are_foreign};
+ghost use Rattle.run_trial.specs.FromText.{Reports, ReportsAmong, ReportsText};
 ghost use Rattle.run_trial.specs.Held.{held_in};
+ghost use Rattle.run_trial.specs.Openings.{AreOurs};
 ghost use Rattle.run_trial.specs.Printed.{Prints};
 ghost use Rattle.run_trial.specs.Reports.{status_of};
 ghost use Rattle.run_trial.specs.Trials.{IsStart};
 ghost use Rattle.run_trial.specs.Worlds.{world_of};
+ghost use Rattle.worlds.specs.Trial.{is_counted};
 
 use crate::among::run_among;
 use crate::devices::Devices;
@@ -133,8 +136,11 @@ fn reported_of_trial<R: Net + AllocGlobal + Clone + Drop>(
     trial: Trial,
 ) -> Result<(String, u8), TrialError>
     ensures at_most { IfOk result (λ reported. reported.1 ≤ 1) }
-    ensures reports { request ≡ TrialRequest.Memory → trial.course.arrivals.far.items ≡ [] → trial.course.arrivals.near.items ≡ []
-        → IsStart trial → IfOk result (λ reported. Reports (world_of trial.world) trial.world.options (string_bytes reported.0) reported.1) }
+    ensures alone { request ≡ TrialRequest.Memory → AreNone trial.course.arrivals → IsStart trial
+        → IfOk result (λ reported. Reports (world_of trial.world) trial.world.options (string_bytes reported.0) reported.1) }
+    ensures among { request ≡ TrialRequest.Memory → ¬ AreNone trial.course.arrivals → are_foreign is_counted trial.course.arrivals ≡ true
+        → IsStart trial → IfOk result (λ reported. ReportsAmong is_counted (world_of trial.world) trial.world.options
+        (string_bytes reported.0) reported.1) }
 {
     let alloc = rt.alloc();
     match request {
@@ -161,15 +167,26 @@ fn reported_alone(alloc: Global, trial: Trial) -> Result<(String, u8), TrialErro
 /// What is reported of this trial, in which others add messages.
 #[tactic(auto, using(mailcore::proofs::Foreign::any_foreign))]
 fn reported_among(alloc: Global, trial: Trial) -> Result<(String, u8), TrialError>
-    ensures { IfOk result (λ reported. reported.1 ≤ 1) }
+    ensures at_most { IfOk result (λ reported. reported.1 ≤ 1) }
+    ensures reports { are_foreign is_counted trial.course.arrivals ≡ true → IsStart trial → IfOk result (λ reported.
+        ReportsAmong is_counted (world_of trial.world) trial.world.options (string_bytes reported.0) reported.1) }
 {
     if trial.course.arrivals.are_of::<OtherMarks>() {
-        let (outside, settled) = run_among::<OtherMarks>(alloc, trial)?;
-        reported_of(alloc, Devices::among(outside)?, settled)
+        reported_beside::<OtherMarks>(alloc, trial)
     } else {
-        let (outside, settled) = run_among::<AnyMarks>(alloc, trial)?;
-        reported_of(alloc, Devices::among(outside)?, settled)
+        reported_beside::<AnyMarks>(alloc, trial)
     }
+}
+
+/// What is reported of this trial, in which these others add messages.
+fn reported_beside<O: Others>(alloc: Global, trial: Trial) -> Result<(String, u8), TrialError>
+    requires foreign { All (λ a. IsForeign O.ours (mark_of a.bytes)) trial.course.arrivals.far.items }
+    ensures at_most { IfOk result (λ reported. reported.1 ≤ 1) }
+    ensures reports { AreOurs O.ours → IsStart trial → IfOk result (λ reported.
+        ReportsAmong O.ours (world_of trial.world) trial.world.options (string_bytes reported.0) reported.1) }
+{
+    let (outside, settled) = run_among::<O>(alloc, trial)?;
+    reported_of(alloc, Devices::among(outside)?, settled)
 }
 
 /// What is reported of this trial where at most so many bytes are received at once.

@@ -8,8 +8,9 @@
 //!
 //! Of a call that reads, a stop before and one after its effect are the same.
 
-ghost use Rattle.std.specs.Prelude.{◌≡◌, IfSome};
+ghost use Rattle.std.specs.Prelude.{◌≡◌, ◌≢◌, ◌++◌, ℕ, List, [], All, Contains, IfSome, OnOk, codes, true, false};
 ghost use Rattle.run_trial.specs.Calls.{command_word, folder_verb, folder_word, shelf_verb, shelf_word, stop_word};
+ghost use Rattle.run_trial.specs.CourseLines.{Said, SaysCall, SaysMoment, SaysStop, StopAdded, stopped_command, with_stops};
 
 use crate::count::{read_count, read_ordinal};
 use book::mem_shelf::ShelfCall;
@@ -70,7 +71,9 @@ pub enum DeviceStop {
 
 impl FarStop {
     /// The command that it stops, and which one of its name.
-    fn command(&self) -> (StopCommand, u64) {
+    fn command(&self) -> (StopCommand, u64)
+        ensures { result ≡ stopped_command self.now }
+    {
         match *self {
             FarStop::Command(stop) => (stop.call, stop.number),
             FarStop::Append(number, _) => (StopCommand::Append, number),
@@ -92,7 +95,11 @@ pub struct Stops {
 
 impl Stops {
     /// None.
-    pub fn new(alloc: Global) -> Self {
+    pub fn new(alloc: Global) -> Self
+        ensures folder { result.folder.items ≡ [] }
+        ensures shelf { result.shelf.items ≡ [] }
+        ensures link { result.link.items ≡ [] }
+    {
         Stops {
             folder: Vec::new(alloc),
             shelf: Vec::new(alloc),
@@ -101,7 +108,9 @@ impl Stops {
     }
 
     /// Adds a stop after the others of its device. `AllocError`: memory ran out.
-    pub fn push(&mut self, stop: DeviceStop) -> Result<(), AllocError> {
+    pub fn push(&mut self, stop: DeviceStop) -> Result<(), AllocError>
+        ensures { OnOk result ((said : Said) → StopAdded stop (with_stops self.old said) (with_stops self.new said)) }
+    {
         match stop {
             DeviceStop::Folder(stop) => self.folder.push(stop)?,
             DeviceStop::Shelf(stop) => self.shelf.push(stop)?,
@@ -112,7 +121,10 @@ impl Stops {
     }
 
     /// Whether this command is stopped.
-    fn is_stopped(&self, command: (StopCommand, u64)) -> bool {
+    fn is_stopped(&self, command: (StopCommand, u64)) -> bool
+        ensures some { result ≡ true → (other : FarStop) × Contains self.now.link.items other × (stopped_command other ≡ command) }
+        ensures none { result ≡ false → All (λ stop. stopped_command stop ≢ command) self.now.link.items }
+    {
         self.link.iter().any(|stop| stop.command() == command)
     }
 }
@@ -130,18 +142,12 @@ pub struct Halt<'a> {
 
 impl<'a> Halt<'a> {
     /// What stands after the word `stop`: `before CALL k`, `after CALL k` or `part CALL k b`.
-    pub fn read(text: &'a [u8]) -> Option<Halt<'a>> {
+    pub fn read(text: &'a [u8]) -> Option<Halt<'a>>
+        ensures { IfSome result (λ halt. SaysCall halt.call.now halt.number halt.moment text.now) }
+    {
         let (moment, text) = split_word(text)?;
         let (call, text) = split_word(text)?;
-        let (number, moment) = match moment {
-            b"before" => (text, Moment::Before),
-            b"after" => (text, Moment::After),
-            b"part" => {
-                let (number, bytes) = split_word(text)?;
-                (number, Moment::Part(read_count(bytes)? as usize))
-            }
-            _ => return None,
-        };
+        let (number, moment) = split_moment(moment, text)?;
         Some(Halt {
             call,
             number: read_ordinal(number)?,
@@ -162,7 +168,9 @@ impl<'a> Halt<'a> {
 
     /// The stop of a trial. Of `shelf.append` alone there are parts.
     fn device(&self) -> Option<DeviceStop>
-        ensures { IfSome result (λ stop. stop_word stop ≡ self.now.call.now) }
+        ensures word { IfSome result (λ stop. stop_word stop ≡ self.now.call.now) }
+        ensures says { IfSome result (λ stop. (text : List ℕ) → SaysCall self.now.call.now self.now.number self.now.moment text
+            → SaysStop stop (codes "stop " ++ text)) }
     {
         let shelf = shelf_call_of(self.call);
         let has_parts = matches!(shelf, Some(ShelfCall::Append));
@@ -180,13 +188,32 @@ impl<'a> Halt<'a> {
     }
 }
 
+/// What stands after the name of a call that stops at the moment of this word: the number of the call, and for a part how much of it.
+fn split_moment<'a>(word: &[u8], text: &'a [u8]) -> Option<(&'a [u8], Moment)>
+    ensures { IfSome result (λ parts. SaysMoment parts.1 word.now parts.0.now text.now) }
+{
+    match word {
+        b"before" => Some((text, Moment::Before)),
+        b"after" => Some((text, Moment::After)),
+        b"part" => {
+            let (number, bytes) = split_word(text)?;
+            Some((number, Moment::Part(read_count(bytes)? as usize)))
+        }
+        _ => None,
+    }
+}
+
 /// The stop of a line of a trial: what stands after its word `stop`.
-pub fn read_stop(text: &[u8]) -> Option<DeviceStop> {
+pub fn read_stop(text: &[u8]) -> Option<DeviceStop>
+    ensures { IfSome result (λ stop. SaysStop stop (codes "stop " ++ text.now)) }
+{
     Halt::read(text)?.device()
 }
 
 /// The stop of a line of a trial: what stands after its word `cut`, `reply k b` or `send k b`.
-pub fn read_cut(text: &[u8]) -> Option<DeviceStop> {
+pub fn read_cut(text: &[u8]) -> Option<DeviceStop>
+    ensures { IfSome result (λ stop. SaysStop stop (codes "cut " ++ text.now)) }
+{
     let (word, text) = split_word(text)?;
     let (number, bytes) = split_word(text)?;
     let number = read_ordinal(number)?;
