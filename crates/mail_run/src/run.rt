@@ -1,6 +1,6 @@
 //! What a command line asks for, over servers and folders.
 
-ghost use Rattle.std.specs.Prelude.{◌≡◌, false, None, OnOk};
+ghost use Rattle.std.specs.Prelude.{◌≡◌, false, [], None, OnOk};
 ghost use Rattle.std.specs.List.{find};
 ghost use Rattle.channels.specs.Runs.{RunsOnly};
 ghost use Rattle.channels.specs.Settlings.{SettlesAll};
@@ -123,9 +123,9 @@ fn say_none<E: Write>(config: &Config, request: &RunRequest, err: &mut E) {
     }
 }
 
-/// Runs the channels over servers and folders, and gives these beside the exit status. Where that is 0 and nothing was to be listed, each
-/// chosen mailbox was lent and is settled, from whatever opening its run is looked at (`C`). Whatever it is, no mailbox but such a one was
-/// lent, and the run over each is settled or underway.
+/// Runs the channels over servers and folders, which were asked for nothing before, and gives these beside the exit status. Where that is 0
+/// and nothing was to be listed, each chosen mailbox was lent and is settled, from whatever opening its run is looked at (`C`). Whatever it
+/// is, no mailbox but such a one was lent, and the run over each is settled or underway.
 fn run_start<
     R: Net + Files<File = File> + Env + Clock + AllocGlobal + Clone + Drop,
     T: Write + Copy,
@@ -141,8 +141,8 @@ fn run_start<
     err: &mut E,
 ) -> (MailStores<R, ProgressLine<T>, C>, u8)
     ensures settled { result.1 ≡ 0 → request.now.lists ≡ false
-        → HasSettled ⟦<MailStores<R, ProgressLine<T>, C> as BoxLists>⟧ ⟦<ChaCha20Rng as Rng>⟧.stream start.config request.now result.0 }
-    ensures runs { HasRunOnly ⟦<MailStores<R, ProgressLine<T>, C> as BoxLists>⟧ ⟦<ChaCha20Rng as Rng>⟧.stream start.config request.now result.0 }
+        → HasSettled ⟦<MailStores<R, ProgressLine<T>, C> as BoxLists>⟧ [] ⟦<ChaCha20Rng as Rng>⟧.stream start.config request.now result.0 }
+    ensures runs { HasRunOnly ⟦<MailStores<R, ProgressLine<T>, C> as BoxLists>⟧ [] ⟦<ChaCha20Rng as Rng>⟧.stream start.config request.now result.0 }
 {
     let Start {
         config,

@@ -1,5 +1,5 @@
 -- Mailboxes that were lent, and what they stood on.
-use Rattle.std.proofs.Common.{◌≡◌, List, [], ◌∷◌, refl, ap, subst, sym}
+use Rattle.std.proofs.Common.{◌≡◌, ◌∙◌, List, [], ◌∷◌, refl, ap, subst, sym}
 use Rattle.std.specs.Prelude.{All, map}
 use Rattle.std.proofs.lemmas.List.Elements.{All-head, All-rest}
 use Rattle.book.specs.declared.shelf.Shelf as shelf
@@ -17,6 +17,7 @@ use Rattle.mail_sides.specs.declared.near_side.NearSide.{NearSide}
 use Rattle.mail_sides.specs.declared.sides.BothSides.{BothSides}
 use Rattle.mail_sides.specs.FarSides.{honest_of}
 use Rattle.mail_stores.specs.declared.loans.Loans.{Loans}
+use Rattle.mail_stores.specs.declared.past.Past.{Past}
 use Rattle.mail_stores.specs.Lent.{Loan, lent_among}
 use Rattle.mail_stores.specs.Loans.{AreHonest, HaveKept, lent_among_all, lent_of}
 
@@ -67,20 +68,26 @@ module _ {X L : Type 0} {links : link.Ghosts L} where
     same = λ h. ap (λ (loans : Loans L FolderParts FilesParts links). lent_of loans) same;
   }
 
-  -- so much was lent since whoever holds the loans had these
-  pub lends_since : (held : X → Loans L FolderParts FilesParts links) (is_such : List LentPlace → Type 0) (old new : X)
-      (were : Loans L FolderParts FilesParts links) → were ≡ held old
-      → Lends HaveKept lent_of were (held new) is_such → Lends (λ x. HaveKept (held x)) (λ x. lent_of (held x)) old new is_such
-  lends_since held is_such old new were same h =
-      let since : Lends HaveKept lent_of (held old) (held new) is_such =
-      subst (λ (loans : Loans L FolderParts FilesParts links). Lends HaveKept lent_of loans (held new) is_such) same h in
-      record { was_honest = since.was_honest; since = since.since }
+  -- nor has whoever holds those of the same past
+  pub lends_none_in : (held : X → Loans L FolderParts FilesParts links) (old new : X) (before now : Past L FolderParts FilesParts links) → now ≡ before
+      → held old ≡ before.loans → held new ≡ now.loans → LendsNone (λ x. HaveKept (held x)) (λ x. lent_of (held x)) old new
+  lends_none_in held old new before now same was is =
+      lends_none held old new (is ∙ ap (λ (past : Past L FolderParts FilesParts links). past.loans) same ∙ sym was)
 
 module _ {L : Type 0} {links : link.Ghosts L} where
+  -- of the same past nothing was lent
+  pub none_kept : (old new : Past L FolderParts FilesParts links) → new ≡ old → LendsNone HaveKept lent_of old.loans new.loans
+  none_kept old new same = record {
+    was_honest = λ h. subst (λ (past : Past L FolderParts FilesParts links). HaveKept past.loans) same h;
+    same = λ h. ap (λ (past : Past L FolderParts FilesParts links). lent_of past.loans) same;
+  }
+
   -- nothing was lent after that
-  pub lends_kept : (is_such : List LentPlace → Type 0) (old before now : Loans L FolderParts FilesParts links) → now ≡ before → Lends HaveKept lent_of old before is_such → Lends HaveKept lent_of old now is_such
-  lends_kept is_such old before now same h = subst (λ (loans : Loans L FolderParts FilesParts links). Lends HaveKept lent_of old loans is_such) (sym same) h
+  pub lends_kept : (is_such : List LentPlace → Type 0) (old : Loans L FolderParts FilesParts links) (before now : Past L FolderParts FilesParts links) → now ≡ before
+      → Lends HaveKept lent_of old before.loans is_such → Lends HaveKept lent_of old now.loans is_such
+  lends_kept is_such old before now same h = subst (λ (past : Past L FolderParts FilesParts links). Lends HaveKept lent_of old past.loans is_such) (sym same) h
 
   -- nor before it
-  pub lends_after : (is_such : List LentPlace → Type 0) (old before now : Loans L FolderParts FilesParts links) → before ≡ old → Lends HaveKept lent_of before now is_such → Lends HaveKept lent_of old now is_such
-  lends_after is_such old before now same h = subst (λ (loans : Loans L FolderParts FilesParts links). Lends HaveKept lent_of loans now is_such) same h
+  pub lends_after : (is_such : List LentPlace → Type 0) (old before : Past L FolderParts FilesParts links) (now : Loans L FolderParts FilesParts links) → before ≡ old
+      → Lends HaveKept lent_of before.loans now is_such → Lends HaveKept lent_of old.loans now is_such
+  lends_after is_such old before now same h = subst (λ (past : Past L FolderParts FilesParts links). Lends HaveKept lent_of past.loans now is_such) same h

@@ -1,4 +1,4 @@
--- A step of the walks of `src/lent_history.rt`: a struct without fields. Assumes `Logic`.
+-- A step of the walks of `src/lent_history.rt` and `src/asked_history.rt`: a struct without fields. Assumes `Logic`.
 use Rattle.std.proofs.Common.{List, [], ◌∷◌, refl}
 use seplogic.Ra.Ura.{Ura}
 use mir.Val.{Val, vstruct, vnil}

@@ -2,7 +2,9 @@
 #![tactic(auto)]
 
 mod account;
+mod as_stores;
 mod asked;
+pub mod asked_history;
 mod guarded_work;
 mod last_box;
 mod lend;
@@ -13,6 +15,7 @@ mod names;
 pub mod notes;
 mod notices;
 pub mod openings;
+mod past;
 mod reach;
 mod reported;
 mod server;

@@ -9,21 +9,18 @@ ghost use Rattle.mail_stores.specs.Reached.{AreIn, IsAccount};
 use crate::asked::Asked;
 use crate::guarded_work::GuardedSides;
 use crate::last_box::{BoxLocation, LastBox, cause_of, path_texts};
-use crate::loans::Loans;
 use crate::names::{FarNames, is_servable};
 use crate::notes::ServerNotes;
 use crate::notices::Notices;
-use crate::openings::Openings;
+use crate::past::Past;
 use crate::reach::{NearParts, Reach, RealSides};
-use crate::reported::{list_fault, lock_fault, make_fault, ordered, unlisted, unreached};
+use crate::reported::{make_fault, unreached};
 use crate::server::{AskFault, RealLink, is_word};
 use crate::sessions::Sessions;
 use book::disk_shelf::DiskShelf;
-use channels::channel_box::{ChannelBox, ChannelStores};
-use channels::notice::Notice;
-use channels::stop_cause::StopCause;
-use channels::store_fault::{ListFault, StoreFault};
-use channels::stores::{BoxLists, Stores, Work};
+use channels::channel_box::ChannelBox;
+use channels::store_fault::StoreFault;
+use channels::stores::Work;
 use config::config::{ImapStore, MaildirStore};
 use imap_client::waits::Waits;
 use imap_link::fault::FarFault;
@@ -33,7 +30,6 @@ use mail_sides::logged_in::LoggedIn;
 use mail_sides::sides::BothSides;
 use mailcore::keywords::Keywords;
 use mailcore::mailbox_name::MailboxName;
-use mailcore::side::Side;
 use maildir::disk_folder::DiskFolder;
 use near_places::home::Home;
 use near_places::lock::{Lock, LockFault};
@@ -64,16 +60,16 @@ pub struct MailStores<
     pub(crate) reach: Reach<R, P>,
     progress: P,
     /// The store whose server was asked last.
-    asked: Option<Asked>,
+    pub(crate) asked: Option<Asked>,
     pub(crate) notices: Notices,
-    sessions: Sessions<L>,
+    pub(crate) sessions: Sessions<L>,
     /// The map of keywords of the mailbox that was open last, or of the first channel. By it the server is seen of a session that is opened
     /// to list mailboxes or to make one: the next mailbox most likely has the same.
     seen_by: Keywords,
     /// What is known of the mailbox that was open last.
     pub(crate) last: LastBox,
-    /// The mailboxes that were lent.
-    loans: Loans<L, DiskFolder<R>, DiskShelf<R>>,
+    /// What they were asked for, and the mailboxes that were lent.
+    pub(crate) past: Past<L, DiskFolder<R>, DiskShelf<R>>,
     openings: PhantomData<C>,
 }
 
@@ -93,7 +89,8 @@ impl<
         seen_by: Keywords,
         progress: P,
     ) -> Self
-        ensures unlent { lent_of result.loans ≡ [] }
+        ensures unasked { result.past.asked.asked ≡ [] }
+        ensures unlent { lent_of result.past.loans ≡ [] }
     {
         let alloc = rt.alloc();
         MailStores {
@@ -110,14 +107,14 @@ impl<
             sessions: Sessions::new(),
             seen_by,
             last: LastBox::none(alloc),
-            loans: Loans::new(),
+            past: Past::new(),
             openings: PhantomData,
         }
     }
 
     /// The server of this store is asked from now on.
     pub(crate) fn ask(&mut self, store: &ImapStore)
-        ensures loans { self.new.loans ≡ self.old.loans }
+        ensures past { self.new.past ≡ self.old.past }
     {
         self.hear();
         self.reach.notes.renew();
@@ -125,8 +122,8 @@ impl<
     }
 
     /// Notes what the server that was asked last has said beside faults.
-    fn hear(&mut self)
-        ensures loans { self.new.loans ≡ self.old.loans }
+    pub(crate) fn hear(&mut self)
+        ensures past { self.new.past ≡ self.old.past }
     {
         if let Some(asked) = &self.asked {
             self.notices.hear(&self.reach.notes.words, asked);
@@ -135,7 +132,7 @@ impl<
 
     /// A session at the server of this store: the one that stands, or a new one.
     fn session_at(&mut self, store: &ImapStore) -> Result<LoggedIn<RealLink<R, P>>, AskFault>
-        ensures loans { self.new.loans ≡ self.old.loans }
+        ensures past { self.new.past ≡ self.old.past }
     {
         match self.sessions.take_at(store.name.as_str()) {
             Some(session) => Ok(session),
@@ -145,8 +142,8 @@ impl<
 
     /// The names of the mailboxes at the server of a store. A session that stood before may have been ended by the server meanwhile: then
     /// a new one is asked.
-    fn names_at(&mut self, store: &ImapStore) -> Result<Vec<MailboxName>, AskFault>
-        ensures loans { self.new.loans ≡ self.old.loans }
+    pub(crate) fn names_at(&mut self, store: &ImapStore) -> Result<Vec<MailboxName>, AskFault>
+        ensures past { self.new.past ≡ self.old.past }
     {
         if self.sessions.stands_at(store.name.as_str()) {
             match self.names_over(store) {
@@ -159,7 +156,7 @@ impl<
 
     /// The names that the session at the server of a store lists.
     fn names_over(&mut self, store: &ImapStore) -> Result<Vec<MailboxName>, AskFault>
-        ensures loans { self.new.loans ≡ self.old.loans }
+        ensures past { self.new.past ≡ self.old.past }
     {
         let session = self.session_at(store)?;
         let alloc = self.reach.rt.alloc();
@@ -176,7 +173,7 @@ impl<
     /// Those of the names at the server of a store that are synchronised. The others are noted.
     fn synchronised(&mut self, store: &ImapStore, names: FarNames) -> Vec<MailboxName>
         ensures names { result ≡ names.synchronised }
-        ensures loans { self.new.loans ≡ self.old.loans }
+        ensures past { self.new.past ≡ self.old.past }
     {
         for name in &names.skipped {
             self.notices.skip(store.name.as_str(), name.as_str());
@@ -185,12 +182,12 @@ impl<
     }
 
     /// Those of these near names that a server can have. The others are noted.
-    fn servable(
+    pub(crate) fn servable(
         &mut self,
         store: &MaildirStore,
         names: Vec<MailboxName>,
     ) -> Result<Vec<MailboxName>, AllocError>
-        ensures loans { self.new.loans ≡ self.old.loans }
+        ensures past { self.new.past ≡ self.old.past }
     {
         let alloc = self.reach.rt.alloc();
         let mut servable = Vec::new(alloc);
@@ -206,8 +203,12 @@ impl<
 
     /// Makes a mailbox at the server of a store. `Refused`: the server says no, or it cannot have one of this name, and then it is not
     /// asked.
-    fn make_far(&mut self, store: &ImapStore, name: &MailboxName) -> Result<(), StoreFault>
-        ensures loans { self.new.loans ≡ self.old.loans }
+    pub(crate) fn make_far(
+        &mut self,
+        store: &ImapStore,
+        name: &MailboxName,
+    ) -> Result<(), StoreFault>
+        ensures past { self.new.past ≡ self.old.past }
     {
         let alloc = self.reach.rt.alloc();
         match is_servable(alloc, name) {
@@ -232,14 +233,15 @@ impl<
     }
 
     /// Takes the lock of a mailbox, opens both sides, and does this over them. The session stands then, if it goes on.
-    fn work_in<W: Work + Drop>(
+    pub(crate) fn work_in<W: Work + Drop>(
         &mut self,
         place: ChannelBox<'_>,
         work: W,
     ) -> Result<W::Answer, LockFault>
-        ensures lent { IfOk result (λ answer. Lends HaveKept lent_of self.old.loans self.new.loans
+        ensures lent { IfOk result (λ answer. Lends HaveKept lent_of self.old.past.loans self.new.past.loans
             (IsLent (place_of place.entry) (λ this. W.did work this answer))) }
-        ensures none { OnErr result (self.new.loans ≡ self.old.loans) }
+        ensures none { OnErr result (self.new.past ≡ self.old.past) }
+        ensures asked { self.new.past.asked ≡ self.old.past.asked }
     {
         let folder = self.reach.folder_of(place)?;
         let path = folder.as_str();
@@ -263,7 +265,8 @@ impl<
         requires near { AreIn folder.now sides.sides.folder sides.sides.shelf sides.guard.folder }
         requires map { sides.sides.far.far.keywords ≡ keywords }
         requires asked { keywords ≡ (W.options work).keywords }
-        ensures lent { Lends HaveKept lent_of self.old.loans self.new.loans
+        ensures asked { self.new.past.asked ≡ self.old.past.asked }
+        ensures lent { Lends HaveKept lent_of self.old.past.loans self.new.past.loans
             (IsLent (place_of place.entry) (λ this. W.did work this result)) }
     {
         let (alloc, fresh) = (self.reach.rt.alloc(), self.reach.fresh);
@@ -275,7 +278,7 @@ impl<
             keywords,
             work,
             &self.progress,
-            &mut self.loans,
+            &mut self.past.loans,
         );
         self.note_end(place, folder, &sides);
         self.keep_far(place.of.far_store, sides.into_far());
@@ -292,7 +295,7 @@ impl<
         ensures far { IfOk result (λ sides. IsAccount place.entry.of.far_store.now place.entry.far.now sides.sides.far.account) }
         ensures near { IfOk result (λ sides. AreIn folder.now sides.sides.folder sides.sides.shelf sides.guard.folder) }
         ensures map { IfOk result (λ sides. sides.sides.far.far.keywords ≡ keywords.now) }
-        ensures loans { self.new.loans ≡ self.old.loans }
+        ensures past { self.new.past ≡ self.old.past }
     {
         let near = match self.reach.near_parts(folder) {
             Ok(near) => near,
@@ -313,7 +316,7 @@ impl<
     ) -> Result<FarSide<RealLink<R, P>>, PlaceRefusal>
         ensures account { IfOk result (λ far. IsAccount place.entry.of.far_store.now place.entry.far.now far.account) }
         ensures map { IfOk result (λ far. far.far.keywords ≡ keywords.now) }
-        ensures loans { self.new.loans ≡ self.old.loans }
+        ensures past { self.new.past ≡ self.old.past }
     {
         let alloc = self.reach.rt.alloc();
         let store = place.of.far_store;
@@ -333,7 +336,7 @@ impl<
 
     /// Notes what stopped the run over a mailbox, and which files it left out or alone.
     fn note_end(&mut self, place: ChannelBox<'_>, folder: &str, sides: &RealSides<R, P>)
-        ensures loans { self.new.loans ≡ self.old.loans }
+        ensures past { self.new.past ≡ self.old.past }
     {
         let alloc = self.reach.rt.alloc();
         let GuardedSides { sides, guard } = sides;
@@ -352,7 +355,7 @@ impl<
 
     /// Keeps the session of the far side of a mailbox at this store, if it goes on.
     pub(crate) fn keep_far(&mut self, store: &ImapStore, far: FarSide<RealLink<R, P>>)
-        ensures loans { self.new.loans ≡ self.old.loans }
+        ensures past { self.new.past ≡ self.old.past }
     {
         if let Some(session) = far.into_session() {
             let alloc = self.reach.rt.alloc();
@@ -379,105 +382,5 @@ fn sides_of<R: Net + Files<File = File> + Clock + AllocGlobal + Clone + Drop, P:
     GuardedSides {
         sides: BothSides { far, folder, shelf },
         guard: look,
-    }
-}
-
-impl<
-    R: Net + Files<File = File> + Clock + AllocGlobal + Clone + Drop,
-    P: Progress + Waits + Copy,
-    C: Openings,
-> BoxLists for MailStores<R, P, C> {
-    ghost Record = { Unit {0} };
-
-    ghost noted = { λ _ _. tt };
-
-    ghost asked = { λ _. tt };
-
-    ghost honest = { λ stores. HaveKept stores.loans };
-
-    ghost lent = { λ stores. lent_of stores.loans };
-
-    ghost opening = { C.opening };
-
-    #[tactic(auto, using(crate::proofs::LoanLemmas::lends_none))]
-    fn far_boxes(&mut self, store: &ImapStore) -> Result<Vec<MailboxName>, ListFault> {
-        self.ask(store);
-        match self.names_at(store) {
-            Ok(names) => ordered(self.reach.rt.alloc(), &names),
-            Err(fault) => Err(unlisted(
-                self.reach.rt.alloc(),
-                store,
-                self.reach.notes.server_fault(fault),
-            )),
-        }
-    }
-
-    #[tactic(auto, using(crate::proofs::LoanLemmas::lends_none))]
-    fn near_boxes(&mut self, store: &MaildirStore) -> Result<Vec<MailboxName>, ListFault> {
-        let found = self.reach.near_boxes(store).map_err(list_fault)?;
-        for name in &found.skipped {
-            self.notices.skip(store.name.as_str(), name.as_str());
-        }
-        match self.servable(store, found.names) {
-            Ok(names) => ordered(self.reach.rt.alloc(), &names),
-            Err(AllocError) => Err(ListFault::NoMemory),
-        }
-    }
-
-    fn notices(&mut self, of: ChannelStores<'_>) -> Vec<Notice> {
-        self.hear();
-        self.notices.take(of)
-    }
-
-    fn server_words(&mut self) -> Option<String> {
-        let alloc = self.reach.rt.alloc();
-        self.asked.as_ref()?.words(alloc, &self.reach.notes.words)
-    }
-}
-
-impl<
-    R: Net + Files<File = File> + Clock + AllocGlobal + Clone + Drop,
-    P: Progress + Waits + Copy,
-    C: Openings,
-> Stores for MailStores<R, P, C> {
-    fn has_state(&mut self, place: ChannelBox<'_>) -> Result<bool, StoreFault> {
-        self.reach.has_state(place).map_err(lock_fault)
-    }
-
-    fn make(&mut self, side: Side, place: ChannelBox<'_>) -> Result<(), StoreFault> {
-        match side {
-            Side::Far => {
-                self.ask(place.of.far_store);
-                self.make_far(place.of.far_store, place.far)
-            }
-            Side::Near => self.reach.make_near(place).map_err(lock_fault),
-        }
-    }
-
-    #[tactic(auto, using(crate::proofs::LoanLemmas::lends_since, crate::proofs::LoanLemmas::lends_none))]
-    fn work_over<W: Work + Drop>(
-        &mut self,
-        place: ChannelBox<'_>,
-        work: W,
-    ) -> Result<W::Answer, StoreFault> {
-        self.last = LastBox::none(self.reach.rt.alloc());
-        self.ask(place.of.far_store);
-        match self.work_in(place, work) {
-            Ok(answer) => Ok(answer),
-            Err(fault) => Err(lock_fault(fault)),
-        }
-    }
-
-    fn stop_cause(&mut self) -> Option<StopCause> {
-        self.last.cause.take()
-    }
-
-    fn left_out(&mut self) -> Vec<String> {
-        let alloc = self.reach.rt.alloc();
-        std::mem::replace(&mut self.last.left_out, Vec::new(alloc))
-    }
-
-    fn end(&mut self) {
-        self.sessions.end();
     }
 }

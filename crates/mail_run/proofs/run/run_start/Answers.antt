@@ -5,8 +5,14 @@ pub returns : goal.returns
 returns g c = record {
   settled = λ clean listless. record {
     old = c.new-stores.result;
+    unasked = c.new-stores.ensures.unasked;
     unlent = c.new-stores.ensures.unlent;
     settled = c.run_over.ensures.settled clean listless;
   };
-  runs = record { old = c.new-stores.result; unlent = c.new-stores.ensures.unlent; runs = c.run_over.ensures.runs };
+  runs = record {
+    old = c.new-stores.result;
+    unasked = c.new-stores.ensures.unasked;
+    unlent = c.new-stores.ensures.unlent;
+    runs = c.run_over.ensures.runs;
+  };
 }

@@ -1,6 +1,6 @@
 use Rattle.std.proofs.Common.{◌≡◌}
 use Rattle.mail_stores.proofs.mail_stores.MailStores+R+P+C.synchronised.Given as goal
 
--- nothing is lent
+-- nothing is asked or lent
 abbrev pub invariant-loop-name : goal.invariant-loop-name
-invariant-loop-name g l = l.self.loans ≡ l.fn.self.loans
+invariant-loop-name g l = l.self.past ≡ l.fn.self.past

@@ -1,6 +1,0 @@
-use Rattle.std.proofs.Common.{◌≡◌}
-use Rattle.mail_stores.proofs.mail_stores.MailStoresBoxLists.near_boxes.Given as goal
-
--- nothing is lent
-abbrev pub invariant-loop-name : goal.invariant-loop-name
-invariant-loop-name g l = l.self.loans ≡ l.fn.self.loans

@@ -1,0 +1,189 @@
+//! The real stores, as channels ask them: what they are asked for is noted for contracts alone.
+
+ghost use Rattle.std.specs.Prelude.{◌≡◌, ◌∷◌, IfOk, List};
+ghost use Rattle.channels.specs.Asked.{Asked, Outcome, outcome_by, place_of};
+ghost use Rattle.channels.specs.Boxes.{Rises};
+ghost use Rattle.channels.specs.Lendings.{LendsFor};
+ghost use Rattle.mail_stores.specs.Loans.{HaveKept, lent_of};
+
+use crate::asked_history::{note, note_at};
+use crate::last_box::LastBox;
+use crate::mail_stores::MailStores;
+use crate::openings::Openings;
+use crate::reported::{list_fault, lock_fault, ordered, unlisted};
+use channels::channel_box::{ChannelBox, ChannelStores};
+use channels::notice::Notice;
+use channels::stop_cause::StopCause;
+use channels::store_fault::{ListFault, StoreFault};
+use channels::stores::{BoxLists, Stores, Work};
+use config::config::{ImapStore, MaildirStore};
+use imap_client::waits::Waits;
+use mailcore::mailbox_name::MailboxName;
+use mailcore::side::Side;
+use runner::progress::Progress;
+use std::alloc::AllocError;
+use std::fs::File;
+use std::net::Net;
+use std::rt::{Clock, Files};
+
+impl<
+    R: Net + Files<File = File> + Clock + AllocGlobal + Clone + Drop,
+    P: Progress + Waits + Copy,
+    C,
+> MailStores<R, P, C> {
+    /// The names of the mailboxes of a far store.
+    fn far_names(&mut self, store: &ImapStore) -> Result<Vec<MailboxName>, ListFault>
+        ensures rising { IfOk result (λ names. Rises names.items) }
+        ensures past { self.new.past ≡ self.old.past }
+    {
+        self.ask(store);
+        match self.names_at(store) {
+            Ok(names) => ordered(self.reach.rt.alloc(), &names),
+            Err(fault) => Err(unlisted(
+                self.reach.rt.alloc(),
+                store,
+                self.reach.notes.server_fault(fault),
+            )),
+        }
+    }
+
+    /// The names of the mailboxes of a near store.
+    fn near_names(&mut self, store: &MaildirStore) -> Result<Vec<MailboxName>, ListFault>
+        ensures rising { IfOk result (λ names. Rises names.items) }
+        ensures past { self.new.past ≡ self.old.past }
+    {
+        let found = self.reach.near_boxes(store).map_err(list_fault)?;
+        for name in &found.skipped {
+            self.notices.skip(store.name.as_str(), name.as_str());
+        }
+        match self.servable(store, found.names) {
+            Ok(names) => ordered(self.reach.rt.alloc(), &names),
+            Err(AllocError) => Err(ListFault::NoMemory),
+        }
+    }
+
+    /// Makes this side of a mailbox.
+    fn make_side(&mut self, side: Side, place: ChannelBox<'_>) -> Result<(), StoreFault>
+        ensures { self.new.past ≡ self.old.past }
+    {
+        match side {
+            Side::Far => {
+                self.ask(place.of.far_store);
+                self.make_far(place.of.far_store, place.far)
+            }
+            Side::Near => self.reach.make_near(place).map_err(lock_fault),
+        }
+    }
+
+    /// Opens both sides of a mailbox, lends it, and does this over it.
+    fn work_at<W: Work + Drop>(
+        &mut self,
+        place: ChannelBox<'_>,
+        work: W,
+    ) -> Result<W::Answer, StoreFault>
+        ensures asked { self.new.past.asked ≡ self.old.past.asked }
+        ensures lent { LendsFor HaveKept lent_of (place_of place.entry) (W.did work) self.old.past.loans self.new.past.loans result }
+    {
+        self.last = LastBox::none(self.reach.rt.alloc());
+        self.ask(place.of.far_store);
+        match self.work_in(place, work) {
+            Ok(answer) => Ok(answer),
+            Err(fault) => Err(lock_fault(fault)),
+        }
+    }
+
+    /// The same. It is noted as what was asked so, by how it ended.
+    fn work_noted<W: Work + Drop>(
+        &mut self,
+        place: ChannelBox<'_>,
+        work: W,
+    ) -> Result<W::Answer, StoreFault>
+        ghost asking: { Outcome → Asked }
+        ensures asked { self.new.past.asked.asked ≡ asking (outcome_by W.ends result) ∷ self.old.past.asked.asked }
+        ensures lent { LendsFor HaveKept lent_of (place_of place.entry) (W.did work) self.old.past.loans self.new.past.loans result }
+    {
+        let answer = self.work_at(place, work);
+        note(&mut self.past.asked, &(), &answer);
+        answer
+    }
+}
+
+impl<
+    R: Net + Files<File = File> + Clock + AllocGlobal + Clone + Drop,
+    P: Progress + Waits + Copy,
+    C: Openings,
+> BoxLists for MailStores<R, P, C> {
+    ghost Record = { List Asked };
+
+    ghost noted = { λ asked one. one ∷ asked };
+
+    ghost asked = { λ stores. stores.past.asked.asked };
+
+    ghost honest = { λ stores. HaveKept stores.past.loans };
+
+    ghost lent = { λ stores. lent_of stores.past.loans };
+
+    ghost opening = { C.opening };
+
+    fn far_boxes(&mut self, store: &ImapStore) -> Result<Vec<MailboxName>, ListFault> {
+        let names = self.far_names(store);
+        note(&mut self.past.asked, store, &names);
+        names
+    }
+
+    fn near_boxes(&mut self, store: &MaildirStore) -> Result<Vec<MailboxName>, ListFault> {
+        let found = self.near_names(store);
+        note(&mut self.past.asked, store, &found);
+        found
+    }
+
+    fn notices(&mut self, of: ChannelStores<'_>) -> Vec<Notice> {
+        self.hear();
+        self.notices.take(of)
+    }
+
+    fn server_words(&mut self) -> Option<String> {
+        let alloc = self.reach.rt.alloc();
+        self.asked.as_ref()?.words(alloc, &self.reach.notes.words)
+    }
+}
+
+impl<
+    R: Net + Files<File = File> + Clock + AllocGlobal + Clone + Drop,
+    P: Progress + Waits + Copy,
+    C: Openings,
+> Stores for MailStores<R, P, C> {
+    fn has_state(&mut self, place: ChannelBox<'_>) -> Result<bool, StoreFault> {
+        let found = self.reach.has_state(place).map_err(lock_fault);
+        note_at(&mut self.past.asked, place, Side::Near, &found);
+        found
+    }
+
+    fn make(&mut self, side: Side, place: ChannelBox<'_>) -> Result<(), StoreFault> {
+        let made = self.make_side(side, place);
+        note_at(&mut self.past.asked, place, side, &made);
+        made
+    }
+
+    fn work_over<W: Work + Drop>(
+        &mut self,
+        place: ChannelBox<'_>,
+        work: W,
+    ) -> Result<W::Answer, StoreFault> {
+        self.work_noted(place, work)
+    }
+
+    fn stop_cause(&mut self) -> Option<StopCause> {
+        self.last.cause.take()
+    }
+
+    fn left_out(&mut self) -> Vec<String> {
+        let alloc = self.reach.rt.alloc();
+        std::mem::replace(&mut self.last.left_out, Vec::new(alloc))
+    }
+
+    fn end(&mut self) {
+        self.sessions.end();
+        note(&mut self.past.asked, &(), &());
+    }
+}
