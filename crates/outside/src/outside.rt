@@ -43,7 +43,7 @@ pub trait Outside {
     ghost use Rattle.book.specs.GivingUp.{GivesUpHalf, GivesUpTo};
     ghost use Rattle.book.specs.LostSides.{AreRising};
     ghost use Rattle.outside.specs.Arrivals.{Arrives};
-    ghost use Rattle.outside.specs.Asked.{Asked, Begun, Cleared, Copied, Read, Removed, Set};
+    ghost use Rattle.outside.specs.Asked.{Asked, Begun, Cleared, Copied, Read, Removed, Set, after_look};
     ghost use Rattle.outside.specs.Devices.{box};
     ghost use Rattle.outside.specs.Calls.{Call, Changes, FromBook, FromBox, FromOpening, FromShelf, LeavesBy, Opens, Reads, Seen, Writes, opened_again, stopped};
     ghost use Rattle.outside.specs.Opened.{IsBook, IsHeld, IsOpen, IsRead, Opened, AreCommitted, AreGivenUp, TakesCommit, TakesDiscard, TakesGivingUp, TakesLog, TakesPlan, journal_of, shown_far, state_of, turned, with_box, with_listing};
@@ -255,7 +255,7 @@ pub trait Outside {
         requires is_open { IsOpen side (opened self.old) }
         ensures was_honest { honest self.new → honest self.old }
         ensures keywords { keywords self.new ≡ keywords self.old }
-        ensures asked { asked self.new ≡ asked self.old }
+        ensures asked { asked self.new ≡ after_look noted side mark from (asked self.old) result }
         ensures opened { opened self.new ≡ opened self.old }
         ensures call { Reads (honest self.new) (Arrives ours alone) (λ found d. found ≡ marked_from mark from (box d side)) (seen self.old)
             (seen self.new) result };

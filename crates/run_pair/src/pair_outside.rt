@@ -1,6 +1,6 @@
 //! The calls of a run over any two mailboxes and any shelf: each goes to the part that it concerns.
 
-ghost use Rattle.std.specs.Prelude.{◌≡◌, false, true, Ok, IfErr, IfOk, OnErr, OnOk, IsErrOf, length};
+ghost use Rattle.std.specs.Prelude.{◌≡◌, ◌&&◌, ℕ, false, true, Ok, IfErr, IfOk, OnErr, OnOk, IsErrOf, length};
 ghost use Rattle.run_pair.specs.BookParts.{kept_of, standing_of};
 ghost use Rattle.run_pair.specs.Naming.{PendingNamesNothing, PlanNamesNothing};
 
@@ -26,7 +26,6 @@ use rules::state::SyncState;
 use sync_state::journal::Journal;
 
 impl<F: Mailbox + Drop, N: Mailbox + Drop, S: Shelf + Drop> Outside for Pair<F, N, S> {
-    ghost use Rattle.std.specs.Prelude.{◌&&◌, ℕ};
     ghost use Rattle.mailcore.specs.KeywordNames.{kept};
     ghost use Rattle.mailcore.specs.Operations.{flags_added, flags_removed, marked_from};
     ghost use Rattle.mailcore.specs.Sides.{target};
@@ -40,8 +39,7 @@ impl<F: Mailbox + Drop, N: Mailbox + Drop, S: Shelf + Drop> Outside for Pair<F, 
     ghost use Rattle.book.specs.LostSides.{AreRising};
     ghost use Rattle.outside.specs.Devices.{box};
     ghost use Rattle.outside.specs.Calls.{FromBook, FromBox, FromOpening, FromShelf, LeavesBy, opened_again, stopped};
-    ghost use Rattle.outside.specs.Opened.{AreCommitted, AreGivenUp, IsBook, IsHeld, IsOpen, IsRead, shown_far, turned, with_box, with_listing};
-    ghost use Rattle.outside.specs.Opened.{TakesCommit, TakesDiscard, TakesGivingUp, TakesLog, TakesPlan};
+    ghost use Rattle.outside.specs.Opened.{AreCommitted, AreGivenUp, IsBook, IsHeld, IsOpen, IsRead, TakesCommit, TakesDiscard, TakesGivingUp, TakesLog, TakesPlan, shown_far, turned, with_box, with_listing};
     ghost use Rattle.outside.specs.BookCalls.{FromLog, LeavesUnread, ReadsBook};
     ghost use Rattle.outside.specs.MailboxOperations.{HasNumbers, ListsWithin, removed, NoRoom};
     ghost use Rattle.outside.specs.BoxCalls.{Admits, AdmitsPart, Carry, ListsFar, ListsNear, Names, SetsAside, Turns, copies_made};
@@ -49,8 +47,7 @@ impl<F: Mailbox + Drop, N: Mailbox + Drop, S: Shelf + Drop> Outside for Pair<F, 
     ghost use Rattle.run_pair.specs.Faults.{OrRefusal};
     ghost use Rattle.run_pair.specs.Parts.{both};
     ghost use Rattle.run_pair.specs.Tallies.{Tallied, counted_again, ended, ended_naming, no_copies};
-    ghost use Rattle.run_pair.specs.Pairs.{BookCall, BoxChange, BoxOpens, BoxRead, PairCall, device_of, honest_of, opened_of, seen_of};
-    ghost use Rattle.run_pair.specs.Pairs.{ByBook, ByBox, ByCopy, BySyncedBook, IsSyncedFirst, IsWhole, CannotOpen};
+    ghost use Rattle.run_pair.specs.Pairs.{BookCall, BoxChange, BoxOpens, BoxRead, ByBook, ByBox, ByCopy, BySyncedBook, CannotOpen, IsSyncedFirst, IsWhole, PairCall, device_of, honest_of, opened_of, seen_of};
 
     ghost honest = { honest_of };
 
@@ -130,8 +127,7 @@ impl<F: Mailbox + Drop, N: Mailbox + Drop, S: Shelf + Drop> Outside for Pair<F, 
         ensures was_honest { honest_of self.new → honest_of self.old }
         ensures keywords { F.keywords self.new.far ≡ F.keywords self.old.far }
         ensures opened { OnOk result (opened_of self.new ≡ turned (λ _. begun plan) (opened_of self.old)) }
-        ensures call { BookCall FromBook (λ _. TurnsJournal Missing (begun plan)) (λ _. TurnsHalf Missing Useless)
-            self.old self.new result }
+        ensures call { BookCall FromBook (λ _. TurnsJournal Missing (begun plan)) (λ _. TurnsHalf Missing Useless) self.old self.new result }
         ensures why { IsErrOf result OutsideFault.Stopped → BySyncedBook self.old self.new }
         ensures tallied { Tallied (ended no_copies) result self.old.tally self.new.tally }
         ensures synced { IsSyncedFirst (PlanNamesNothing (kept_of self.old.book) plan) self.old self.new }
@@ -365,8 +361,7 @@ impl<F: Mailbox + Drop, N: Mailbox + Drop, S: Shelf + Drop> Outside for Pair<F, 
         ensures keywords { F.keywords self.new.far ≡ F.keywords self.old.far }
         ensures opened { opened_of self.new ≡ opened_of self.old }
         ensures call { PairCall copies_made FromBox (Carry direction uid (kept (F.keywords self.old.far) flags) mark)
-            (LeavesBy (Carry direction uid (kept (F.keywords self.old.far) flags) mark) (SetsAside (target direction)))
-            self.old self.new result }
+            (LeavesBy (Carry direction uid (kept (F.keywords self.old.far) flags) mark) (SetsAside (target direction))) self.old self.new result }
         ensures why { IfErr result (ByCopy direction self.old self.new) }
         ensures tallied { Tallied (ended copies_made) result self.old.tally self.new.tally }
     {
@@ -404,8 +399,7 @@ impl<F: Mailbox + Drop, N: Mailbox + Drop, S: Shelf + Drop> Outside for Pair<F, 
         ensures was_honest { honest_of self.new → honest_of self.old }
         ensures keywords { F.keywords self.new.far ≡ F.keywords self.old.far }
         ensures opened { opened_of self.new ≡ opened_of self.old }
-        ensures call { BoxChange (Turns side uid (flags_added uid (kept (F.keywords self.old.far) flags))) (Names side uid)
-            self.old self.new result }
+        ensures call { BoxChange (Turns side uid (flags_added uid (kept (F.keywords self.old.far) flags))) (Names side uid) self.old self.new result }
         ensures why { IfErr result (ByBox side Never self.old self.new) }
         ensures tallied { Tallied (ended_naming side uid) result self.old.tally self.new.tally }
     {
@@ -429,8 +423,7 @@ impl<F: Mailbox + Drop, N: Mailbox + Drop, S: Shelf + Drop> Outside for Pair<F, 
         ensures was_honest { honest_of self.new → honest_of self.old }
         ensures keywords { F.keywords self.new.far ≡ F.keywords self.old.far }
         ensures opened { opened_of self.new ≡ opened_of self.old }
-        ensures call { BoxChange (Turns side uid (flags_removed uid (kept (F.keywords self.old.far) flags))) (Names side uid)
-            self.old self.new result }
+        ensures call { BoxChange (Turns side uid (flags_removed uid (kept (F.keywords self.old.far) flags))) (Names side uid) self.old self.new result }
         ensures why { IfErr result (ByBox side Never self.old self.new) }
         ensures tallied { Tallied (ended_naming side uid) result self.old.tally self.new.tally }
     {

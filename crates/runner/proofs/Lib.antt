@@ -2,6 +2,7 @@ pub mod PartCalls
 pub mod StepParts
 pub mod Stages
 pub mod Asking
+pub mod Looking
 pub mod Wholes
 pub mod Within
 pub mod SomeFlags

@@ -53,7 +53,7 @@ use Rattle.runner.specs.Parts.{PartOr}
 use Rattle.runner.specs.Validities.{IsKept, LeavesBoxes}
 use Rattle.runner.proofs.Logging.{of_book}
 use Rattle.runner.proofs.PlanFacts.{count_is, no_pairs, unfit_by}
-use Rattle.runner.proofs.Readings.{planned_files, turned_open, turned_state}
+use Rattle.runner.proofs.Readings.{planned_files, turned_open}
 use Rattle.runner.proofs.Stages.{ready_arrives, stands_of}
 use Rattle.runner.proofs.Naming.{HasSpared}
 

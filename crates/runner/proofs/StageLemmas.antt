@@ -14,6 +14,7 @@ use Rattle.runner.specs.declared.fault.RunFault.{RunFault}
 use Rattle.runner.specs.declared.pass.Pass.{Pass}
 use Rattle.runner.specs.declared.pass.Pass.TheVariants.{Already, Ran, Finished}
 use Rattle.runner.specs.Answers.{AnswersTo, HasRepeats, Moves, RunsBy, made_in, run_of}
+use Rattle.runner.specs.Asking.{Asks, read_back}
 use Rattle.runner.specs.Before.{HasPlan, IsEmptied}
 use Rattle.runner.specs.Faults.{Reasons, ReportsRefused, or_refused, or_repeats}
 use Rattle.runner.specs.Finding.{FindsBy, FindsSame, OfSame}
@@ -65,15 +66,15 @@ module _ {O : Type 0} (o : Ghosts O) where
 
   module _ (opening : Opening o.ours o.alone) where
     -- a stage that ended with an error
-    pub stage_left : (run : ℕ) (reasons : Reasons) (from reaches : Device → Type 0) (old new : O) (f : RunFault) → Frame o old new
+    pub stage_left : (run : ℕ) (reasons : Reasons) (from reaches : Device → Type 0) (old new : O) (f : RunFault) → Frame o old new → Asks o.noted (read_back (plan_at (o.opened old))) (o.asked old) (o.asked new)
         → Left (or_refused (ReportsRefused (o.opened new) (o.honest new) (from (o.seen old).device) (o.seen new).device) reasons) (o.honest new) from (Underway opening) f (o.seen old) (o.seen new)
         → Stage o opening run reasons from reaches old new (Err f)
-    stage_left run reasons from reaches old new f frame part = record { frame = frame; answer = tt; part = part }
+    stage_left run reasons from reaches old new f frame asked part = record { frame = frame; asked = asked; answer = tt; part = part }
 
-    pub drawn_left : (run : ℕ) (options : Options) (stream drawn : Stream) (reasons : Reasons) (from reaches : Device → Type 0) (old new : O) (f : RunFault) → Frame o old new → Moves stream drawn
+    pub drawn_left : (run : ℕ) (options : Options) (stream drawn : Stream) (reasons : Reasons) (from reaches : Device → Type 0) (old new : O) (f : RunFault) → Frame o old new → Asks o.noted (read_back (plan_at (o.opened old))) (o.asked old) (o.asked new) → Moves stream drawn
         → Left (or_refused (ReportsRefused (o.opened new) (o.honest new) (from (o.seen old).device) (o.seen new).device) (or_repeats (HasRepeats opening (o.opened new) (o.honest new) (from (o.seen old).device) options stream) reasons)) (o.honest new) from (Underway opening) f (o.seen old) (o.seen new)
         → DrawnStage o opening run options stream drawn reasons from reaches old new (Err f)
-    drawn_left run options stream drawn reasons from reaches old new f frame moved part = record { stage = stage_left run _ from reaches old new f frame part; runs = tt; moved = moved }
+    drawn_left run options stream drawn reasons from reaches old new f frame asked moved part = record { stage = stage_left run _ from reaches old new f frame asked part; runs = tt; moved = moved }
 
     -- ---- where another condition leads to that of the stage
 
@@ -91,6 +92,7 @@ module _ {O : Type 0} (o : Ghosts O) where
         record {
           stage = record {
             frame = stage.frame;
+            asked = stage.asked;
             answer = answer_from run from start old new r (leads s0.device) stage.answer;
             part = part_weaker _ h from start (Underway opening) made_in (λ _. reaches) (λ _. reaches') s0 s1 r leads (λ x. ends) (part_reported _ _ h from (Underway opening) made_in (λ _. reaches) s0 s1 r (record {
               changed = are.changed;
@@ -116,6 +118,7 @@ module _ {O : Type 0} (o : Ghosts O) where
         record {
           stage = record {
             frame = stage.frame;
+            asked = stage.asked;
             answer = answer_from run from start old new r (leads s0.device) stage.answer;
             part = part_weaker _ h from start (Underway opening) made_in (λ _. reaches) (λ _. reaches) s0 s1 r leads (λ x d k. k)
                 (part_reported _ _ h from (Underway opening) made_in (λ _. reaches) s0 s1 r (steps_reported _ _ (refused_from (o.opened new) h (from s0.device) (start s0.device) s1.device (λ honest at. leads s0.device at))) stage.part);

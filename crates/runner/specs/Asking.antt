@@ -1,13 +1,20 @@
--- What a run asks of an outside about messages: what the steps of its plan call for, over a record that grows with each thing asked.
-use Rattle.std.specs.Prelude.{◌≡◌, ◌^◌, ℕ, List, [], ◌∷◌, All, Contains, Result, Ok, Err, flat_map, unwrap_or}
+-- What a run asks of an outside about messages: what the steps of its plan call for, over a record that grows with each thing asked, and no
+-- copy twice.
+use Rattle.std.specs.Prelude.{◌≡◌, ◌⊎◌, ◌+◌, ◌^◌, ℕ, Bool, true, false, List, [], ◌∷◌, All, Contains, Option, None, Result, OnOk, drop, flat_map, length, unwrap_or}
 use Rattle.std.specs.List.{fold}
 use Rattle.mailcore.specs.FlagSet.{DELETED}
+use Rattle.mailcore.specs.declared.side.Side.{Side}
 use Rattle.mailcore.specs.Sides.{target}
+use Rattle.rules.specs.declared.plan.Plan.{Plan}
 use Rattle.rules.specs.declared.plan.Step.{Step}
 use Rattle.rules.specs.declared.plan.Step.TheVariants as step
 use Rattle.law_outcome.specs.Steps.{changed_uid}
-use Rattle.outside.specs.Asked.{Asked, Begun, Cleared, Copied, Read, Removed, Set}
-use Rattle.runner.specs.Going.{no_journal}
+use Rattle.outside.specs.Asked.{Asked, Begun, Cleared, Copied, Read, Removed, Set, Sought}
+use Rattle.outside.specs.Opened.{Opened}
+use Rattle.run_states.specs.Plans.{first_uid}
+use Rattle.runner.specs.Going.{log_at, no_journal, plan_at}
+
+-- ---- what the steps of a plan call for
 
 -- what a step calls for: its message is copied, marked as deleted, given these flags, or removed
 abbrev pub calls_of : Step → List Asked
@@ -20,36 +27,106 @@ calls_of (step.Expunge side uid) = Removed side uid ∷ []
 abbrev pub IsCalledBy : List Step → Asked → Type 0
 IsCalledBy steps call = Contains (flat_map calls_of steps) call
 
--- so does a step of the plan, if a message is changed, removed or copied; that a journal is read, or a plan written, no step has to call for
-abbrev pub IsCalledFor : List Step → Asked → Type 0
-IsCalledFor steps (Read journal) = Unit {0}
-IsCalledFor steps (Begun plan) = Unit {0}
-IsCalledFor steps (Copied d uid flags mark) = IsCalledBy steps (Copied d uid flags mark)
-IsCalledFor steps (Set side uid flags) = IsCalledBy steps (Set side uid flags)
-IsCalledFor steps (Cleared side uid flags) = IsCalledBy steps (Cleared side uid flags)
-IsCalledFor steps (Removed side uid) = IsCalledBy steps (Removed side uid)
+-- ---- which copies may be made at once
 
--- the steps of the plan from then on: of the journal that was read, or of the plan that was written
-abbrev pub plan_after : List Step → Asked → List Step
-plan_after steps (Read journal) = (unwrap_or journal no_journal).plan.steps
-plan_after steps (Begun plan) = plan.steps
-plan_after steps (Copied d uid flags mark) = steps
-plan_after steps (Set side uid flags) = steps
-plan_after steps (Cleared side uid flags) = steps
-plan_after steps (Removed side uid) = steps
+-- a copy: the side on which it is made, and its mark
+abbrev pub Copy : Type 0
+Copy = Side × List ℕ
 
--- each of these, one after another, by the plan that was read or written last
-abbrev pub AreCalledFor : List Step → List Asked → Type 0
-AreCalledFor steps [] = Unit {0}
-AreCalledFor steps (call ∷ calls) = IsCalledFor steps call × AreCalledFor (plan_after steps call) calls
+-- those of these steps, in order
+abbrev pub copy_and : Step → List Copy → List Copy
+copy_and (step.New d uid flags mark) copies = (target d, mark) ∷ copies
+copy_and (step.Gone d far near) copies = copies
+copy_and (step.Flags d far near set cleared) copies = copies
+copy_and (step.Expunge side uid) copies = copies
 
--- so much was asked since, and each of it was called for; these are the steps of the plan before
-pub record Asks {L : Type 0} (noted : L → Asked → L) (steps : List Step) (old new : L) : Type 0 where
+abbrev pub copies_of : List Step → List Copy
+copies_of [] = []
+copies_of (s ∷ steps) = copy_and s (copies_of steps)
+
+-- what is known of a run: its plan, and which of its copies were certainly not made yet
+pub record Known : Type 0 where
+  pub plan : Plan
+  pub free : List Copy
+
+-- of a plan that was read back, any copy may have been made; of one that was written since, none
+abbrev pub read_back : Plan → Known
+read_back plan = record { plan = plan; free = [] }
+
+abbrev pub written : Plan → Known
+written plan = record { plan = plan; free = copies_of plan.steps }
+
+-- no plan is known
+abbrev pub nothing : Known
+nothing = read_back no_journal.plan
+
+-- ---- what may be asked
+
+-- A run may ask this where so much is known, and knows so much afterwards. It reads its journal and writes a plan. A copy is free if a look
+-- from the next UID on that the plan has for its side finds none. A step of the plan calls for each message that is copied, changed or
+-- removed, and one that is copied is the first that is free.
+abbrev pub Allows : Known → Asked → Known → Type 0
+Allows k (Read journal) next = next ≡ read_back (unwrap_or journal no_journal).plan
+Allows k (Begun plan) next = next ≡ written plan
+Allows k (Sought side mark from found) next = (next ≡ k) ⊎ ((found ≡ None) × (from ≡ first_uid k.plan side) × (next ≡ record { plan = k.plan; free = (side, mark) ∷ [] }))
+Allows k (Copied d uid flags mark) next = IsCalledBy k.plan.steps (Copied d uid flags mark) × (k ≡ record { plan = next.plan; free = (target d, mark) ∷ next.free })
+Allows k (Set side uid flags) next = IsCalledBy k.plan.steps (Set side uid flags) × (next ≡ k)
+Allows k (Cleared side uid flags) next = IsCalledBy k.plan.steps (Cleared side uid flags) × (next ≡ k)
+Allows k (Removed side uid) next = IsCalledBy k.plan.steps (Removed side uid) × (next ≡ k)
+
+-- it may ask these, one after another
+abbrev pub Leads : Known → List Asked → Known → Type 0
+Leads k [] next = next ≡ k
+Leads k (call ∷ calls) next = (mid : Known) × Allows k call mid × Leads mid calls next
+
+-- so much was asked since, all of which it may ask
+pub record Comes {L : Type 0} (noted : L → Asked → L) (known next : Known) (old new : L) : Type 0 where
   pub calls : List Asked
   pub now : new ≡ fold noted old calls
-  pub each : AreCalledFor steps calls
+  pub leads : Leads known calls next
 
--- no journal was read and no plan written since, and these steps call for each thing that was asked
+abbrev pub Asks : {L : Type 0} → (noted : L → Asked → L) → Known → (old new : L) → Type 0
+Asks noted known old new = (next : Known) × Comes noted known next old new
+
+-- the same, and so much is known if it goes on
+abbrev pub Performs : {L T E : Type 0} → (noted : L → Asked → L) → (known next : Known) → (old new : L) → Result T E → Type 0
+Performs noted known next old new result = (reached : Known) × Comes noted known reached old new × OnOk result (reached ≡ next)
+
+-- ---- nothing but looks
+
+-- the journal is read, or a copy is looked for
+abbrev pub IsLook : Asked → Type 0
+IsLook (Read journal) = Unit {0}
+IsLook (Begun plan) = ⊥
+IsLook (Sought side mark from found) = Unit {0}
+IsLook (Copied d uid flags mark) = ⊥
+IsLook (Set side uid flags) = ⊥
+IsLook (Cleared side uid flags) = ⊥
+IsLook (Removed side uid) = ⊥
+
+-- no more than that was asked since: no plan was written, and no message was to be copied, changed or removed
+pub record Looks {L : Type 0} (noted : L → Asked → L) (old new : L) : Type 0 where
+  pub calls : List Asked
+  pub now : new ≡ fold noted old calls
+  pub each : All IsLook calls
+
+-- ---- a plan that is carried out
+
+-- which copies of these steps, which are left, were certainly not made yet
+abbrev pub copies_left : (is_resumed : Bool) → List Step → List Copy
+copies_left true steps = []
+copies_left false steps = copies_of steps
+
+-- what is known before the next step, and after it
+abbrev pub known_at : (is_resumed : Bool) → Option Opened → Known
+known_at is_resumed opened = record { plan = plan_at opened; free = copies_left is_resumed (drop (length (log_at opened)) (plan_at opened).steps) }
+
+abbrev pub known_past : (is_resumed : Bool) → Option Opened → Known
+known_past is_resumed opened = record { plan = plan_at opened; free = copies_left is_resumed (drop (length (log_at opened) + 1) (plan_at opened).steps) }
+
+-- ---- a step that changes a message
+
+-- so much was asked since, each of it called for by these steps
 pub record Calls {L : Type 0} (noted : L → Asked → L) (steps : List Step) (old new : L) : Type 0 where
   pub calls : List Asked
   pub now : new ≡ fold noted old calls

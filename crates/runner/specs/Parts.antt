@@ -7,7 +7,7 @@ use Rattle.outside.specs.GoingOn.{GoesOn}
 use Rattle.outside.specs.Opened.{Opened}
 use Rattle.runner.specs.declared.fault.RunFault.{RunFault}
 use Rattle.runner.specs.declared.fault.RunFault.TheVariants.{Stopped}
-use Rattle.runner.specs.Faults.{IsCaused, LeavesRun, Reasons, RefusedAt, ReportsRefused, because, or_refused, performing, stops_met}
+use Rattle.runner.specs.Faults.{IsCaused, LeavesRun, Reasons, RefusedAt, ReportsRefused, or_refused, performing, stops_met}
 use Rattle.runner.specs.Going.{number_at}
 
 -- what was reported before stands after what was reported since

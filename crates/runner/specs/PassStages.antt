@@ -14,6 +14,7 @@ use Rattle.run_states.specs.Openings.{Opening}
 use Rattle.runner.specs.declared.fault.RunFault.{RunFault}
 use Rattle.runner.specs.declared.pass.Pass.{Pass}
 use Rattle.runner.specs.Answers.{AnswersTo, HasRepeats, IsRun, Moves, PlanStart, ReadPassStart, RunsBy, made_in, run_of}
+use Rattle.runner.specs.Asking.{Asks, read_back}
 use Rattle.runner.specs.Before.{HasNoPlan, IsEmptied, IsShown, world_shown}
 use Rattle.runner.specs.ChangedMaps.{ReportsMap}
 use Rattle.runner.specs.Faults.{ReadsBeyond, Reasons, because, or_beyond, or_keywords, or_repeats}
@@ -83,9 +84,11 @@ module _ {O : Type 0} (o : Ghosts O) where
       pub found : o.honest new → from (o.seen old).device → OfSame o.ours (o.seen old).device (λ d. FindsBy (o.opened old) d pass)
       pub named : o.honest new → from (o.seen old).device → NamesBy opening (o.opened old) pass (o.seen old).device (o.seen new).device
 
-    -- A stage of a pass for this run, which leads from one condition to another. After an error the run is still underway.
+    -- A stage of a pass for this run, which leads from one condition to another. After an error the run is still underway. It asks for what
+    -- the plan calls for that was read, or for what one calls for that it writes.
     pub record Stage (run : ℕ) (reasons : Reasons) (from reaches : Device → Type 0) (old new : O) (result : Result Pass RunFault) : Type 0 where
       pub frame : Frame old new
+      pub asked : Asks o.noted (read_back (plan_at (o.opened old))) (o.asked old) (o.asked new)
       pub answer : IfOk result (StageAnswer run from old new)
       pub part : RunPart reasons (o.opened new) (o.honest new) from (Underway opening) made_in (λ _. reaches) (o.seen old) (o.seen new) result
 

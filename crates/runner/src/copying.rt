@@ -1,11 +1,14 @@
 //! A step that copies a message.
 
-ghost use Rattle.std.specs.Prelude.{◌≡◌, ◌∷◌, [], None, Some, IfOk, true, false};
+ghost use Rattle.std.specs.Prelude.{◌≡◌, List, ◌∷◌, None, Some, IfOk, true, false};
 ghost use Rattle.rules.specs.declared.plan.Step.TheVariants as step;
 ghost use Rattle.sync_state.specs.JournalText.{LogsNew};
 ghost use Rattle.run_states.specs.Conditions.{Underway};
 ghost use Rattle.run_states.specs.Openings.{Opening};
-ghost use Rattle.runner.specs.Asking.{Calls};
+ghost use Rattle.mailcore.specs.Sides.{target};
+ghost use Rattle.outside.specs.Asked.{after_look};
+ghost use Rattle.run_states.specs.Plans.{first_uid};
+ghost use Rattle.runner.specs.Asking.{Copy, Performs, known_at, known_past};
 ghost use Rattle.runner.specs.Parts.{StepPart};
 ghost use Rattle.runner.specs.Going.{IsGoing, AfterCopy, AfterStep, BeforeStep, AfterSearch, CopiesUnder, FoundCopy, logged_of, made_by, next_at, plan_at};
 ghost use Rattle.runner.specs.Finding.{OfSame, copy_at, copy_under, reported_found};
@@ -40,7 +43,8 @@ fn seek<O: Outside>(
     ensures found { IfOk result (λ found. O.honest outside.new → BeforeStep opening (O.opened outside.old) true
         (O.seen outside.old).device → OfSame O.ours (O.seen outside.old).device (λ d. found ≡ copy_under
         (plan_at (O.opened outside.old)) direction mark d)) }
-    ensures asked { O.asked outside.new ≡ O.asked outside.old }
+    ensures asked { O.asked outside.new ≡ after_look O.noted (target direction) mark (first_uid (plan_at (O.opened outside.old)) (target direction))
+        (O.asked outside.old) result }
 {
     let side = direction.target();
     let from = first_uid(outside, side);
@@ -66,7 +70,8 @@ fn find_copy<O: Outside>(
     ensures part { StepPart number (O.opened outside.old) (O.honest outside.new)
         (AfterCopy opening (O.opened outside.old)) (Underway opening) (λ _. 0)
         (FoundCopy opening (O.opened outside.old)) (O.seen outside.old) (O.seen outside.new) result }
-    ensures asked { O.asked outside.new ≡ O.asked outside.old }
+    ensures asked { O.asked outside.new ≡ after_look O.noted (target direction) mark (first_uid (plan_at (O.opened outside.old)) (target direction))
+        (O.asked outside.old) result }
 {
     let side = direction.target();
     let from = first_uid(outside, side);
@@ -99,7 +104,9 @@ fn copy<O: Outside>(
     ensures part { StepPart number (O.opened outside.old) (O.honest outside.new)
         (BeforeStep opening (O.opened outside.old) false) (Underway opening) made_by
         (λ r. AfterStep opening (O.opened outside.old) (logged_of r)) (O.seen outside.old) (O.seen outside.new) result }
-    ensures asked { Calls O.noted (step.New direction uid flags mark ∷ []) (O.asked outside.old) (O.asked outside.new) }
+    ensures asked { (left : List Copy) → (let plan = plan_at (O.opened outside.old) in
+        Performs O.noted (record { plan = plan; free = (target direction, mark) ∷ left }) (record { plan = plan; free = left })
+        (O.asked outside.old) (O.asked outside.new) result) }
 {
     let carried = match outside.carry(direction, uid, mark, flags) {
         Ok(carried) => carried,
@@ -142,7 +149,8 @@ pub(crate) fn bring<O: Outside>(
     ensures part { StepPart number (O.opened outside.old) (O.honest outside.new)
         (BeforeStep opening (O.opened outside.old) is_resumed) (Underway opening) made_by
         (λ r. AfterStep opening (O.opened outside.old) (logged_of r)) (O.seen outside.old) (O.seen outside.new) result }
-    ensures asked { Calls O.noted (step.New direction uid flags mark ∷ []) (O.asked outside.old) (O.asked outside.new) }
+    ensures asked { Performs O.noted (known_at is_resumed (O.opened outside.old)) (known_past is_resumed (O.opened outside.old))
+        (O.asked outside.old) (O.asked outside.new) result }
 {
     if !is_resumed {
         return copy(outside, number, direction, uid, flags, mark);

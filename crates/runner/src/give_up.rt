@@ -10,10 +10,12 @@ ghost use Rattle.book.specs.declared.book.Pending.TheVariants.{Missing, Planned}
 ghost use Rattle.book.specs.Books.{Holds, mended};
 ghost use Rattle.book.specs.BookLogs.{logged_more};
 ghost use Rattle.book.specs.LostSides.{AreRising};
+ghost use Rattle.outside.specs.Asked.{Read, after_look};
 ghost use Rattle.outside.specs.Devices.{box};
-ghost use Rattle.outside.specs.Opened.{IsBook, IsHeld, journal_in, turned};
+ghost use Rattle.outside.specs.Opened.{IsBook, IsHeld, journal_in, journal_of, turned};
 ghost use Rattle.run_states.specs.Openings.{IsIdle};
 ghost use Rattle.run_states.specs.Plans.{first_uid as first_of};
+ghost use Rattle.runner.specs.Asking.{Looks};
 ghost use Rattle.runner.specs.Before.{HasPlan};
 ghost use Rattle.runner.specs.Faults.{ReportsUnread, because, or_refused, or_unread};
 ghost use Rattle.runner.specs.GivingUp.{Counted, GivesUpRead, GivesUpSo, HoldsLeft, HoldsLeftOf, InLook, IsReady, KeepsAll, KeepsBoxes, LeavesRead, NotesCopy, StillPending, giving_up_reasons};
@@ -44,6 +46,7 @@ fn read_book<O: Outside>(outside: &mut O) -> Result<(), RunFault>
     ensures stuck { IsStuck (O.seen outside.old) (O.seen outside.new) result }
     ensures counted { Counted (or_unread (ReportsUnread (O.honest outside.new) (O.seen outside.new).device) Never) (O.honest outside.new)
         (O.seen outside.old) (O.seen outside.new) result }
+    ensures asked { O.asked outside.new ≡ O.noted (O.asked outside.old) (Read (journal_of (O.opened outside.new))) }
 {
     match outside.open_book() {
         Ok(()) => Ok(()),
@@ -63,6 +66,7 @@ fn open_same<O: Outside>(outside: &mut O, side: Side) -> Result<(), RunFault>
     ensures counted { Counted (because (λ at. ReportsOther (O.honest outside.new) O.alone (O.opened outside.old) side (O.seen outside.old).device
         (O.seen outside.new).device at × OpensBox IsOther side (O.opened outside.old) (O.opened outside.new)) ⊥)
         (O.honest outside.new) (O.seen outside.old) (O.seen outside.new) result }
+    ensures asked { O.asked outside.new ≡ O.asked outside.old }
 {
     let recorded = recorded_validity(outside, side);
     match outside.open_box(side) {
@@ -92,6 +96,7 @@ fn mend_plan<O: Outside>(outside: &mut O) -> Result<(), RunFault>
         → StillPending (O.opened outside.old) (O.seen outside.new).device) }
     ensures boxes { O.honest outside.new → KeepsBoxes O.ours O.alone (O.seen outside.old).device (O.seen outside.new).device }
     ensures counted { Counted Never (O.honest outside.new) (O.seen outside.old) (O.seen outside.new) result }
+    ensures asked { O.asked outside.new ≡ O.asked outside.old }
 {
     match outside.mend() {
         Ok(()) => Ok(()),
@@ -114,6 +119,8 @@ fn look<O: Outside>(
         → found ≡ marked_from mark (first_of (plan_at (O.opened outside.old)) side) (box (O.seen outside.new).device side)) }
     ensures kept { O.honest outside.new → KeepsAll O.ours O.alone (O.seen outside.old).device (O.seen outside.new).device }
     ensures counted { Counted (InLook number) (O.honest outside.new) (O.seen outside.old) (O.seen outside.new) result }
+    ensures asked { O.asked outside.new ≡ after_look O.noted side mark (first_of (plan_at (O.opened outside.old)) side) (O.asked outside.old)
+        result }
 {
     let from = first_uid(outside, side);
     match outside.find_mark(side, mark, from) {
@@ -137,6 +144,7 @@ fn log_copy<O: Outside>(outside: &mut O, number: usize, copy: Uid) -> Result<(),
     ensures boxes { O.honest outside.new → KeepsBoxes O.ours O.alone (O.seen outside.old).device (O.seen outside.new).device }
     ensures open { OnOk result (AreOpen (O.opened outside.new)) }
     ensures counted { Counted (InLook number) (O.honest outside.new) (O.seen outside.old) (O.seen outside.new) result }
+    ensures asked { O.asked outside.new ≡ O.asked outside.old }
 {
     match outside.done(number, Some(copy)) {
         Ok(()) => Ok(()),
@@ -166,6 +174,7 @@ fn seek_and_log<O: Outside>(
     ensures boxes { O.honest outside.new → KeepsBoxes O.ours O.alone (O.seen outside.old).device (O.seen outside.new).device }
     ensures open { OnOk result (AreOpen (O.opened outside.new)) }
     ensures counted { Counted (InLook number) (O.honest outside.new) (O.seen outside.old) (O.seen outside.new) result }
+    ensures asked { Looks O.noted (O.asked outside.old) (O.asked outside.new) }
 {
     match look(outside, number, direction.target(), mark)? {
         Some(copy) => log_copy(outside, number, copy),
@@ -191,6 +200,7 @@ fn note_step<O: Outside>(outside: &mut O, number: usize, step: Step) -> Result<(
     ensures boxes { O.honest outside.new → KeepsBoxes O.ours O.alone (O.seen outside.old).device (O.seen outside.new).device }
     ensures open { OnOk result (AreOpen (O.opened outside.new)) }
     ensures counted { Counted (InLook number) (O.honest outside.new) (O.seen outside.old) (O.seen outside.new) result }
+    ensures asked { Looks O.noted (O.asked outside.old) (O.asked outside.new) }
 {
     match step {
         Step::New {
@@ -220,6 +230,7 @@ fn note_copy<O: Outside>(outside: &mut O) -> Result<(), RunFault>
     ensures boxes { O.honest outside.new → KeepsBoxes O.ours O.alone (O.seen outside.old).device (O.seen outside.new).device }
     ensures open { OnOk result (AreOpen (O.opened outside.new)) }
     ensures counted { Counted (InLook (number_at (O.opened outside.old))) (O.honest outside.new) (O.seen outside.old) (O.seen outside.new) result }
+    ensures asked { Looks O.noted (O.asked outside.old) (O.asked outside.new) }
 {
     match next_step(outside) {
         Some((number, step)) => note_step(outside, number, step),
@@ -240,6 +251,7 @@ fn leave<O: Outside>(outside: &mut O, lost: &LostSides) -> Result<(), RunFault>
         × HoldsLeftOf lost.now (O.opened outside.old) pending (O.seen outside.new).device)) }
     ensures boxes { O.honest outside.new → KeepsBoxes O.ours O.alone (O.seen outside.old).device (O.seen outside.new).device }
     ensures counted { Counted Never (O.honest outside.new) (O.seen outside.old) (O.seen outside.new) result }
+    ensures asked { O.asked outside.new ≡ O.asked outside.old }
 {
     match outside.give_up(lost) {
         Ok(()) => Ok(()),
@@ -261,6 +273,7 @@ fn look_and_leave<O: Outside>(alloc: Global, outside: &mut O) -> Result<(), RunF
         × HoldsLeft O.ours O.alone (O.opened outside.old) pending (O.seen outside.old).device (O.seen outside.new).device)) }
     ensures boxes { O.honest outside.new → KeepsBoxes O.ours O.alone (O.seen outside.old).device (O.seen outside.new).device }
     ensures counted { Counted Never (O.honest outside.new) (O.seen outside.old) (O.seen outside.new) result }
+    ensures asked { O.asked outside.new ≡ O.asked outside.old }
 {
     let lost = lost_sides(alloc, outside)?;
     leave(outside, &lost)
@@ -278,6 +291,7 @@ fn open_both<O: Outside>(outside: &mut O) -> Result<(), RunFault>
     ensures counted { Counted (because (λ at. ReportsChange (O.honest outside.new) O.alone (O.opened outside.old) (O.seen outside.old).device
         (O.seen outside.new).device at × AnswersChanged (O.opened outside.new) at) ⊥)
         (O.honest outside.new) (O.seen outside.old) (O.seen outside.new) result }
+    ensures asked { O.asked outside.new ≡ O.asked outside.old }
 {
     open_same(outside, Side::Far)?;
     open_same(outside, Side::Near)
@@ -298,6 +312,7 @@ fn get_ready<O: Outside>(outside: &mut O) -> Result<(), RunFault>
     ensures counted { Counted (because (λ at. ReportsChange (O.honest outside.new) O.alone (O.opened outside.old) (O.seen outside.old).device
         (O.seen outside.new).device at × AnswersChanged (O.opened outside.new) at) ⊥)
         (O.honest outside.new) (O.seen outside.old) (O.seen outside.new) result }
+    ensures asked { O.asked outside.new ≡ O.asked outside.old }
 {
     open_both(outside)?;
     mend_plan(outside)
@@ -314,6 +329,7 @@ fn finish_log<O: Outside>(alloc: Global, outside: &mut O) -> Result<(), RunFault
     ensures boxes { O.honest outside.new → KeepsBoxes O.ours O.alone (O.seen outside.old).device (O.seen outside.new).device }
     ensures counted { Counted (InLook (number_at (O.opened outside.old))) (O.honest outside.new) (O.seen outside.old) (O.seen outside.new)
         result }
+    ensures asked { Looks O.noted (O.asked outside.old) (O.asked outside.new) }
 {
     note_copy(outside)?;
     look_and_leave(alloc, outside)
@@ -333,6 +349,7 @@ fn leave_plan<O: Outside>(alloc: Global, outside: &mut O) -> Result<bool, RunFau
         (O.honest outside.new) O.alone (O.opened outside.old) (O.seen outside.old).device (O.seen outside.new).device at
         × AnswersChanged (O.opened outside.new) at) ⊥)) (O.honest outside.new)
         (O.seen outside.old) (O.seen outside.new) result }
+    ensures asked { Looks O.noted (O.asked outside.old) (O.asked outside.new) }
 {
     get_ready(outside)?;
     match finish_log(alloc, outside) {
@@ -348,6 +365,10 @@ fn leave_plan<O: Outside>(alloc: Global, outside: &mut O) -> Result<bool, RunFau
 pub fn give_up<O: Outside>(alloc: Global, outside: &mut O) -> Result<bool, RunFault>
     ensures was_honest { O.honest outside.new → O.honest outside.old }
     ensures keywords { O.keywords outside.new ≡ O.keywords outside.old }
+
+    // Whatever others do meanwhile, and whatever calls answer: it reads the journal and looks for copies; it asks for no message to be
+    // copied, changed or removed.
+    ensures asked { Looks O.noted (O.asked outside.old) (O.asked outside.new) }
 
     // Whatever the answer, both mailboxes are as they were, but for what others added.
     ensures boxes { O.honest outside.new → KeepsBoxes O.ours O.alone (O.seen outside.old).device (O.seen outside.new).device }

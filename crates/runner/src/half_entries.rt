@@ -228,6 +228,7 @@ fn list_far<O: Outside>(outside: &mut O) -> Result<Listing, RunFault>
     ensures shows { IfOk result (λ far. O.honest outside.new → far.items ≡ far_items (O.seen outside.new).device) }
     ensures kept { O.honest outside.new → KeepsAll O.ours O.alone (O.seen outside.old).device (O.seen outside.new).device }
     ensures counted { Counted Never (O.honest outside.new) (O.seen outside.old) (O.seen outside.new) result }
+    ensures asked { O.asked outside.new ≡ O.asked outside.old }
 {
     match outside.look_far() {
         Ok(far) => Ok(far),
@@ -245,6 +246,7 @@ fn list_near<O: Outside>(alloc: Global, outside: &mut O) -> Result<Listing, RunF
         ≡ flags_at (near_items (O.seen outside.new).device) uid) }
     ensures kept { O.honest outside.new → KeepsAll O.ours O.alone (O.seen outside.old).device (O.seen outside.new).device }
     ensures counted { Counted Never (O.honest outside.new) (O.seen outside.old) (O.seen outside.new) result }
+    ensures asked { O.asked outside.new ≡ O.asked outside.old }
 {
     let all = Spared::of(u32::MAX, Vec::new(alloc));
     match outside.look_near(&all) {
@@ -313,6 +315,7 @@ fn look_for_lost<O: Outside>(alloc: Global, outside: &mut O) -> Result<LostSides
     ensures rising { IfOk result AreRising }
     ensures kept { O.honest outside.new → KeepsAll O.ours O.alone (O.seen outside.old).device (O.seen outside.new).device }
     ensures counted { Counted Never (O.honest outside.new) (O.seen outside.old) (O.seen outside.new) result }
+    ensures asked { O.asked outside.new ≡ O.asked outside.old }
 {
     let far = list_far(outside)?;
     let near = list_near(alloc, outside)?;
@@ -332,6 +335,7 @@ pub(crate) fn lost_sides<O: Outside>(alloc: Global, outside: &mut O) -> Result<L
     ensures rising { IfOk result AreRising }
     ensures kept { O.honest outside.new → KeepsAll O.ours O.alone (O.seen outside.old).device (O.seen outside.new).device }
     ensures counted { Counted Never (O.honest outside.new) (O.seen outside.old) (O.seen outside.new) result }
+    ensures asked { O.asked outside.new ≡ O.asked outside.old }
 {
     if has_removed_some(outside) {
         look_for_lost(alloc, outside)

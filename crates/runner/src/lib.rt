@@ -2,6 +2,7 @@
 #![tactic(auto)]
 
 pub mod changing;
+mod concluding;
 pub mod copying;
 pub mod fault;
 pub mod give_up;

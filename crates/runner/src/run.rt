@@ -1,24 +1,25 @@
 //! A whole run: it is begun, or resumed where its plan is pending, and its state is committed.
 
-ghost use Rattle.std.specs.Prelude.{◌≡◌, ◌<◌, ◌+◌, ◌^◌, [], None, IsErr, OnOk, IfOk, true, false};
+ghost use Rattle.std.specs.Prelude.{◌≡◌, ◌<◌, ◌+◌, ◌^◌, IsErr, OnOk, IfOk, false};
 ghost use Rattle.outside.specs.Asked.{Begun};
-ghost use Rattle.outside.specs.Opened.{IsBook, IsRead, TakesCommit};
+ghost use Rattle.outside.specs.Opened.{IsBook, IsRead};
 ghost use Rattle.run_states.specs.Conditions.{Underway};
 ghost use Rattle.run_states.specs.Openings.{Opening, once_listed};
 ghost use Rattle.runner.specs.Maps.{HasMapIn};
-ghost use Rattle.runner.specs.Asking.{Asks};
+ghost use Rattle.runner.specs.Asking.{Asks, nothing};
 ghost use Rattle.runner.specs.Faults.{or_repeats};
 ghost use Rattle.runner.specs.Parts.{IsStuck, Part, PartOr, RunPart, Never};
 ghost use Rattle.runner.specs.Validities.{IsKept};
-ghost use Rattle.runner.specs.Going.{AreOpen, BeforeStep, IsGoing, next_at, plan_at};
+ghost use Rattle.runner.specs.Going.{AreOpen, BeforeStep, plan_at};
 ghost use Rattle.runner.specs.Before.{HasPlan, ReadUnderway, Resumed, world_shown};
 ghost use Rattle.runner.specs.Results.{HasResults};
 ghost use Rattle.runner.specs.Answers.{RunEnd, HasRepeats, PlanStart, PassStart, Moves, OfFiles, PassEnd, made_in, run_of};
 ghost use Rattle.runner.specs.Attempts.{AnswersAt};
-ghost use Rattle.runner.specs.PassStages.{Concluded, DrawnStage, Frame, IsReadFor, LeavesSkipped, MayPlan, Proposed, ReadStage, Stage, plan_reasons, read_reasons, run_reasons};
+ghost use Rattle.runner.specs.PassStages.{DrawnStage, Frame, IsReadFor, LeavesSkipped, MayPlan, Proposed, ReadStage, Stage, plan_reasons, read_reasons, run_reasons};
 ghost use Rattle.runner.specs.Passes.{LeavesMade, ReportsRun, pass_reasons};
 
-use crate::fault::{RunFault, call_fault};
+use crate::concluding::conclude;
+use crate::fault::RunFault;
 use crate::opening::{clear, forget, list_both, open_boxes, recall, untear, write_plan};
 use crate::pass::Pass;
 use crate::planning::{all_skipped, make_plan};
@@ -31,24 +32,6 @@ use outside::outside::Outside;
 use rand_core::Rng;
 use rules::options::Options;
 use std::alloc::Global;
-
-/// The new state takes the old one's place, and the journal goes.
-fn conclude<O: Outside>(outside: &mut O, is_resumed: bool) -> Result<(), RunFault>
-    ghost opening: { Opening O.ours O.alone }
-    requires going { IsGoing (O.opened outside.old) }
-    requires takes { TakesCommit (O.opened outside.old) }
-    requires ended { next_at (O.opened outside.old) ≡ None }
-    ensures frame { Frame O.Outside outside.old outside.new }
-    ensures concluded { OnOk result (Concluded O.Outside opening is_resumed outside.old outside.new) }
-    ensures part { Part (O.honest outside.new) (BeforeStep opening (O.opened outside.old) is_resumed) (Underway opening) (λ _. 0)
-        (λ _. RunEnd opening) (O.seen outside.old) (O.seen outside.new) result }
-    ensures asked { O.asked outside.new ≡ O.asked outside.old }
-{
-    match outside.commit() {
-        Ok(()) => Ok(()),
-        Err(fault) => Err(call_fault(fault)),
-    }
-}
 
 /// Makes a plan and writes it. Messages that are not fit are reported.
 fn propose<O: Outside, R: Rng>(
@@ -69,7 +52,7 @@ fn propose<O: Outside, R: Rng>(
         (λ _. BeforeStep (once_listed opening (world_shown (O.opened outside.new))) (O.opened outside.new) false) (O.seen outside.old)
         (O.seen outside.new) result }
     ensures begun { OnOk result (O.asked outside.new ≡ O.noted (O.asked outside.old) (Begun (plan_at (O.opened outside.new)))) }
-    ensures asked { Asks O.noted [] (O.asked outside.old) (O.asked outside.new) }
+    ensures asked { Asks O.noted nothing (O.asked outside.old) (O.asked outside.new) }
 {
     clear(outside)?;
     let both = list_both(alloc, outside)?;
@@ -92,7 +75,6 @@ fn begin<O: Outside, R: Rng, P: Progress>(
     ensures stage { DrawnStage O.Outside opening (run_of (O.opened outside.old) + 1) options.now (R.stream rng.old) (R.stream rng.new)
         (plan_reasons O.Outside outside.old outside.new) (PlanStart opening (O.opened outside.old) options.now (R.stream rng.old))
         (RunEnd opening) outside.old outside.new result }
-    ensures asked { Asks O.noted [] (O.asked outside.old) (O.asked outside.new) }
 {
     let unfit = propose(alloc, outside, options, rng)?;
     let performed = carry_out(alloc, outside, false, progress)?;
@@ -113,7 +95,6 @@ fn resume<O: Outside, P: Progress>(
     requires map { opening.options.keywords ≡ O.keywords outside.old }
     ensures stage { Stage O.Outside opening (run_of (O.opened outside.old) + 1) Never (Resumed opening (O.opened outside.old))
         (RunEnd opening) outside.old outside.new result }
-    ensures asked { Asks O.noted (plan_at (O.opened outside.old)).steps (O.asked outside.old) (O.asked outside.new) }
 {
     untear(outside)?;
     let performed = carry_out(alloc, outside, true, progress)?;
@@ -153,7 +134,6 @@ fn work<O: Outside, R: Rng, P: Progress>(
     requires map { opening.options.keywords ≡ O.keywords outside.old }
     ensures stage { ReadStage O.Outside opening (run_of (O.opened outside.old) + 1) options.now (R.stream rng.old) (R.stream rng.new)
         (plan_reasons O.Outside outside.old outside.new) (RunEnd opening) outside.old outside.new result }
-    ensures asked { Asks O.noted (plan_at (O.opened outside.old)).steps (O.asked outside.old) (O.asked outside.new) }
 {
     if outside.pending().is_some() {
         resume(alloc, outside, progress)
@@ -176,7 +156,6 @@ fn open_and_work<O: Outside, R: Rng, P: Progress>(
     requires map { O.keywords outside.old ≡ options.now.keywords }
     ensures stage { ReadStage O.Outside opening (run_of (O.opened outside.old) + 1) options.now (R.stream rng.old) (R.stream rng.new)
         (read_reasons O.Outside options.now.keywords outside.old outside.new) (RunEnd opening) outside.old outside.new result }
-    ensures asked { Asks O.noted (plan_at (O.opened outside.old)).steps (O.asked outside.old) (O.asked outside.new) }
 {
     open_boxes(outside)?;
     same_map(outside, options)?;
@@ -198,7 +177,6 @@ fn make_or_resume<O: Outside, R: Rng, P: Progress>(
         (run_reasons O.Outside run options.now.keywords outside.old outside.new) (PassEnd opening run) outside.old outside.new result }
     ensures made { IfOk result (λ pass. pass ≡ Pass.Already → LeavesSkipped O.Outside outside.old outside.new) }
     ensures beyond { run_of (O.opened outside.old) + 1 < run → IsErr result × (O.seen outside.new ≡ O.seen outside.old) }
-    ensures asked { Asks O.noted (plan_at (O.opened outside.old)).steps (O.asked outside.old) (O.asked outside.new) }
 {
     let last = outside.state().run;
     if run <= last {
@@ -228,8 +206,9 @@ pub fn pass<O: Outside, R: Rng, P: Progress>(
     ensures keywords { O.keywords outside.new ≡ O.keywords outside.old }
 
     // Whatever others do meanwhile, and whatever calls answer: each call that changes, removes or copies a message is one that a step of the
-    // plan calls for, which is the plan that was last read from the journal or written into it.
-    ensures asked { Asks O.noted [] (O.asked outside.old) (O.asked outside.new) }
+    // plan calls for, which is the plan that was last read from the journal or written into it. A copy is asked for once where the plan was
+    // written since, and else right after a look that has found none under its mark.
+    ensures asked { Asks O.noted nothing (O.asked outside.old) (O.asked outside.new) }
 
     // The answer depends on what the files held: the run was made before, its plan was pending, or it is planned now, as the rules
     // call for, with the marks that the generator gave as pairs of words.

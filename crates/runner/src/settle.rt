@@ -3,7 +3,7 @@
 ghost use Rattle.std.specs.Prelude.{◌≡◌, ◌≤◌, ◌+◌, [], None, Some, OnOk, OnErr, IfOk, IfErr, false, ℕ};
 ghost use Rattle.run_states.specs.Openings.{Opening};
 ghost use Rattle.runner.specs.Answers.{Moves};
-ghost use Rattle.runner.specs.Asking.{Asks};
+ghost use Rattle.runner.specs.Asking.{Asks, nothing};
 ghost use Rattle.runner.specs.AttemptStages.{Attempt};
 ghost use Rattle.runner.specs.Attempts.{AtOpening, FromOpening, HasNoNext, HasReached, IsReached, AttemptAt, found_by};
 ghost use Rattle.runner.specs.Faults.{ReportsLastRun, ReportsUnread, or_greatest, or_unread};
@@ -37,7 +37,7 @@ fn next_run<O: Outside>(outside: &mut O) -> Result<u64, RunFault>
         (O.honest outside.new) (AtOpening opening) (AtOpening opening)
         (λ _. 0) (λ number d. (number ≡ opening.world.state.run + 1) × AtOpening opening d) (O.seen outside.old)
         (O.seen outside.new) result }
-    ensures asked { Asks O.noted [] (O.asked outside.old) (O.asked outside.new) }
+    ensures asked { Asks O.noted nothing (O.asked outside.old) (O.asked outside.new) }
 {
     match outside.open_book() {
         Ok(()) => {
@@ -68,7 +68,7 @@ fn fix_run<O: Outside>(outside: &mut O, run: &mut Option<u64>) -> Result<u64, Ru
         (or_greatest (ReportsLastRun (O.opened outside.new) (O.honest outside.new) (O.seen outside.new).device) Never))
         (O.honest outside.new) (AttemptAt opening run.old) (AttemptAt opening run.new)
         (λ _. 0) (λ _. AttemptAt opening run.new) (O.seen outside.old) (O.seen outside.new) result }
-    ensures asked { Asks O.noted [] (O.asked outside.old) (O.asked outside.new) }
+    ensures asked { Asks O.noted nothing (O.asked outside.old) (O.asked outside.new) }
 {
     if let Some(number) = *run {
         return Ok(number);
@@ -92,7 +92,7 @@ fn attempt<O: Outside, R: Rng, P: Progress>(
     requires map { O.keywords outside.old ≡ options.now.keywords }
     ensures attempt { Attempt O.Outside opening options.now (R.stream rng.old) (R.stream rng.new) run.old run.new outside.old
         outside.new result }
-    ensures asked { Asks O.noted [] (O.asked outside.old) (O.asked outside.new) }
+    ensures asked { Asks O.noted nothing (O.asked outside.old) (O.asked outside.new) }
 {
     let number = fix_run(outside, run)?;
     pass(alloc, outside, number, options, rng, progress)
@@ -128,8 +128,9 @@ pub fn settle<O: Outside, R: Rng, P: Progress>(
     ensures keywords { O.keywords outside.new ≡ O.keywords outside.old }
 
     // Whatever others do meanwhile, and whatever calls answer: each call that changes, removes or copies a message is one that a step of the
-    // plan calls for, which is the plan that was last read from the journal or written into it.
-    ensures asked { Asks O.noted [] (O.asked outside.old) (O.asked outside.new) }
+    // plan calls for, which is the plan that was last read from the journal or written into it. A copy is asked for once where the plan was
+    // written since, and else right after a look that has found none under its mark.
+    ensures asked { Asks O.noted nothing (O.asked outside.old) (O.asked outside.new) }
 
     // If it succeeds, the run is over: both mailboxes and the state are what the rules prescribe for the world that it began with. The
     // answer says what the last attempt did. If it fails, the run is still pending, and the next call resumes it.

@@ -9,7 +9,7 @@ ghost use Rattle.outside.specs.BookCalls.{FromLog, OfBook};
 ghost use Rattle.outside.specs.Opened.{TakesLog, turned};
 ghost use Rattle.run_states.specs.Conditions.{Underway};
 ghost use Rattle.run_states.specs.Openings.{Opening};
-ghost use Rattle.runner.specs.Asking.{Calls};
+ghost use Rattle.runner.specs.Asking.{Asks, Performs, known_at, known_past};
 ghost use Rattle.runner.specs.Parts.{Never, PartOr, RunPart, StepPart};
 ghost use Rattle.runner.specs.Going.{IsGoing, AfterStep, BeforeStep, FitsNext, HasLogged, log_at, logged_of, logs_of, made, made_by, next_at, number_at, plan_at, steps_of};
 ghost use Rattle.runner.specs.Finding.{AreFoundSo, IsFoundSo, OfSame, copy_at, reported_found};
@@ -49,7 +49,8 @@ fn perform<O: Outside>(
     ensures part { StepPart number (O.opened outside.old) (O.honest outside.new)
         (BeforeStep opening (O.opened outside.old) is_resumed) (Underway opening) made_by
         (λ r. AfterStep opening (O.opened outside.old) (logged_of r)) (O.seen outside.old) (O.seen outside.new) result }
-    ensures asked { Calls O.noted (step.now ∷ []) (O.asked outside.old) (O.asked outside.new) }
+    ensures asked { Performs O.noted (known_at is_resumed (O.opened outside.old)) (known_past is_resumed (O.opened outside.old))
+        (O.asked outside.old) (O.asked outside.new) result }
 {
     match *step {
         Step::New {
@@ -155,7 +156,8 @@ fn advance<O: Outside>(
     ensures part { RunPart Never (O.opened outside.new) (O.honest outside.new)
         (BeforeStep opening (O.opened outside.old) is_resumed) (Underway opening) (λ p. made_by p.result)
         (λ _. BeforeStep opening (O.opened outside.new) false) (O.seen outside.old) (O.seen outside.new) result }
-    ensures asked { Calls O.noted (plan_at (O.opened outside.old)).steps (O.asked outside.old) (O.asked outside.new) }
+    ensures asked { Performs O.noted (known_at is_resumed (O.opened outside.old)) (known_at is_resumed (O.opened outside.new))
+        (O.asked outside.old) (O.asked outside.new) result }
 {
     let result = perform(outside, number, &step, is_resumed)?;
     log(outside, number, &result)?;
@@ -187,7 +189,7 @@ pub(crate) fn carry_out<O: Outside, P: Progress>(
     ensures part { RunPart Never (O.opened outside.new) (O.honest outside.new) (BeforeStep opening (O.opened outside.old) is_resumed)
         (Underway opening) (λ performed. made performed.items)
         (λ _. BeforeStep opening (O.opened outside.new) is_resumed) (O.seen outside.old) (O.seen outside.new) result }
-    ensures asked { Calls O.noted (plan_at (O.opened outside.old)).steps (O.asked outside.old) (O.asked outside.new) }
+    ensures asked { Asks O.noted (known_at is_resumed (O.opened outside.old)) (O.asked outside.old) (O.asked outside.new) }
 {
     let mut performed = Vec::new(alloc);
     report_logged(outside, progress);

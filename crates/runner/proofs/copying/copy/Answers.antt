@@ -8,7 +8,7 @@ use Rattle.runner.proofs.PartCalls.{from_box, left_lost, left_step, line_of_box,
 use Rattle.runner.proofs.Sourced.{made_fit, void_absent, void_unfit}
 use Rattle.runner.proofs.Stages.{carry_left, carry_reported, carry_unreported, never_absent, never_unfit, ready_arrives, ready_held}
 use Rattle.runner.proofs.Within.{copy_whole}
-use Rattle.runner.proofs.Asking.{calls_before, calls_new}
+use Rattle.runner.proofs.Asking.{comes_then, copied, looked}
 use Rattle.runner.proofs.copying.copy.Goals as goal
 
 pub carry-requires-clause-far_open : goal.carry-requires-clause-far_open
@@ -101,22 +101,34 @@ returns-in-Some-2-clause-source g c = λ h.
     made_fit _ g.O.Outside.ours g.O.Outside.alone c.args.direction c.args.uid (kept (g.O.Outside.keywords c.args.outside.now) c.args.flags) c.args.mark _ _ _ c.in-Some-2.copy (rw c.in-Made.is at c.in-Ok.ensures.call) (c.in_ok-copy-in-None.ensures.was_honest h)
 
 pub returns-in-Err-clause-asked : goal.returns-in-Err-clause-asked
-returns-in-Err-clause-asked g c = calls_new g.O.Outside.noted c.args.direction c.args.uid c.args.flags c.args.mark _ _ c.carry.ensures.asked
+returns-in-Err-clause-asked g c left = (_, copied g.O.Outside.noted (g.O.Outside.opened c.args.outside.now) c.args.direction c.args.uid c.args.flags c.args.mark left _ _ c.requires.1.1.0 c.carry.ensures.asked, tt)
 
 pub returns-in-Absent-clause-asked : goal.returns-in-Absent-clause-asked
-returns-in-Absent-clause-asked g c = calls_new g.O.Outside.noted c.args.direction c.args.uid c.args.flags c.args.mark _ _ c.carry.ensures.asked
+returns-in-Absent-clause-asked g c left = (_, copied g.O.Outside.noted (g.O.Outside.opened c.args.outside.now) c.args.direction c.args.uid c.args.flags c.args.mark left _ _ c.requires.1.1.0 c.carry.ensures.asked, refl)
 
 pub returns-in-Unfit-clause-asked : goal.returns-in-Unfit-clause-asked
-returns-in-Unfit-clause-asked g c = calls_new g.O.Outside.noted c.args.direction c.args.uid c.args.flags c.args.mark _ _ c.carry.ensures.asked
+returns-in-Unfit-clause-asked g c left = (_, copied g.O.Outside.noted (g.O.Outside.opened c.args.outside.now) c.args.direction c.args.uid c.args.flags c.args.mark left _ _ c.requires.1.1.0 c.carry.ensures.asked, refl)
 
 pub returns-in-Some-clause-asked : goal.returns-in-Some-clause-asked
-returns-in-Some-clause-asked g c = calls_new g.O.Outside.noted c.args.direction c.args.uid c.args.flags c.args.mark _ _ c.carry.ensures.asked
+returns-in-Some-clause-asked g c left = (_, copied g.O.Outside.noted (g.O.Outside.opened c.args.outside.now) c.args.direction c.args.uid c.args.flags c.args.mark left _ _ c.requires.1.1.0 c.carry.ensures.asked, refl)
 
 pub returns-in_err-copy-in-None-clause-asked : goal.returns-in_err-copy-in-None-clause-asked
-returns-in_err-copy-in-None-clause-asked g c = calls_before g.O.Outside.noted _ _ _ _ (calls_new g.O.Outside.noted c.args.direction c.args.uid c.args.flags c.args.mark _ _ c.carry.ensures.asked) c.find_copy.ensures.asked
+returns-in_err-copy-in-None-clause-asked g c left =
+    let e = err_from_is_err_and c.from_residual.result c.from_residual.ensures.1 in
+    rw c.in_err-copy-in-None.ensures.asked (_, copied g.O.Outside.noted (g.O.Outside.opened c.args.outside.now) c.args.direction c.args.uid c.args.flags c.args.mark left _ _ c.requires.1.1.0 c.carry.ensures.asked, rw e.1 tt)
 
 pub returns-in-Some-2-clause-asked : goal.returns-in-Some-2-clause-asked
-returns-in-Some-2-clause-asked g c = calls_before g.O.Outside.noted _ _ _ _ (calls_new g.O.Outside.noted c.args.direction c.args.uid c.args.flags c.args.mark _ _ c.carry.ensures.asked) c.find_copy.ensures.asked
+returns-in-Some-2-clause-asked g c left = (
+  _,
+  comes_then g.O.Outside.noted _ _ _ _ _ _ (copied g.O.Outside.noted (g.O.Outside.opened c.args.outside.now) c.args.direction c.args.uid c.args.flags c.args.mark left _ _ c.requires.1.1.0 c.carry.ensures.asked)
+      (looked g.O.Outside.noted _ _ _ _ _ _ _ c.in_ok-copy-in-None.ensures.asked),
+  refl,
+)
 
 pub returns-in-None-2-clause-asked : goal.returns-in-None-2-clause-asked
-returns-in-None-2-clause-asked g c = calls_before g.O.Outside.noted _ _ _ _ (calls_new g.O.Outside.noted c.args.direction c.args.uid c.args.flags c.args.mark _ _ c.carry.ensures.asked) c.find_copy.ensures.asked
+returns-in-None-2-clause-asked g c left = (
+  _,
+  comes_then g.O.Outside.noted _ _ _ _ _ _ (copied g.O.Outside.noted (g.O.Outside.opened c.args.outside.now) c.args.direction c.args.uid c.args.flags c.args.mark left _ _ c.requires.1.1.0 c.carry.ensures.asked)
+      (looked g.O.Outside.noted _ _ _ _ _ _ _ c.in_ok-copy-in-None.ensures.asked),
+  tt,
+)

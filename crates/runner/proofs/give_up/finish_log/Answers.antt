@@ -39,3 +39,6 @@ pub returns-clause-counted : goal.returns-clause-counted
 returns-clause-counted g c =
     let s1 = g.O.Outside.seen c.note_copy.new.outside in
     part_after _ _ _ _ _ _ _ _ _ s1 _ _ c.look_and_leave.ensures.was_honest c.in_ok-note_copy.ensures.counted (part_never _ _ _ _ _ _ _ _ _ c.look_and_leave.ensures.counted)
+
+pub returns-clause-asked : goal.returns-clause-asked
+returns-clause-asked g c = rw c.look_and_leave.ensures.asked c.note_copy.ensures.asked

@@ -11,6 +11,7 @@ use Rattle.runner.proofs.GivingUp.{goes_nowhere}
 use Rattle.runner.proofs.GivenUpRead.{answer_known, answered, by_files, none_pending, number_held, some_pending}
 use Rattle.runner.proofs.PartCalls.{left_reported, part_after, part_reported}
 use Rattle.runner.proofs.Validities.{files_changed}
+use Rattle.runner.proofs.Looking.{looks_read, looks_then}
 use Rattle.runner.proofs.give_up.give_up.Goals as goal
 
 pub returns-then-is_some-clause-gives_up : goal.returns-then-is_some-clause-gives_up
@@ -97,3 +98,12 @@ returns-in_err-read_book-clause-gives_up g c = λ honest s w h.
     let kept = c.read_book.ensures.kept honest in
     let before : Holds (g.O.Outside.seen c.read_book.new.outside).device.files s (Planned w) = subst (λ (f : Files). Holds f s (Planned w)) (sym kept.1) h in
     rw e.1 (inl (record { written = w; goes_on = goes_nowhere w.journal; held = before }))
+
+pub returns-in_err-read_book-clause-asked : goal.returns-in_err-read_book-clause-asked
+returns-in_err-read_book-clause-asked g c = looks_read g.O.Outside.noted _ _ _ c.read_book.ensures.asked
+
+pub returns-then-is_some-clause-asked : goal.returns-then-is_some-clause-asked
+returns-then-is_some-clause-asked g c = looks_then g.O.Outside.noted _ _ _ (looks_read g.O.Outside.noted _ _ _ c.read_book.ensures.asked) c.leave_plan.ensures.asked
+
+pub returns-else-is_some-clause-asked : goal.returns-else-is_some-clause-asked
+returns-else-is_some-clause-asked g c = looks_read g.O.Outside.noted _ _ _ c.read_book.ensures.asked

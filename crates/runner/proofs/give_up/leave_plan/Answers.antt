@@ -5,6 +5,7 @@ use Rattle.runner.proofs.GivingUp.{ready_going}
 use Rattle.runner.proofs.GivenUpRead.{read_done, read_left, read_pending, ready_number}
 use Rattle.runner.proofs.PartCalls.{left_after, left_reported, passed_after}
 use Rattle.runner.proofs.StepParts.{steps_reported, unrefused_reported}
+use Rattle.runner.proofs.Looking.{looks_none}
 use Rattle.runner.proofs.give_up.leave_plan.Goals as goal
 
 pub finish_log-requires : goal.finish_log-requires
@@ -65,3 +66,12 @@ returns-in-Err-clause-counted g c =
     let number = ready_number is.far is.near (g.O.Outside.opened c.args.outside.now) in
     left_after _ _ _ _ _ _ _ _ s1 _ c.finish_log.ensures.was_honest c.in_ok-get_ready.ensures.counted
     (left_reported _ _ _ _ _ _ _ _ (steps_reported _ _ (λ step k. k ∙ number)) (rw is.opened at c.in-Err.ensures.counted))
+
+pub returns-in_err-get_ready-clause-asked : goal.returns-in_err-get_ready-clause-asked
+returns-in_err-get_ready-clause-asked g c = looks_none g.O.Outside.noted _ _ c.get_ready.ensures.asked
+
+pub returns-in-Ok-clause-asked : goal.returns-in-Ok-clause-asked
+returns-in-Ok-clause-asked g c = rw c.get_ready.ensures.asked at c.finish_log.ensures.asked
+
+pub returns-in-Err-clause-asked : goal.returns-in-Err-clause-asked
+returns-in-Err-clause-asked g c = rw c.get_ready.ensures.asked at c.finish_log.ensures.asked

@@ -5,6 +5,7 @@ use Rattle.runner.specs.Going.{number_at}
 use Rattle.runner.proofs.GivingUp.{notes_none}
 use Rattle.runner.proofs.PartCalls.{part_reported, passed_none}
 use Rattle.runner.proofs.StepParts.{steps_reported}
+use Rattle.runner.proofs.Looking.{looks_none}
 use Rattle.runner.proofs.give_up.note_copy.Goals as goal
 
 pub returns-in-None-clause-notes : goal.returns-in-None-clause-notes
@@ -19,3 +20,6 @@ pub returns-in-Some-clause-counted : goal.returns-in-Some-clause-counted
 returns-in-Some-clause-counted g c =
     let n = number_at (g.O.Outside.opened c.args.outside.now) in
     part_reported _ _ _ _ _ _ _ _ _ _ (steps_reported _ (InLook n) (λ step k. k ∙ c.in-Some.ensures.0)) c.note_step.ensures.counted
+
+pub returns-in-None-clause-asked : goal.returns-in-None-clause-asked
+returns-in-None-clause-asked g c = looks_none g.O.Outside.noted _ _ refl

@@ -3,6 +3,7 @@ use Rattle.runner.proofs.Finding.{same_none}
 use Rattle.runner.specs.GivingUp.{Nowhere}
 use Rattle.runner.proofs.GivingUp.{notes_none}
 use Rattle.runner.proofs.PartCalls.{passed_none}
+use Rattle.runner.proofs.Looking.{looks_none}
 use Rattle.runner.proofs.give_up.note_step.Goals as goal
 
 pub returns-in-Gone-clause-notes : goal.returns-in-Gone-clause-notes
@@ -28,3 +29,12 @@ returns-in-Flags-clause-counted g c = passed_none _ Nowhere Nowhere _ c.requires
 
 pub returns-in-Expunge-clause-counted : goal.returns-in-Expunge-clause-counted
 returns-in-Expunge-clause-counted g c = passed_none _ Nowhere Nowhere _ c.requires.whole (λ k. k)
+
+pub returns-in-Gone-clause-asked : goal.returns-in-Gone-clause-asked
+returns-in-Gone-clause-asked g c = looks_none g.O.Outside.noted _ _ refl
+
+pub returns-in-Flags-clause-asked : goal.returns-in-Flags-clause-asked
+returns-in-Flags-clause-asked g c = looks_none g.O.Outside.noted _ _ refl
+
+pub returns-in-Expunge-clause-asked : goal.returns-in-Expunge-clause-asked
+returns-in-Expunge-clause-asked g c = looks_none g.O.Outside.noted _ _ refl

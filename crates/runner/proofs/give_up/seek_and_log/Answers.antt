@@ -6,6 +6,7 @@ use Rattle.runner.specs.GivingUp.{NotesCopy}
 use Rattle.rules.specs.declared.plan.Step.TheVariants as step
 use Rattle.runner.proofs.GivingUp.{notes_found, notes_none, ok_then}
 use Rattle.runner.proofs.PartCalls.{part_after}
+use Rattle.runner.proofs.Looking.{looks_for}
 use Rattle.runner.proofs.give_up.seek_and_log.Goals as goal
 
 pub returns-in-Some-clause-notes : goal.returns-in-Some-clause-notes
@@ -39,3 +40,12 @@ pub returns-in-Some-clause-counted : goal.returns-in-Some-clause-counted
 returns-in-Some-clause-counted g c =
     let s1 = g.O.Outside.seen c.look.new.outside in
     part_after _ _ _ _ _ _ _ _ _ s1 _ _ c.log_copy.ensures.was_honest c.in_ok-copy.ensures.counted c.log_copy.ensures.counted
+
+pub returns-in_err-copy-clause-asked : goal.returns-in_err-copy-clause-asked
+returns-in_err-copy-clause-asked g c = looks_for g.O.Outside.noted _ _ _ _ _ c.look.result c.look.ensures.asked
+
+pub returns-in-Some-clause-asked : goal.returns-in-Some-clause-asked
+returns-in-Some-clause-asked g c = rw c.log_copy.ensures.asked (looks_for g.O.Outside.noted _ _ _ _ _ c.look.result c.look.ensures.asked)
+
+pub returns-in-None-clause-asked : goal.returns-in-None-clause-asked
+returns-in-None-clause-asked g c = looks_for g.O.Outside.noted _ _ _ _ _ c.look.result c.look.ensures.asked

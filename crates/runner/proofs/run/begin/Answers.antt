@@ -22,7 +22,7 @@ use Rattle.runner.proofs.Passes.{none_few, ran_answers, takes_commit, whole_step
 use Rattle.runner.proofs.Reported.{named_last, reported, reported_whole}
 use Rattle.runner.proofs.Finding.{all_new, same_none}
 use Rattle.runner.proofs.StageLemmas.{drawn_left, frame_of, frame_then}
-use Rattle.runner.proofs.Asking.{asks_before, asks_begun, asks_calls}
+use Rattle.runner.proofs.Asking.{asks_along, asks_any, asks_before, asks_begun, written_at}
 use Rattle.runner.proofs.run.begin.Goals as goal
 
 pub carry_out-requires : goal.carry_out-requires
@@ -45,7 +45,7 @@ conclude-requires g c κs within =
 pub returns-in_err-unfit : goal.returns-in_err-unfit
 returns-in_err-unfit g c =
     let e = err_from_is_err_and c.from_residual.result c.from_residual.ensures.1 in
-    rw (e.1, e.2) (record { stage = drawn_left g.O.Outside g.opening _ _ _ _ _ _ _ _ _ _ c.in_err-unfit.ensures.frame c.in_err-unfit.ensures.moved (left_reported _ _ _ _ _ _ _ _ (unrefused_reported _ _ (λ step n. n)) c.in_err-unfit.ensures.part); asked = c.propose.ensures.asked })
+    rw (e.1, e.2) (record { stage = drawn_left g.O.Outside g.opening _ _ _ _ _ _ _ _ _ _ c.in_err-unfit.ensures.frame (asks_any g.O.Outside.noted _ _ _ c.propose.ensures.asked) c.in_err-unfit.ensures.moved (left_reported _ _ _ _ _ _ _ _ (unrefused_reported _ _ (λ step n. n)) c.in_err-unfit.ensures.part) })
 
 -- the run is underway for some world, if it is for the one that was listed
 anyhow : {ours : List ℕ → Bool} {alone : Bool} (opening : Opening ours alone) (opened : Option Opened) (options : Options) (stream : Stream) (listed : World) (d0 : Device) → PlanStart opening opened options stream d0 → (d : Device) → Underway (once_listed opening listed) d → Underway opening d
@@ -59,7 +59,7 @@ returns-in_err-performed g c =
     let proposed = c.in_ok-unfit.ensures.part in
     let listed = world_shown (g.O.Outside.opened c.propose.new.outside) in
     let frame = frame_then g.O.Outside _ _ _ c.in_ok-unfit.ensures.frame (frame_of g.O.Outside _ _ honest c.in_err-performed.ensures.keywords) in
-    rw (e.1, e.2) (record { stage = drawn_left g.O.Outside g.opening _ _ _ _ _ _ _ _ _ _ frame c.in_ok-unfit.ensures.moved (left_knowing _ _ _ _ _ _ _ (anyhow g.opening _ _ _ listed _) (left_after _ _ _ _ (Underway (once_listed g.opening listed)) _ _ _ s1 _ honest proposed (left_reported _ _ _ _ _ _ _ _ (steps_reported _ _ (refused_from _ _ _ _ _ (λ h at. proposed.reaches (honest h) at))) c.in_err-performed.ensures.part))); asked = asks_begun g.O.Outside.noted _ (plan_at (g.O.Outside.opened c.propose.new.outside)) _ _ _ c.in_ok-unfit.ensures.begun (asks_calls g.O.Outside.noted _ _ _ c.carry_out.ensures.asked) })
+    rw (e.1, e.2) (record { stage = drawn_left g.O.Outside g.opening _ _ _ _ _ _ _ _ _ _ frame (asks_begun g.O.Outside.noted _ (plan_at (g.O.Outside.opened c.propose.new.outside)) _ _ _ c.in_ok-unfit.ensures.begun (asks_along g.O.Outside.noted _ _ _ _ (written_at (g.O.Outside.opened c.propose.new.outside) c.in_ok-unfit.ensures.proposed.log) c.carry_out.ensures.asked)) c.in_ok-unfit.ensures.moved (left_knowing _ _ _ _ _ _ _ (anyhow g.opening _ _ _ listed _) (left_after _ _ _ _ (Underway (once_listed g.opening listed)) _ _ _ s1 _ honest proposed (left_reported _ _ _ _ _ _ _ _ (steps_reported _ _ (refused_from _ _ _ _ _ (λ h at. proposed.reaches (honest h) at))) c.in_err-performed.ensures.part))) })
 
 pub returns-in_err-conclude : goal.returns-in_err-conclude
 returns-in_err-conclude g c =
@@ -75,7 +75,7 @@ returns-in_err-conclude g c =
     let so_far = passed_after _ _ _ _ _ _ _ _ s1 _ performed.was_honest c.in_ok-unfit.ensures.part performed.part in
     let here = passed_knowing _ _ _ (BeforeStep (once_listed g.opening (world_shown done)) done false) _ _ _ (λ k d at. subst (λ (w : World). BeforeStep (once_listed g.opening w) done false d) (sym same) at) so_far in
     let frame = frame_then g.O.Outside _ _ _ (frame_then g.O.Outside _ _ _ c.in_ok-unfit.ensures.frame (frame_of g.O.Outside _ _ performed.was_honest performed.keywords)) last in
-    rw (e.1, e.2) (record { stage = drawn_left g.O.Outside g.opening _ _ _ _ _ _ _ _ _ _ frame c.in_ok-unfit.ensures.moved (left_never _ _ _ _ _ _ (left_knowing _ _ _ _ _ _ _ (anyhow g.opening _ _ _ (world_shown done) _) (left_after _ _ _ _ (Underway (once_listed g.opening (world_shown done))) _ _ _ s2 _ last.was_honest here c.in_err-conclude.ensures.part))); asked = asks_begun g.O.Outside.noted _ (plan_at (g.O.Outside.opened c.propose.new.outside)) _ _ _ c.in_ok-unfit.ensures.begun (asks_before g.O.Outside.noted _ _ _ _ (asks_calls g.O.Outside.noted _ _ _ c.carry_out.ensures.asked) c.conclude.ensures.asked) })
+    rw (e.1, e.2) (record { stage = drawn_left g.O.Outside g.opening _ _ _ _ _ _ _ _ _ _ frame (asks_begun g.O.Outside.noted _ (plan_at (g.O.Outside.opened c.propose.new.outside)) _ _ _ c.in_ok-unfit.ensures.begun (asks_before g.O.Outside.noted _ _ _ _ (asks_along g.O.Outside.noted _ _ _ _ (written_at (g.O.Outside.opened c.propose.new.outside) c.in_ok-unfit.ensures.proposed.log) c.carry_out.ensures.asked) c.conclude.ensures.asked)) c.in_ok-unfit.ensures.moved (left_never _ _ _ _ _ _ (left_knowing _ _ _ _ _ _ _ (anyhow g.opening _ _ _ (world_shown done) _) (left_after _ _ _ _ (Underway (once_listed g.opening (world_shown done))) _ _ _ s2 _ last.was_honest here c.in_err-conclude.ensures.part))) })
 
 pub returns : goal.returns
 returns g c =
@@ -113,6 +113,7 @@ returns g c =
       stage = record {
         stage = record {
           frame = frame_then g.O.Outside _ _ _ (frame_then g.O.Outside _ _ _ c.in_ok-unfit.ensures.frame (frame_of g.O.Outside _ _ carried.was_honest carried.keywords)) last;
+          asked = asks_begun g.O.Outside.noted _ (plan_at (g.O.Outside.opened c.propose.new.outside)) _ _ _ c.in_ok-unfit.ensures.begun (asks_before g.O.Outside.noted _ _ _ _ (asks_along g.O.Outside.noted _ _ _ _ (written_at (g.O.Outside.opened c.propose.new.outside) c.in_ok-unfit.ensures.proposed.log) c.carry_out.ensures.asked) c.conclude.ensures.asked);
           answer = record {
             by_files = ran_answers old performed unfit may.none;
             results = λ h. reported ready done new performed.items _ carried.opened carried.steps carried.fits concluded.committed (concluded.held h);
@@ -129,5 +130,4 @@ returns g c =
         runs = subst (λ (ss : List Step). IsRun old options stream ss unfit.items) (sym whole) proposed.run;
         moved = c.in_ok-unfit.ensures.moved;
       };
-      asked = asks_begun g.O.Outside.noted _ (plan_at (g.O.Outside.opened c.propose.new.outside)) _ _ _ c.in_ok-unfit.ensures.begun (asks_before g.O.Outside.noted _ _ _ _ (asks_calls g.O.Outside.noted _ _ _ c.carry_out.ensures.asked) c.conclude.ensures.asked);
     }

@@ -26,6 +26,7 @@ returns-then-run-last-clause-stage g c =
     record {
       stage = record {
         frame = skipped.frame;
+        asked = asks_none g.O.Outside.noted _ _ _ c.skip.ensures.asked;
         answer = answer_skipped g.O.Outside g.opening c.args.run _ c.args.outside.now c.skip.new.outside c.skip.result (book_read opened ready.book) le skipped.answer skipped.made;
         part = part_weaker _ _ _ _ _ _ _ (λ x. PassEnd g.opening c.args.run) _ _ _ (λ d k. k.known) (λ x d k. record { underway = k.underway; done = λ e. k.done (omega (arith, le, e)) }) (part_never _ _ _ _ _ _ _ _ _ skipped.part);
       };
@@ -41,7 +42,7 @@ returns-then-run-last-gt1-clause-stage g c =
     let same = run_of_state opened c.state.result.now c.state.ensures.state in
     let entry = ReadPassStart g.opening opened c.args.run c.args.options.now (g.R.Rng.stream c.args.rng.now) in
     let beyond = reads_beyond opened c.args.run (book_read opened ready.book) (omega (arith, same, c.if-run-last.false, c.if-run-last-gt1.true)) in
-    drawn_left g.O.Outside g.opening _ _ _ _ _ _ _ _ _ _ (record { was_honest = λ h. h; keywords = refl }) (moved_none _)
+    drawn_left g.O.Outside g.opening _ _ _ _ _ _ _ _ _ _ (record { was_honest = λ h. h; keywords = refl }) (asks_none g.O.Outside.noted _ _ _ refl) (moved_none _)
     (left_here _ entry entry _ 0 _ s s (passed_none _ entry entry s ready.whole (λ k. k)) (inl (refl, (beyond, beyond))) (λ k. let m = k.most in let l = known_least g.opening opened s.device k.known in omega (arith, same, m, l, c.if-run-last.false, c.if-run-last-gt1.true)))
 
 pub returns-clause-stage : goal.returns-clause-stage
@@ -72,12 +73,3 @@ pub returns-clause-beyond : goal.returns-clause-beyond
 returns-clause-beyond g c = λ more.
     let same = run_of_state (g.O.Outside.opened c.args.outside.now) c.state.result.now c.state.ensures.state in
     absurd (omega (arith, same, more, c.if-run-last.false, c.if-run-last-gt1.false))
-
-pub returns-then-run-last-clause-asked : goal.returns-then-run-last-clause-asked
-returns-then-run-last-clause-asked g c = asks_none g.O.Outside.noted _ _ _ c.skip.ensures.asked
-
-pub returns-then-run-last-gt1-clause-asked : goal.returns-then-run-last-gt1-clause-asked
-returns-then-run-last-gt1-clause-asked g c = asks_none g.O.Outside.noted _ _ _ refl
-
-pub returns-clause-asked : goal.returns-clause-asked
-returns-clause-asked g c = c.open_and_work.ensures.asked

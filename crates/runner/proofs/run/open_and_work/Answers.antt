@@ -6,7 +6,6 @@ use Rattle.run_states.specs.Openings.{Opening}
 use Rattle.runner.specs.declared.fault.RunFault.TheVariants as run
 use Rattle.runner.specs.Answers.{RunEnd, Inputs, ReadPassStart, run_of}
 use Rattle.runner.specs.Maps.{HasOtherMapIn, by_map}
-use Rattle.runner.specs.Going.{plan_at}
 use Rattle.runner.specs.PassStages.{ReadStage, plan_reasons}
 use Rattle.runner.proofs.PartCalls.{left_here, left_reported, left_weaker, part_after, part_by, part_reported, passed_weaker, passed_with}
 use Rattle.runner.proofs.Finding.{boxed_plan}
@@ -16,6 +15,7 @@ use Rattle.runner.proofs.PlanFacts.{moved_none}
 use Rattle.runner.proofs.Readings.{book_read, both_open}
 use Rattle.runner.proofs.Validities.{same_reported}
 use Rattle.runner.proofs.StageLemmas.{answer_after, drawn_left, frame_of, frame_then}
+use Rattle.runner.specs.Asking.{read_back}
 use Rattle.runner.proofs.Asking.{asks_after, asks_along, asks_none}
 use Rattle.runner.proofs.run.open_and_work.Goals as goal
 
@@ -49,7 +49,7 @@ pub returns-in_err-open_boxes : goal.returns-in_err-open_boxes
 returns-in_err-open_boxes g c =
     let e = err_from_is_err_and c.from_residual.result c.from_residual.ensures.1 in
     let frame = frame_of g.O.Outside _ _ c.in_err-open_boxes.ensures.was_honest c.in_err-open_boxes.ensures.keywords in
-    rw (e.1, e.2) (record { stage = drawn_left g.O.Outside g.opening _ _ _ _ _ _ _ _ _ _ frame (moved_none _) (left_reported _ _ _ _ _ _ _ _ (record { changed = λ side t. t; keywords = λ n. absurd n; repeats = λ n. absurd n; beyond = λ n. n; greatest = λ n. n; unread = λ e n. n; refused = λ step n. absurd n }) (left_weaker _ _ _ _ _ _ _ (λ d k. k.known) c.in_err-open_boxes.ensures.part)); asked = asks_none g.O.Outside.noted _ _ _ c.open_boxes.ensures.asked })
+    rw (e.1, e.2) (record { stage = drawn_left g.O.Outside g.opening _ _ _ _ _ _ _ _ _ _ frame (asks_none g.O.Outside.noted _ _ _ c.open_boxes.ensures.asked) (moved_none _) (left_reported _ _ _ _ _ _ _ _ (record { changed = λ side t. t; keywords = λ n. absurd n; repeats = λ n. absurd n; beyond = λ n. n; greatest = λ n. n; unread = λ e n. n; refused = λ step n. absurd n }) (left_weaker _ _ _ _ _ _ _ (λ d k. k.known) c.in_err-open_boxes.ensures.part)) })
 
 pub returns-in_err-same_map : goal.returns-in_err-same_map
 returns-in_err-same_map g c =
@@ -64,7 +64,7 @@ returns-in_err-same_map g c =
     let other : HasOtherMapIn keywords old = boxed_other_map is.far is.near keywords old (subst (HasOtherMapIn keywords) is.opened reported.1) in
     let frame = frame_of g.O.Outside _ _ boxes.was_honest boxes.keywords in
     let ready = passed_weaker _ _ (ReadPassStart g.opening old (run_of old + 1) c.args.options.now (g.R.Rng.stream c.args.rng.now)) _ (Underway g.opening) _ 0 _ s1 refl (λ d k. k.known) (λ d k. k.underway) boxes.part in
-    rw (e.1, e.2, reported.0) (record { stage = drawn_left g.O.Outside g.opening _ _ _ _ _ _ _ _ _ _ frame (moved_none _) (left_here _ _ (Underway g.opening) (Underway g.opening) 0 run.KeywordsChanged s0 s1 ready (other, (reported.1, boxes.kept)) (λ k. k)); asked = asks_none g.O.Outside.noted _ _ _ c.open_boxes.ensures.asked })
+    rw (e.1, e.2, reported.0) (record { stage = drawn_left g.O.Outside g.opening _ _ _ _ _ _ _ _ _ _ frame (asks_none g.O.Outside.noted _ _ _ c.open_boxes.ensures.asked) (moved_none _) (left_here _ _ (Underway g.opening) (Underway g.opening) 0 run.KeywordsChanged s0 s1 ready (other, (reported.1, boxes.kept)) (λ k. k)) })
 
 pub returns : goal.returns
 returns g c =
@@ -97,6 +97,7 @@ returns g c =
       stage = record {
         stage = record {
           frame = frame_then g.O.Outside _ _ _ (frame_of g.O.Outside _ _ boxes.was_honest boxes.keywords) frame;
+          asked = asks_after g.O.Outside.noted _ _ _ _ c.open_boxes.ensures.asked (asks_along g.O.Outside.noted _ _ _ _ (ap read_back (rw is.opened (boxed_plan is.far is.near old))) stage.asked);
           answer = answer_after g.O.Outside here g.opening run _ _ c.args.outside.now c.open_boxes.new.outside c.work.new.outside c.work.result frame.was_honest boxes.opened boxes.same (λ h. let k = boxes.kept h in k.1.named) leads stage.answer;
           part = part_after _ _ _ _ _ _ _ _ _ s1 _ _ frame.was_honest ready
               (part_reported _ _ _ _ _ _ _ _ _ _ (record {
@@ -113,5 +114,4 @@ returns g c =
         runs = boxed_runs is.far is.near old _ _ c.work.result (rw (← is.opened) worked.runs);
         moved = worked.moved;
       };
-      asked = asks_after g.O.Outside.noted _ _ _ _ c.open_boxes.ensures.asked (asks_along g.O.Outside.noted (plan_at new) (plan_at old) _ _ (rw is.opened (boxed_plan is.far is.near old)) c.work.ensures.asked);
     }

@@ -1,4 +1,4 @@
-use Rattle.std.proofs.Common.{[], ◌≤◌, ◌+◌, ◌∙◌, refl, rules}
+use Rattle.std.proofs.Common.{◌≤◌, ◌+◌, ◌∙◌, refl, rules}
 use Rattle.std.proofs.lemmas.Result.{err_from_is_err_and}
 use Rattle.outside.specs.Opened.{journal_of}
 use Rattle.runner.specs.Answers.{Inputs, PassStart, ReadPassStart}
@@ -12,6 +12,7 @@ use Rattle.runner.proofs.Reported.{reported_from}
 use Rattle.runner.proofs.Finding.{finds_held}
 use Rattle.runner.proofs.Naming.{names_held}
 use Rattle.runner.proofs.StageLemmas.{by_files_in, copies_in, emptied_in, names_in, report_in, results_in, stores_in}
+use Rattle.runner.specs.Asking.{nothing}
 use Rattle.runner.proofs.Asking.{asks_read, asks_reading}
 use Rattle.runner.proofs.run.pass.Goals as goal
 
@@ -124,7 +125,7 @@ pub returns-clause-moved : goal.returns-clause-moved
 returns-clause-moved g c = let drawn = c.make_or_resume.ensures.stage in drawn.moved
 
 pub returns-in_err-recall-clause-asked : goal.returns-in_err-recall-clause-asked
-returns-in_err-recall-clause-asked g c = asks_reading g.O.Outside.noted [] (journal_of (g.O.Outside.opened c.recall.new.outside)) _ _ c.recall.ensures.asked
+returns-in_err-recall-clause-asked g c = asks_reading g.O.Outside.noted nothing (journal_of (g.O.Outside.opened c.recall.new.outside)) _ _ c.recall.ensures.asked
 
 pub returns-clause-asked : goal.returns-clause-asked
-returns-clause-asked g c = asks_read g.O.Outside.noted [] (journal_of (g.O.Outside.opened c.recall.new.outside)) _ _ _ c.recall.ensures.asked c.make_or_resume.ensures.asked
+returns-clause-asked g c = asks_read g.O.Outside.noted nothing (journal_of (g.O.Outside.opened c.recall.new.outside)) _ _ _ c.recall.ensures.asked (let drawn = c.make_or_resume.ensures.stage in let stage = drawn.stage in stage.asked)

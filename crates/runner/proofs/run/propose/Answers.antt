@@ -1,4 +1,4 @@
-use Rattle.std.proofs.Common.{◌≡◌, [], Option, refl, rules, ap, subst, sym, ◌∙◌}
+use Rattle.std.proofs.Common.{◌≡◌, Option, refl, rules, ap, subst, sym, ◌∙◌}
 use Rattle.std.proofs.lemmas.Result.{err_from_is_err_and}
 use Rattle.book.specs.declared.book.Pending.TheVariants.{Missing}
 use Rattle.book.specs.BookLogs.{begun}
@@ -22,6 +22,7 @@ use Rattle.runner.proofs.PlanFacts.{moved_none}
 use Rattle.runner.proofs.Listings.{listed_no_journal, listed_open, listed_read, listed_run, listed_state, lists_changed, turned_is_shown, turned_shown, two_shown}
 use Rattle.runner.proofs.Readings.{none_read, turned_open, turned_read, turned_state}
 use Rattle.runner.proofs.Validities.{listed_answers, missing_here, unless_same}
+use Rattle.runner.specs.Asking.{nothing}
 use Rattle.runner.proofs.Asking.{asks_beginning, asks_none}
 use Rattle.runner.proofs.run.propose.Goals as goal
 
@@ -168,10 +169,10 @@ pub returns-in_err-unfit-clause-asked : goal.returns-in_err-unfit-clause-asked
 returns-in_err-unfit-clause-asked g c = asks_none g.O.Outside.noted _ _ _ (c.list_both.ensures.asked ∙ c.clear.ensures.asked)
 
 pub returns-in_err-write_plan-clause-asked : goal.returns-in_err-write_plan-clause-asked
-returns-in_err-write_plan-clause-asked g c = asks_beginning g.O.Outside.noted [] c.in_ok-plan.plan _ _ (c.write_plan.ensures.asked ∙ ap (λ l. g.O.Outside.noted l (Begun c.in_ok-plan.plan)) (c.list_both.ensures.asked ∙ c.clear.ensures.asked))
+returns-in_err-write_plan-clause-asked g c = asks_beginning g.O.Outside.noted nothing c.in_ok-plan.plan _ _ (c.write_plan.ensures.asked ∙ ap (λ l. g.O.Outside.noted l (Begun c.in_ok-plan.plan)) (c.list_both.ensures.asked ∙ c.clear.ensures.asked))
 
 pub returns-clause-asked : goal.returns-clause-asked
-returns-clause-asked g c = asks_beginning g.O.Outside.noted [] c.in_ok-plan.plan _ _ (c.write_plan.ensures.asked ∙ ap (λ l. g.O.Outside.noted l (Begun c.in_ok-plan.plan)) (c.list_both.ensures.asked ∙ c.clear.ensures.asked))
+returns-clause-asked g c = asks_beginning g.O.Outside.noted nothing c.in_ok-plan.plan _ _ (c.write_plan.ensures.asked ∙ ap (λ l. g.O.Outside.noted l (Begun c.in_ok-plan.plan)) (c.list_both.ensures.asked ∙ c.clear.ensures.asked))
 
 pub returns-clause-begun : goal.returns-clause-begun
 returns-clause-begun g c =

@@ -1,4 +1,4 @@
-use Rattle.std.proofs.Common.{◌≡◌, arith, rules, subst, sym, ◌∙◌}
+use Rattle.std.proofs.Common.{◌≡◌, ap, arith, rules, subst, sym, ◌∙◌}
 use Rattle.rules.specs.declared.plan.Plan.{Plan}
 use Rattle.run_states.specs.Plans.{NamedBy}
 use Rattle.runner.specs.Before.{Resumed}
@@ -14,7 +14,8 @@ use Rattle.runner.proofs.Passes.{book_few, finished_answers, mended_book, mended
 use Rattle.runner.proofs.Reported.{named_last, reported, reported_rest}
 use Rattle.runner.proofs.Finding.{mended_plan, same_then}
 use Rattle.runner.proofs.StageLemmas.{frame_of, frame_then, stage_left}
-use Rattle.runner.proofs.Asking.{asks_after, asks_along, asks_before, asks_calls, asks_none}
+use Rattle.runner.specs.Asking.{read_back}
+use Rattle.runner.proofs.Asking.{asks_after, asks_along, asks_before, asks_none}
 use Rattle.runner.proofs.run.resume.Goals as goal
 
 pub carry_out-requires : goal.carry_out-requires
@@ -38,7 +39,7 @@ pub returns-in_err-untear : goal.returns-in_err-untear
 returns-in_err-untear g c =
     let e = err_from_is_err_and c.from_residual.result c.from_residual.ensures.1 in
     let frame = frame_of g.O.Outside _ _ c.in_err-untear.ensures.was_honest c.in_err-untear.ensures.keywords in
-    rw (e.1, e.2) (record { stage = stage_left g.O.Outside g.opening _ _ _ _ _ _ _ frame (left_never _ _ _ _ _ _ c.in_err-untear.ensures.part); asked = asks_none g.O.Outside.noted _ _ _ c.untear.ensures.asked })
+    rw (e.1, e.2) (record { stage = stage_left g.O.Outside g.opening _ _ _ _ _ _ _ frame (asks_none g.O.Outside.noted _ _ _ c.untear.ensures.asked) (left_never _ _ _ _ _ _ c.in_err-untear.ensures.part) })
 
 pub returns-in_err-performed : goal.returns-in_err-performed
 returns-in_err-performed g c =
@@ -48,7 +49,7 @@ returns-in_err-performed g c =
     let untorn = c.in_ok-untear.ensures in
     let part = untorn.part in
     let frame = frame_then g.O.Outside _ _ _ (frame_of g.O.Outside _ _ untorn.was_honest untorn.keywords) (frame_of g.O.Outside _ _ honest c.in_err-performed.ensures.keywords) in
-    rw (e.1, e.2) (record { stage = stage_left g.O.Outside g.opening _ _ _ _ _ _ _ frame (left_after _ _ _ _ _ _ _ _ s1 _ honest part (left_reported _ _ _ _ _ _ _ _ (steps_reported _ _ (refused_from _ _ _ _ _ (λ h at. part.reaches (honest h) at))) c.in_err-performed.ensures.part)); asked = asks_after g.O.Outside.noted _ _ _ _ c.untear.ensures.asked (asks_along g.O.Outside.noted (plan_at (g.O.Outside.opened c.untear.new.outside)) (plan_at (g.O.Outside.opened c.args.outside.now)) _ _ (rw c.in_ok-untear.ensures.opened (mended_plan (g.O.Outside.opened c.args.outside.now))) (asks_calls g.O.Outside.noted _ _ _ c.carry_out.ensures.asked)) })
+    rw (e.1, e.2) (record { stage = stage_left g.O.Outside g.opening _ _ _ _ _ _ _ frame (asks_after g.O.Outside.noted _ _ _ _ c.untear.ensures.asked (asks_along g.O.Outside.noted _ _ _ _ (ap read_back (rw c.in_ok-untear.ensures.opened (mended_plan (g.O.Outside.opened c.args.outside.now)))) c.carry_out.ensures.asked)) (left_after _ _ _ _ _ _ _ _ s1 _ honest part (left_reported _ _ _ _ _ _ _ _ (steps_reported _ _ (refused_from _ _ _ _ _ (λ h at. part.reaches (honest h) at))) c.in_err-performed.ensures.part)) })
 
 pub returns-in_err-conclude : goal.returns-in_err-conclude
 returns-in_err-conclude g c =
@@ -60,7 +61,7 @@ returns-in_err-conclude g c =
     let last = c.in_err-conclude.ensures.frame in
     let so_far = passed_after _ _ _ _ _ _ _ _ s1 _ carried.was_honest untorn.part carried.part in
     let frame = frame_then g.O.Outside _ _ _ (frame_then g.O.Outside _ _ _ (frame_of g.O.Outside _ _ untorn.was_honest untorn.keywords) (frame_of g.O.Outside _ _ carried.was_honest carried.keywords)) last in
-    rw (e.1, e.2) (record { stage = stage_left g.O.Outside g.opening _ _ _ _ _ _ _ frame (left_never _ _ _ _ _ _ (left_after _ _ _ _ _ _ _ _ s2 _ last.was_honest so_far c.in_err-conclude.ensures.part)); asked = asks_after g.O.Outside.noted _ _ _ _ c.untear.ensures.asked (asks_before g.O.Outside.noted _ _ _ _ (asks_along g.O.Outside.noted (plan_at (g.O.Outside.opened c.untear.new.outside)) (plan_at (g.O.Outside.opened c.args.outside.now)) _ _ (rw c.in_ok-untear.ensures.opened (mended_plan (g.O.Outside.opened c.args.outside.now))) (asks_calls g.O.Outside.noted _ _ _ c.carry_out.ensures.asked)) c.conclude.ensures.asked) })
+    rw (e.1, e.2) (record { stage = stage_left g.O.Outside g.opening _ _ _ _ _ _ _ frame (asks_after g.O.Outside.noted _ _ _ _ c.untear.ensures.asked (asks_before g.O.Outside.noted _ _ _ _ (asks_along g.O.Outside.noted _ _ _ _ (ap read_back (rw c.in_ok-untear.ensures.opened (mended_plan (g.O.Outside.opened c.args.outside.now)))) c.carry_out.ensures.asked) c.conclude.ensures.asked)) (left_never _ _ _ _ _ _ (left_after _ _ _ _ _ _ _ _ s2 _ last.was_honest so_far c.in_err-conclude.ensures.part)) })
 
 pub returns : goal.returns
 returns g c =
@@ -85,6 +86,7 @@ returns g c =
     record {
       stage = record {
         frame = frame_then g.O.Outside _ _ _ (frame_then g.O.Outside _ _ _ (frame_of g.O.Outside _ _ untorn.was_honest untorn.keywords) (frame_of g.O.Outside _ _ carried.was_honest carried.keywords)) last;
+        asked = asks_after g.O.Outside.noted _ _ _ _ c.untear.ensures.asked (asks_before g.O.Outside.noted _ _ _ _ (asks_along g.O.Outside.noted _ _ _ _ (ap read_back (rw c.in_ok-untear.ensures.opened (mended_plan (g.O.Outside.opened c.args.outside.now)))) c.carry_out.ensures.asked) c.conclude.ensures.asked);
         answer = record {
           by_files = finished_answers old performed (mended_rest old performed.items c.requires.1.1.1.0 (rw (← untorn.opened) carried.steps));
           results = λ h. reported ready done new performed.items _ carried.opened carried.steps carried.fits concluded.committed (concluded.held h);
@@ -96,5 +98,4 @@ returns g c =
         };
         part = passed_weaker _ from from _ _ _ (made performed.items) _ _ (omega arith) (λ d k. k) (λ d k. k) (passed_after _ _ _ _ _ _ _ _ s2 _ last.was_honest so_far c.in_ok-conclude.ensures.part);
       };
-      asked = asks_after g.O.Outside.noted _ _ _ _ c.untear.ensures.asked (asks_before g.O.Outside.noted _ _ _ _ (asks_along g.O.Outside.noted (plan_at (g.O.Outside.opened c.untear.new.outside)) (plan_at (g.O.Outside.opened c.args.outside.now)) _ _ (rw c.in_ok-untear.ensures.opened (mended_plan (g.O.Outside.opened c.args.outside.now))) (asks_calls g.O.Outside.noted _ _ _ c.carry_out.ensures.asked)) c.conclude.ensures.asked);
     }

@@ -6,7 +6,6 @@ use Rattle.runner.proofs.Passes.{known_planned, known_unplanned}
 use Rattle.runner.proofs.PlanFacts.{moved_none}
 use Rattle.runner.proofs.Readings.{book_read, has_none, has_plan, none_of, some_of}
 use Rattle.runner.proofs.StageLemmas.{are_same, drawn_resumed, drawn_weaker, runs_resumed}
-use Rattle.runner.proofs.Asking.{asks_any}
 use Rattle.runner.proofs.run.work.Goals as goal
 
 pub begin-requires : goal.begin-requires
@@ -26,7 +25,7 @@ returns-then-is_some g c =
     let plan = has_plan opened j.0 j.1 in
     let resumed = c.resume.ensures.stage in
     let runs = runs_resumed g.O.Outside g.opening options stream _ _ _ c.resume.result plan c.requires.1.1.1.1.1.1.0 resumed.answer in
-    record { stage = drawn_resumed g.O.Outside g.opening _ options stream _ _ (Resumed g.opening opened) (ReadPassStart g.opening opened (run_of opened + 1) options stream) _ _ _ _ (λ d k. known_planned g.opening opened d plan k.most k.known) runs (moved_none _) resumed; asked = c.resume.ensures.asked }
+    record { stage = drawn_resumed g.O.Outside g.opening _ options stream _ _ (Resumed g.opening opened) (ReadPassStart g.opening opened (run_of opened + 1) options stream) _ _ _ _ (λ d k. known_planned g.opening opened d plan k.most k.known) runs (moved_none _) resumed }
 
 pub returns-else-is_some : goal.returns-else-is_some
 returns-else-is_some g c =
@@ -35,4 +34,4 @@ returns-else-is_some g c =
     let stream = g.R.Rng.stream c.args.rng.now in
     let i : is_some c.pending.result ≡ false = grind (arith, common_steps) in
     let none : HasNoPlan opened = has_none opened (book_read opened c.requires.1.1.1.0) (none_of _ c.pending.result _ c.pending.ensures i) in
-    record { stage = drawn_weaker g.O.Outside g.opening _ options stream _ _ _ (PlanStart g.opening opened options stream) (ReadPassStart g.opening opened (run_of opened + 1) options stream) _ _ _ _ _ (are_same _) (λ d k. record { asked = k.asked; none = known_unplanned g.opening opened d none k.most k.known }) (λ d k. k) c.begin.ensures.stage; asked = asks_any g.O.Outside.noted _ _ _ c.begin.ensures.asked }
+    record { stage = drawn_weaker g.O.Outside g.opening _ options stream _ _ _ (PlanStart g.opening opened options stream) (ReadPassStart g.opening opened (run_of opened + 1) options stream) _ _ _ _ _ (are_same _) (λ d k. record { asked = k.asked; none = known_unplanned g.opening opened d none k.most k.known }) (λ d k. k) c.begin.ensures.stage }

@@ -1,4 +1,4 @@
-use Rattle.std.proofs.Common.{◌≡◌, [], ◌+◌, inl, inr, refl, arith}
+use Rattle.std.proofs.Common.{◌≡◌, ◌+◌, inl, inr, refl, arith}
 use Rattle.outside.specs.Opened.{journal_of}
 use Rattle.runner.specs.Attempts.{AtOpening}
 use Rattle.runner.proofs.Attempts.{last_run, reads_last, next_read, next_unread, opening_left, reached_read, run_read}
@@ -6,6 +6,7 @@ use Rattle.runner.proofs.PartCalls.{left_call, left_here, line_of_shelf, passed_
 use Rattle.runner.proofs.Readings.{unread_files}
 use Rattle.runner.proofs.Validities.{kept_read}
 use Rattle.runner.proofs.Finding.{same_read}
+use Rattle.runner.specs.Asking.{nothing}
 use Rattle.runner.proofs.Asking.{asks_reading}
 use Rattle.runner.proofs.settle.next_run.Goals as goal
 
@@ -85,10 +86,10 @@ returns-else-last-clause-same g c = λ honest.
     same_read g.O.Outside.ours g.O.Outside.alone _ e.mid _ e.before (e.following).0
 
 pub returns-then-last-clause-asked : goal.returns-then-last-clause-asked
-returns-then-last-clause-asked g c = asks_reading g.O.Outside.noted [] (journal_of (g.O.Outside.opened c.open_book.new.self)) _ _ c.open_book.ensures.asked
+returns-then-last-clause-asked g c = asks_reading g.O.Outside.noted nothing (journal_of (g.O.Outside.opened c.open_book.new.self)) _ _ c.open_book.ensures.asked
 
 pub returns-else-last-clause-asked : goal.returns-else-last-clause-asked
-returns-else-last-clause-asked g c = asks_reading g.O.Outside.noted [] (journal_of (g.O.Outside.opened c.open_book.new.self)) _ _ c.open_book.ensures.asked
+returns-else-last-clause-asked g c = asks_reading g.O.Outside.noted nothing (journal_of (g.O.Outside.opened c.open_book.new.self)) _ _ c.open_book.ensures.asked
 
 pub returns-in-Err-clause-asked : goal.returns-in-Err-clause-asked
-returns-in-Err-clause-asked g c = asks_reading g.O.Outside.noted [] (journal_of (g.O.Outside.opened c.open_book.new.self)) _ _ c.open_book.ensures.asked
+returns-in-Err-clause-asked g c = asks_reading g.O.Outside.noted nothing (journal_of (g.O.Outside.opened c.open_book.new.self)) _ _ c.open_book.ensures.asked

@@ -1,8 +1,8 @@
-use Rattle.std.proofs.Common.{◌≡◌, [], ◌≤◌, ◌-◌, ◌+◌, ◌^◌, None, true}
+use Rattle.std.proofs.Common.{◌≡◌, ◌≤◌, ◌-◌, ◌+◌, ◌^◌, None, true}
 use Rattle.book.specs.declared.book.Pending.{Pending}
 use Rattle.book.specs.Books.{Holds}
 use Rattle.rules.specs.declared.state.SyncState.{SyncState}
-use Rattle.runner.specs.Asking.{Asks}
+use Rattle.runner.specs.Asking.{Asks, nothing}
 use Rattle.runner.specs.Answers.{Inputs, Moves}
 use Rattle.runner.specs.Attempts.{AtOpening, IsReached, AttemptStart, MetStops}
 use Rattle.runner.specs.Parts.{ReportsMore}
@@ -21,7 +21,7 @@ invariant-loop-tried g l =
     record {
       was_honest : g.O.Outside.honest l.outside → g.O.Outside.honest l.fn.outside;
       keywords : g.O.Outside.keywords l.outside ≡ g.O.Outside.keywords l.fn.outside;
-      asked : Asks g.O.Outside.noted [] (g.O.Outside.asked l.fn.outside) (g.O.Outside.asked l.outside);
+      asked : Asks g.O.Outside.noted nothing (g.O.Outside.asked l.fn.outside) (g.O.Outside.asked l.outside);
       moved : Moves (g.R.Rng.stream l.fn.rng) (g.R.Rng.stream l.rng);
       stops : MetStops l.tried start now;
       reported : ReportsMore start now;

@@ -1,4 +1,4 @@
-use Rattle.std.proofs.Common.{◌≡◌, List, [], ◌∷◌, ◌++◌, refl, sym, ◌∙◌, ap, append-nil, Some, None}
+use Rattle.std.proofs.Common.{◌≡◌, subst, List, [], ◌∷◌, ◌++◌, refl, sym, ◌∙◌, ap, append-nil, Some, None}
 use Rattle.std.proofs.lemmas.List.Elements.{All-push}
 use Rattle.std.proofs.lemmas.Result.{err_from_is_err_and}
 use Rattle.rules.specs.declared.plan.Step.{Step}
@@ -10,7 +10,8 @@ use Rattle.runner.proofs.Stages.{either_ready, ready_underway}
 use Rattle.runner.proofs.Finding.{found_next, not_none}
 use Rattle.runner.proofs.LoopLemmas.{made_more, logged_on, steps_on, less_left}
 use Rattle.runner.proofs.Reported.{IsFitting}
-use Rattle.runner.proofs.Asking.{calls_along, calls_then}
+use Rattle.runner.specs.Asking.{Comes, Known, known_at}
+use Rattle.runner.proofs.Asking.{comes_then}
 use Rattle.runner.proofs.steps.carry_out.Goals as goal
 
 pub returns-in_default-try_reserve-clause-part : goal.returns-in_default-try_reserve-clause-part
@@ -50,7 +51,7 @@ loop-number-preserved g c =
       was_honest = λ h. i.was_honest (one.was_honest h);
       keywords = one.keywords ∙ i.keywords;
       part = rw (← made_more ps p) (passed_after _ _ _ _ _ _ _ _ s1 _ one.was_honest i.part went);
-      asked = calls_then g.O.Outside.noted _ _ _ _ i.asked (calls_along g.O.Outside.noted (plan_at b) (plan_at start) _ _ (let h = i.opened in h.plan) c.advance.ensures.asked);
+      asked = let did = one.asked in comes_then g.O.Outside.noted _ _ _ _ _ _ i.asked (subst (λ (k : Known). Comes g.O.Outside.noted (known_at c.args.is_resumed b) k (g.O.Outside.asked c.loop-number.outside) (g.O.Outside.asked c.advance.new.outside)) did.2 did.1);
       first = λ e. absurd (not_none ps p e);
       later = λ e h k. let before = i.part in let after = one.part in after.reaches h (before.reaches (one.was_honest h) k);
       found = λ h k. let before = i.part in found_next g.opening start b c.args.is_resumed ps p (g.O.Outside.seen c.args.outside.now) s1 i.opened is i.first (λ e. i.later e (one.was_honest h) k) (before.reaches (one.was_honest h) k) (i.found (one.was_honest h) k) (one.found h);
@@ -64,4 +65,7 @@ returns-clause-steps g c =
     sym (append-nil _) ∙ ap (λ (l : List Step). steps_of c.loop-number.performed.items ++ l) (sym (drop_none (plan_at o).steps (log_at o) none)) ∙ i.steps
 
 pub returns-in_err-one-clause-asked : goal.returns-in_err-one-clause-asked
-returns-in_err-one-clause-asked g c = let i = c.loop-number.invariant in calls_then g.O.Outside.noted _ _ _ _ i.asked (calls_along g.O.Outside.noted (plan_at (g.O.Outside.opened c.loop-number.outside)) (plan_at (g.O.Outside.opened c.args.outside.now)) _ _ (let h = i.opened in h.plan) c.advance.ensures.asked)
+returns-in_err-one-clause-asked g c =
+    let i = c.loop-number.invariant in
+    let did = c.advance.ensures.asked in
+    (did.0, comes_then g.O.Outside.noted _ _ _ _ _ _ i.asked did.1)

@@ -1,5 +1,5 @@
 use Rattle.std.proofs.Common.{◌≡◌, ◌-◌, ◌++◌, [], All, false, length, drop}
-use Rattle.runner.specs.Asking.{Calls}
+use Rattle.runner.specs.Asking.{Comes, known_at}
 use Rattle.runner.specs.Finding.{AreFoundSo, OfSame}
 use Rattle.runner.specs.Parts.{Passed}
 use Rattle.runner.proofs.Reported.{IsFitting}
@@ -22,7 +22,7 @@ invariant-loop-number g l =
       part : Passed (g.O.Outside.honest l.outside) (BeforeStep g.opening start l.is_resumed) (BeforeStep g.opening now l.is_resumed) (made l.performed.items) (g.O.Outside.seen l.fn.outside) (g.O.Outside.seen l.outside);
       first : l.performed.items ≡ [] → g.O.Outside.seen l.outside ≡ g.O.Outside.seen l.fn.outside;
       later : (l.performed.items ≡ [] → ⊥) → g.O.Outside.honest l.outside → BeforeStep g.opening start l.is_resumed (g.O.Outside.seen l.fn.outside).device → BeforeStep g.opening now false (g.O.Outside.seen l.outside).device;
-      asked : Calls g.O.Outside.noted (plan_at start).steps (g.O.Outside.asked l.fn.outside) (g.O.Outside.asked l.outside);
+      asked : Comes g.O.Outside.noted (known_at l.is_resumed start) (known_at l.is_resumed now) (g.O.Outside.asked l.fn.outside) (g.O.Outside.asked l.outside);
       found : g.O.Outside.honest l.outside → BeforeStep g.opening start l.is_resumed (g.O.Outside.seen l.fn.outside).device → OfSame g.O.Outside.ours (g.O.Outside.seen l.fn.outside).device (λ d. AreFoundSo (plan_at start) d l.performed.items);
     }
 

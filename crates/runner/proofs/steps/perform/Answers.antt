@@ -1,6 +1,7 @@
 use Rattle.runner.proofs.StepParts.{step_weaker}
 use Rattle.runner.proofs.Stages.{as_resumed}
 use Rattle.runner.proofs.Finding.{plain_so}
+use Rattle.runner.proofs.Asking.{performs_plain}
 use Rattle.runner.proofs.steps.perform.Goals as goal
 
 pub returns-in-Gone-clause-part : goal.returns-in-Gone-clause-part
@@ -26,3 +27,12 @@ returns-in-Flags-clause-found g c = rw c.in-Flags.is (plain_so g.O.Outside.ours 
 
 pub returns-in-Expunge-clause-found : goal.returns-in-Expunge-clause-found
 returns-in-Expunge-clause-found g c = rw c.in-Expunge.is (plain_so g.O.Outside.ours c.remove.result _ _ (g.O.Outside.seen c.args.outside.now).device c.remove.ensures.fits)
+
+pub returns-in-Gone-clause-asked : goal.returns-in-Gone-clause-asked
+returns-in-Gone-clause-asked g c = performs_plain g.O.Outside.noted c.args.is_resumed (g.O.Outside.opened c.args.outside.now) _ _ _ _ (rw c.in-Gone.is at c.requires.1.1.0) tt c.mark_deleted.ensures.asked
+
+pub returns-in-Flags-clause-asked : goal.returns-in-Flags-clause-asked
+returns-in-Flags-clause-asked g c = performs_plain g.O.Outside.noted c.args.is_resumed (g.O.Outside.opened c.args.outside.now) _ _ _ _ (rw c.in-Flags.is at c.requires.1.1.0) tt c.carry_flags.ensures.asked
+
+pub returns-in-Expunge-clause-asked : goal.returns-in-Expunge-clause-asked
+returns-in-Expunge-clause-asked g c = performs_plain g.O.Outside.noted c.args.is_resumed (g.O.Outside.opened c.args.outside.now) _ _ _ _ (rw c.in-Expunge.is at c.requires.1.1.0) tt c.remove.ensures.asked

@@ -7,7 +7,7 @@ use Rattle.runner.proofs.Passes.{end_underway, ended_at, half_ended_at}
 use Rattle.runner.proofs.PartCalls.{book_unrefused, from_book, left_call, line_of_book, passed_call}
 use Rattle.runner.proofs.Stages.{left_by, ready_arrives, ready_underway}
 use Rattle.runner.proofs.Reported.{ends_by}
-use Rattle.runner.proofs.run.conclude.Goals as goal
+use Rattle.runner.proofs.concluding.conclude.Goals as goal
 
 pub returns-in-Ok-clause-part : goal.returns-in-Ok-clause-part
 returns-in-Ok-clause-part g c =
