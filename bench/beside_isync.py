@@ -3,8 +3,8 @@
 
 The server is trial-imapd, and both programs go through a go-between in this process that puts what isync asks into the words of the
 profile. The works: a first pull of 1,000 messages of 3 KB; nothing to do at 10,000; 1,000 flags that were set at the server; 1,000 new
-messages of the folder that are pushed; 1,050 of 2,000 messages that are gone from the folder, and are expunged at the server. Each is done
-twice by each program: once valgrind counts instructions, and once strace counts system calls and syncs. Neither depends on the disk or on
+messages of the folder that are pushed; 1,050 of 2,000 messages that are gone from the folder, and are expunged at the server; where it is
+named alone (`100,000`), nothing to do at 100,000, which takes half an hour. Each is done twice by each program: once valgrind counts instructions, and once strace counts system calls and syncs. Neither depends on the disk or on
 what runs beside it. After each work both sides have to hold what they should. What was made before it is not counted."""
 import os
 import pathlib
@@ -60,6 +60,7 @@ def remove_near(boxes):
 WORKS = [Work("first pull of 1,000", 1000, nothing, 1000, is_first=True), Work("nothing to do at 10,000", 10000, nothing, 10000),
          Work("1,000 flags", 1000, flag_far, 1000, flagged=1000), Work("1,000 pushed", 0, add_near, 1000),
          Work("1,050 gone and expunged", 2000, remove_near, 950)]
+LONG_WORKS = [Work("nothing to do at 100,000", 100000, nothing, 100000)]
 
 
 def run(command):
@@ -138,9 +139,8 @@ def main():
         tally.skip("isync", f"it is not installed at {words.isync}")
         tally.end()
     print("%-24s %-13s %14s %14s %s" % ("", "", "mbsync", "isync", "quotient"))
-    for work in WORKS:
-        if not words.names or any(name in work.name for name in words.names):
-            show(work, costs(tally, work, words.program, False), costs(tally, work, words.isync, True))
+    for work in [it for it in WORKS + LONG_WORKS if any(name in it.name for name in words.names)] if words.names else WORKS:
+        show(work, costs(tally, work, words.program, False), costs(tally, work, words.isync, True))
     tally.end()
 
 

@@ -4,7 +4,7 @@
 usage: bench/gate.py [--kept] [--compare OLD] [LOG]
 
 First tests/pages.py looks whether generated pages are current. The gate is `rt ci`, and here it proves all anew: what earlier runs on
-this machine kept is not taken, unless `--kept` asks for it; the table then has what was left to do. What the gate prints goes to LOG
+this machine kept is not taken, unless `--kept` asks for it; the table then has what was left to do. Kit 13b never keeps anything. What the gate prints goes to LOG
 (gate.log in the folder for temporary files where none is given). Minutes are processor minutes, asked of the system twice a second while
 the checks run: a check's last half second may be missing, and what no check used (compilers, linkers, the programs) is in the line
 `all else`. Run it with nothing beside it. Control-C ends it, and prints what it cost so far.
@@ -28,6 +28,12 @@ TOP = os.path.dirname(os.path.dirname(os.path.realpath(__file__)))
 KINDS = ("proof", "tests", "wrong bodies")
 REST, SUM = "all else", "together"
 TICKS = os.sysconf("SC_CLK_TCK")
+
+
+def flags_of(kept):
+    """The words after `rt ci`."""
+    kit = subprocess.run(["rt", "version"], stdout=subprocess.PIPE, check=True, text=True).stdout.split()[0]
+    return [] if kept or kit == "rattle-kit-13b" else ["--anew"]
 
 
 def words_of(pid):
@@ -156,7 +162,7 @@ def main():
         subprocess.run(["git", "clone", "-q", TOP, clone], check=True)
         pages = subprocess.run([f"{clone}/tests/pages.py"], stdout=subprocess.PIPE, text=True, check=False)
         print(*[line for line in pages.stdout.splitlines() if not line.startswith("ok ")], sep="\n", flush=True)
-        status, clock, used, checks = run_gate(clone, log, [] if given.kept else ["--anew"])
+        status, clock, used, checks = run_gate(clone, log, flags_of(given.kept))
         new = print_table(clone, used, checks)
     if given.compare:
         print_changes(given.compare, new)
