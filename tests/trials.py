@@ -141,6 +141,53 @@ def waiting():
     trial("waiting file, stopped behind its UID was set aside", world + " / tries 2 / stop after folder.replace_meta 1", "settled ran 1 / new push 5 -> 9 / " + left(5))
 
 
+def acts():
+    """Other clients flag and remove messages meanwhile."""
+    world = PLAIN + r' / far 1 6 / f 5 - "a\0d\0a" / near 1 8 / n 7 S "a\0a" / state 3 1 1 5 7 / e 5 7 - / end'
+    left = r'flags push 5 7 +S / far 1 6 / f 5 {} "a\0d\0a" / near 1 8 / n 7 S "a\0a" / state 4 1 1 5 7 / e 5 7 S / end'.format
+    trial("far message flagged between listing and STORE", world + " / tries 1 / flag far before STORE 1 5 +F", "settled ran 0 / " + left("FS"))
+    trial("far message flagged at a STORE that stops", world + " / tries 2 / stop before STORE 1 / flag far before STORE 1 5 +F", "settled finished 1 / " + left("FS"))
+    trial("far message given the flag of the step, and another taken", world.replace("f 5 -", "f 5 F").replace("e 5 7 -", "e 5 7 F") + " / tries 1 / flag far before STORE 2 5 +S -F",
+          "settled ran 0 / " + left("S").replace("+S /", "+S -F /"))
+    trial("acts that name nothing", world + " / tries 1 / remove far before STORE 1 4 / flag near before folder.names 1 8 +F", "settled ran 0 / " + left("S"))
+    trial("act of a call that is never made", world + " / tries 1 / remove far before EXPUNGE 1 5", "settled ran 0 / " + left("S"))
+    trial("near message flagged before its rename", world.replace("f 5 -", "f 5 S").replace("n 7 S", "n 7 -") + " / tries 2 / flag near before folder.rename 1 7 +F",
+          "settled finished 1 / " + left("S").replace("push", "pull").replace("n 7 S", "n 7 FS"))
+    trial("keyword set before the listing", "sync Full / expunge None / keyword a x" + world[len(PLAIN):] + " / tries 1 / flag near before folder.names 1 7 +a -S / flag far before FETCH 1 5 +F",
+          r'settled ran 0 / flags pull 5 7 +F / flags push 5 7 +a / far 1 6 / f 5 Fa "a\0d\0a" / near 1 8 / n 7 Fa "a\0a" / state 4 1 1 5 7 / e 5 7 Fa / end')
+    acts_at_removals()
+    acts_at_copies()
+    for number, line in enumerate(("flag far before STORE 1", "flag far before folder.names 1 5 +S", "flag near before STORE 1 5 +S", "flag far after STORE 1 5 +S", "flag far before STORE 1 0 +S",
+                                   "flag far before STORE 1 5 +a", "flag far before STORE 1 5 -S +F", "flag far before STORE 1 5 +-", "remove far before STORE 1 5 +S", "remove far before STORE 0 5")):
+        refused(f"bad act {number}", world + f" / tries 1 / {line}", 11)
+
+
+def acts_at_removals():
+    world = r'sync Full / expunge Both / far 1 3 / f 1 S "a\0d\0a" / f 2 T "b\0d\0a" / near 1 3 / n 1 S "a\0a" / n 2 T "b\0a" / state 1 1 1 2 2 / e 1 1 S / e 2 2 T / end'
+    removed = r'expunge far 2 / expunge near 2 / far 1 3 / f 1 S "a\0d\0a" / {}near 1 3 / n 1 S "a\0a" / {}state 2 1 1 2 2 / e 1 1 S / end'.format
+    # Neither removal is made of a message that is not marked at that moment. These runs are not guarded as those of mbsync are.
+    trial("undeleted before EXPUNGE", world + " / tries 1 / flag far before EXPUNGE 1 2 -T", "settled ran 0 / " + removed(r'f 2 - "b\0d\0a" / ', ""))
+    trial("undeleted before its file is removed", world + " / tries 2 / flag near before folder.remove 1 2 -T",
+          "settled finished 1 / " + removed("", r'n 2 - "b\0a" / ').replace("expunge far 2 / ", ""))
+    trial("removed before EXPUNGE", world + " / tries 1 / remove far before EXPUNGE 1 2", "settled ran 0 / " + removed("", ""))
+    trial("file removed between renames",
+          PLAIN + r' / far 1 3 / f 1 S "a\0d\0a" / f 2 S "b\0d\0a" / near 1 3 / n 1 - "a\0a" / n 2 - "b\0a" / state 1 1 1 2 2 / e 1 1 - / e 2 2 - / end / tries 2 / remove near before folder.rename 2 2',
+          r'settled finished 1 / flags pull 2 2 +S / far 1 3 / f 1 S "a\0d\0a" / f 2 S "b\0d\0a" / near 1 3 / n 1 S "a\0a" / state 2 1 1 2 2 / e 1 1 S / e 2 2 S / end')
+
+
+def acts_at_copies():
+    world = PLAIN + r' / far 1 3 / f 1 S "a\0d\0a" / f 2 - "b\0d\0a" / near 1 1 / state 0 0 0 0 0 / end'
+    trial("removed before it is fetched", world + " / tries 1 / remove far before FETCH 2 1",
+          rf'settled ran 0 / void pull 1 / new pull 2 -> 1 / far 1 3 / f 2 - "b\0d\0a" / near 1 2 / n 1 - "X-TUID: {SECOND_MARK}\0ab\0a" / state 1 1 1 2 0 / e 2 1 - / end')
+    trial("acts after arrivals, in their order",
+          PLAIN + r' / far 1 2 / f 1 - "a\0d\0a" / near 1 1 / state 0 0 0 0 0 / end / tries 1 / flag far before FETCH 1 2 +S / flag far before FETCH 1 2 +F -S / arrive far before FETCH 1 - "b\0d\0a"',
+          rf'settled ran 0 / new pull 1 -> 1 / new pull 2 -> 2 / far 1 3 / f 1 - "a\0d\0a" / f 2 F "b\0d\0a" / near 1 3 / n 1 - "X-TUID: {MARK}\0aa\0a" / n 2 F "X-TUID: {SECOND_MARK}\0ab\0a" / state 1 1 1 2 0 / e 1 1 - / e 2 2 F / end')
+    # A copy that others remove after its reply was lost is made again.
+    trial("copy removed whose reply was lost",
+          PLAIN + r' / far 1 1 / near 1 2 / n 1 - "a\0a" / state 0 0 0 0 0 / end / tries 2 / stop after APPEND 1 / remove far before FETCH 2 1',
+          rf'settled finished 1 / new push 1 -> 2 / far 1 3 / f 2 - "X-TUID: {MARK}\0d\0aa\0d\0a" / near 1 2 / n 1 - "a\0a" / state 1 1 1 0 1 / e 2 1 - / end')
+
+
 def unfolded(text):
     return "".join(line + "\n" for line in text.split(" / ")) if text else ""
 
@@ -160,7 +207,7 @@ def main():
     words = parser_of(__doc__)
     words.add_argument("program", nargs="?", default=os.path.join(TOP, "bin", "mbtrial"), help="bin/mbtrial, if it is left out")
     program = words.parse_args().program
-    for part in first_pull, flags, gone, push, pull_stopped, waiting:
+    for part in first_pull, flags, gone, push, pull_stopped, waiting, acts:
         part()
     tally = Tally()
     for each in TRIALS:

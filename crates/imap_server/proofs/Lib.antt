@@ -21,3 +21,4 @@ pub mod HostLemmas
 pub mod ServedLemmas
 pub mod OctetsFew
 pub mod UnreadFew
+pub mod Acting

@@ -7,3 +7,4 @@ pub mod Dropping
 pub mod Unreads
 pub mod Taking
 pub mod Bounds
+pub mod Acts

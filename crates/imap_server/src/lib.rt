@@ -2,6 +2,7 @@
 //! It reads and answers bytes in any pieces, and opens no connection itself.
 #![tactic(auto)]
 
+mod acts;
 mod append_command;
 mod commands;
 mod condition;

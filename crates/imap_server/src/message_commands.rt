@@ -93,7 +93,7 @@ impl Service {
     }
 
     /// The same to the mailbox at this place.
-    fn store_at(&mut self, place: usize, set: &UidSet, mode: StoreMode, flags: Flags)
+    pub(crate) fn store_at(&mut self, place: usize, set: &UidSet, mode: StoreMode, flags: Flags)
         requires { place < length self.old.mailboxes }
         ensures { self.new ≡ record self.old { mailboxes = changed_there (stored mode flags set.now) place self.old.mailboxes } }
     {
@@ -125,7 +125,7 @@ impl Service {
     }
 
     /// The same to the mailbox at this place.
-    fn expunge_at(&mut self, place: usize, set: &UidSet)
+    pub(crate) fn expunge_at(&mut self, place: usize, set: &UidSet)
         requires { place < length self.old.mailboxes }
         ensures { self.new ≡ record self.old { mailboxes = changed_there (swept set.now) place self.old.mailboxes } }
     {

@@ -48,7 +48,7 @@ impl Model for Server {
 }
 
 impl Server {
-    ghost use Rattle.std.specs.Prelude.{◌≡◌, true, false, None, Some, [], IfOk, IsErrOf};
+    ghost use Rattle.std.specs.Prelude.{◌≡◌, true, false, None, Some, [], IfOk, IsErrOf, OnErr, OnOk};
     ghost use Rattle.imap_session.specs.Servers.{NotAuthenticated, is_over};
     ghost use Rattle.imap_session.specs.Unread.{Whole};
     ghost use Rattle.imap_session.specs.Heard.{AreReplies};
@@ -57,6 +57,7 @@ impl Server {
     ghost use Rattle.imap_session.specs.Boxes.{all_of, AreServed};
     ghost use Rattle.imap_server.specs.Taking.{Host, Fed, Lost};
     ghost use Rattle.imap_server.specs.Bounds.{IsBounded};
+    ghost use Rattle.imap_server.specs.Acts.{flagged_by_others, removed_by_others};
 
     /// A server with these mailboxes, for one user with a password, whose flags are the six that IMAP names. There is no connection.
     ///
@@ -191,6 +192,38 @@ impl Server {
                 Err(ServerFault::NoMemory)
             }
         }
+    }
+
+    /// Sets flags of the message with this UID in the mailbox of this name, and then clears others, as another session does: of both those
+    /// that have a name. Nothing of it is reported to the connection. Where there is no such message, nothing changes.
+    pub fn flag(
+        &mut self,
+        name: &[u8],
+        uid: Uid,
+        set: Flags,
+        clear: Flags,
+    ) -> Result<(), AllocError>
+        ensures ok { OnOk result (self.new ≡ record self.old { server = flagged_by_others name.now uid set clear self.old.server }) }
+        ensures err { OnErr result (self.new ≡ self.old) }
+        // Its mailboxes keep to the limits.
+        ensures served { AreServed self.new.server.mailboxes }
+    {
+        let done = self.service.flag(name, uid, set, clear);
+        self.service.is_served();
+        done
+    }
+
+    /// Removes the message with this UID from the mailbox of this name, as another session does. Nothing of it is reported to the connection.
+    /// Where there is no such message, nothing changes.
+    pub fn remove(&mut self, name: &[u8], uid: Uid) -> Result<(), AllocError>
+        ensures ok { OnOk result (self.new ≡ record self.old { server = removed_by_others name.now uid self.old.server }) }
+        ensures err { OnErr result (self.new ≡ self.old) }
+        // Its mailboxes keep to the limits.
+        ensures served { AreServed self.new.server.mailboxes }
+    {
+        let done = self.service.remove(name, uid);
+        self.service.is_served();
+        done
     }
 
     /// Ends the connection. What is unread is dropped; the mailboxes stay.

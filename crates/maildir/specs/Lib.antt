@@ -3,6 +3,7 @@ pub mod DiskExamples
 pub mod DiskFolders
 pub mod FlaggedNames
 pub mod FolderCalls
+pub mod FileActs
 pub mod FileLists
 pub mod Folders
 pub mod Gains

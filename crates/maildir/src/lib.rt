@@ -1,6 +1,7 @@
 //! A Maildir folder: the names of its files, its meta file, and folders in memory and on a disk.
 #![tactic(auto)]
 
+pub mod acted_folder;
 mod changes;
 pub mod disk_call;
 pub mod disk_folder;
@@ -8,6 +9,7 @@ pub mod disk_laws;
 pub mod disk_record;
 pub mod disk_stop;
 mod entries;
+pub mod file_acts;
 pub mod file_list;
 pub mod folder;
 mod found_names;

@@ -56,7 +56,7 @@ impl MemFolder {
     ghost use Rattle.mailcore.specs.Content.{mark_of};
     ghost use Rattle.mailcore.specs.Visitors.{AreOctets, IsForeign, Visitors};
     ghost use Rattle.device.specs.Calls.{Read};
-    ghost use Rattle.maildir.specs.Folders.{Lists, is_at, listed, with_meta};
+    ghost use Rattle.maildir.specs.Folders.{Lists, is_at, listed, name_at, removed_file, renamed_file, with_meta};
     ghost use Rattle.maildir.specs.Gains.{Adds, Gains};
     ghost use Rattle.maildir.specs.MemFolders.{empty, hidden, seen_of, stored_in, with_arrival, with_file};
     ghost use Rattle.maildir.specs.Names.{is_waiting};
@@ -113,6 +113,39 @@ impl MemFolder {
             return Err(DeviceFault::Stopped);
         }
         Ok(self.put(file)?)
+    }
+
+    // Gives a file another name where it stands, as another program does. It is no call of the folder: none of the stops meets it. A file
+    // that has that name already goes.
+    //
+    // `AllocError`: memory ran out, and the files are as before.
+    pub(crate) fn rename_by_others(
+        &mut self,
+        file: Location<'_>,
+        name: &[u8],
+    ) -> Result<(), AllocError>
+        ensures ok { OnOk result (seen_of self.new ≡ record (seen_of self.old) {
+          stored
+              = renamed_file (name_at file.entry) (record { place = file.entry.place; name = name.now }) (stored_in self.old);
+        }) }
+        ensures err { OnErr result (seen_of self.new ≡ seen_of self.old) }
+        ensures synced { self.new.is_synced ≡ self.old.is_synced }
+    {
+        let key = self.files.make_room(name)?;
+        let to = FileName {
+            place: file.place,
+            name: copy_of(self.alloc, name)?,
+        };
+        self.files.rename(file, key, to);
+        Ok(())
+    }
+
+    // Removes a file, as another program does. It is no call of the folder: none of the stops meets it.
+    pub(crate) fn remove_by_others(&mut self, file: Location<'_>)
+        ensures seen { seen_of self.new ≡ record (seen_of self.old) { stored = removed_file (name_at file.entry) (stored_in self.old) } }
+        ensures synced { self.new.is_synced ≡ self.old.is_synced }
+    {
+        self.files.remove(file);
     }
 
     // Whether a file stands at the place and under the name of this one.

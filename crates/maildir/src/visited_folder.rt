@@ -1,19 +1,22 @@
 //! A folder in memory to which others add files.
 
-ghost use Rattle.std.specs.Prelude.{◌≡◌, true, false, IfErr, IfOk};
+ghost use Rattle.std.specs.Prelude.{◌≡◌, true, false, IfErr, IfOk, OnErr, OnOk};
 ghost use Rattle.mailcore.specs.Content.{mark_of};
 ghost use Rattle.maildir.specs.Names.{is_waiting};
 ghost use Rattle.mailcore.specs.Visitors.{AreOctets, IsForeign};
 
+use crate::file_acts::{FileDeed, act_on};
 use crate::folder::{FileName, Folder, Location, Origin, Source};
 use crate::found_names::is_waiting;
 use crate::mem_folder::{FolderCall, MemFolder};
 use device::DeviceFault;
 use device::whose::Whose;
 use mailcore::copy_pieces::CopyPieces;
+use mailcore::keywords::Keywords;
 use mailcore::octets::Octets;
 use mailcore::others::Others;
-use std::alloc::Global;
+use mailcore::uid::Uid;
+use std::alloc::{AllocError, Global};
 use std::marker::PhantomData;
 
 /// A file that others add to `cur`.
@@ -46,7 +49,8 @@ impl<O: Others> VisitedFolder<O> {
     ghost use Rattle.maildir.specs.FolderCalls.{ReadAnew};
     ghost use Rattle.maildir.specs.Folders.{Lists, listed};
     ghost use Rattle.mailcore.specs.Visitors.{others_but};
-    ghost use Rattle.maildir.specs.MemFolders.{seen_of};
+    ghost use Rattle.maildir.specs.FileActs.{acted};
+    ghost use Rattle.maildir.specs.MemFolders.{seen_of, stored_in};
     ghost use Rattle.maildir.specs.VisitedFolders.{AddsAlone};
 
     /// This folder, of which no call has stopped, and what others add to it.
@@ -80,6 +84,34 @@ impl<O: Others> VisitedFolder<O> {
         let mut visited = self;
         visited.take_in()?;
         Ok(visited.folder)
+    }
+
+    // Whether a call has stopped since the folder was opened.
+    pub(crate) fn is_broken(&self) -> bool
+        ensures { result ≡ (seen_of self.now.folder).is_broken }
+    {
+        self.is_broken
+    }
+
+    // Another program does this to the file of a message, before a call.
+    pub(crate) fn act(
+        &mut self,
+        keywords: &Keywords,
+        uid: Uid,
+        deed: FileDeed,
+    ) -> Result<(), DeviceFault>
+        ensures ok { OnOk result (seen_of self.new.folder
+            ≡ record (seen_of self.old.folder) { stored = acted keywords.now uid deed (stored_in self.old.folder) }) }
+        ensures err { OnErr result (seen_of self.new.folder ≡ record (seen_of self.old.folder) { is_broken = true }) }
+        ensures fault { IfErr result (λ fault. fault ≡ DeviceFault.NoMemory) }
+    {
+        match act_on(self.alloc, &mut self.folder, keywords, uid, deed) {
+            Ok(()) => Ok(()),
+            Err(AllocError) => {
+                self.is_broken = true;
+                Err(self.folder.lack())
+            }
+        }
     }
 
     // A call is made: what others add before it has come.

@@ -3,6 +3,7 @@
 ghost use Rattle.std.specs.Prelude.{◌≡◌, ◌^◌, ◌<◌, ◌≤◌, OnOk, Err};
 ghost use Rattle.imap_server.specs.Boxes.{AreServed};
 
+use crate::acts::MailboxActs;
 use crate::arrivals::Arrivals;
 use crate::mem_link::{MemLink, PIECE_BYTES};
 use crate::schedule::Schedule;
@@ -24,6 +25,7 @@ pub struct LoopLink<R: Net + AllocGlobal + Clone + Drop> {
     far: MemLink,
     ends: Option<Ends<R::Stream>>,
     arrivals: Arrivals,
+    acts: MailboxActs,
 }
 
 /// Both ends of a connection.
@@ -75,6 +77,7 @@ impl<R: Net + AllocGlobal + Clone + Drop> LoopLink<R> {
             far: MemLink::new(alloc, server, schedule),
             ends: None,
             arrivals: Arrivals::none(alloc),
+            acts: MailboxActs::none(alloc),
         }
     }
 
@@ -84,6 +87,15 @@ impl<R: Net + AllocGlobal + Clone + Drop> LoopLink<R> {
     {
         let mut link = self;
         link.arrivals = arrivals;
+        link
+    }
+
+    /// The same link to a server of which other clients do this to messages, after what comes before the same command.
+    pub fn acting(self, acts: MailboxActs) -> Self
+        ensures far { result.far ≡ self.far }
+    {
+        let mut link = self;
+        link.acts = acts;
         link
     }
 
@@ -154,6 +166,7 @@ impl<R: Net + AllocGlobal + Clone + Drop> Link for LoopLink<R> {
 
     fn send(&mut self, bytes: &[u8]) -> Result<(), LinkFault> {
         self.arrivals.come(&mut self.far, bytes)?;
+        self.acts.happen(&mut self.far, bytes)?;
         let (front, stops) = match self.far.begin(bytes) {
             None => (bytes, false),
             Some(front) => (&bytes[..front], true),

@@ -13,6 +13,7 @@ ghost use Rattle.mailcore.specs.Content.{mark_of};
 ghost use Rattle.imap_server.specs.Boxes.{AreServed};
 ghost use Rattle.std.proofs.Props.{props};
 
+use crate::acts::MessageDeed;
 use crate::command::Nth;
 use crate::muting::muted;
 use crate::schedule::Schedule;
@@ -21,6 +22,7 @@ use device::stop_count::StopCount;
 use imap_link::link::{Link, LinkFault};
 use imap_server::server::{Server, ServerFault};
 use mailcore::flags::Flags;
+use mailcore::uid::Uid;
 use std::alloc::{AllocError, Global};
 
 /// At most so many bytes are received at once, where nobody says otherwise.
@@ -48,6 +50,7 @@ impl MemLink {
     ghost use Rattle.mem_link.specs.MemLinks.{line_of, stops_of};
     ghost use Rattle.mem_link.specs.Losing.{StopsNowhere, LosesNothing, IsOpen, SendsAll};
     ghost use Rattle.mem_link.specs.Muting.{Hears, IsHeard};
+    ghost use Rattle.mem_link.specs.Acted.{acted};
 
     /// A link to this server, with these stops. The mailboxes of every server that was made are served.
     pub fn new(alloc: Global, server: Server, schedule: Schedule) -> MemLink
@@ -168,6 +171,28 @@ impl MemLink {
             }
             Err(ServerFault::NoMemory) => Err(self.lack()),
             Err(ServerFault::Closed) => Err(self.stop()),
+        }
+    }
+
+    /// Another client does this to the message with this UID in the mailbox of this name, and to no other.
+    pub(crate) fn act(
+        &mut self,
+        mailbox: &[u8],
+        uid: Uid,
+        deed: MessageDeed,
+    ) -> Result<(), LinkFault>
+        ensures line { OnOk result (line_of self.new ≡ visited (line_of self.old) (acted mailbox.now uid deed (line_of self.old).end.server)) }
+        ensures err { OnErr result ((line_of self.new).end.server ≡ (line_of self.old).end.server) }
+        ensures stops { self.new.stops ≡ self.old.stops }
+        ensures fault { IfErr result (λ fault. fault ≡ LinkFault.NoMemory) }
+    {
+        let done = match deed {
+            MessageDeed::Flag { set, clear } => self.server.flag(mailbox, uid, set, clear),
+            MessageDeed::Remove => self.server.remove(mailbox, uid),
+        };
+        match done {
+            Ok(()) => Ok(()),
+            Err(AllocError) => Err(self.lack()),
         }
     }
 

@@ -15,4 +15,5 @@ pub mod ContentsLemmas
 pub mod PrintedLemmas
 pub mod HeldLemmas
 pub mod CourseLemmas
+pub mod ActLemmas
 pub mod TextRunLemmas

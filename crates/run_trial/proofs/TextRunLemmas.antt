@@ -17,6 +17,7 @@ use Rattle.runner.specs.Faults.{LeavesRun}
 use Rattle.run_trial.specs.declared.failure.TrialError.{TrialError}
 use Rattle.run_trial.specs.declared.trial.Trial.{Trial}
 use Rattle.run_trial.specs.Among.{HoldsAll, IsOverAmong, LeavesAmong, OthersLeftAmong}
+use Rattle.run_trial.specs.Acting.{NobodyActs}
 use Rattle.run_trial.specs.Arriving.{AreNone, are_foreign}
 use Rattle.run_trial.specs.Courses.{IsTextOf}
 use Rattle.run_trial.specs.FromText.{PrintsOutcome, Reports, ReportsAmong, ReportsText}
@@ -119,16 +120,16 @@ module _ (ours : List ℕ → Bool) (w : World) (options : Options) (new : Seen)
 
 -- what is reported of the trial that a text is
 pub reports_text : (trial : Trial) (text : List ℕ) (r : Result (String Global × ℕ) TrialError) → IsTextOf trial text → IsNamed trial.world.options.keywords (world_of trial.world)
-    → (AreNone trial.course.arrivals → IsStart trial → IfOk r (λ x. Reports (world_of trial.world) trial.world.options (string_bytes x.0) x.1))
-    → (¬ AreNone trial.course.arrivals → are_foreign is_counted trial.course.arrivals ≡ true → IsStart trial → IfOk r (λ x. ReportsAmong is_counted (world_of trial.world) trial.world.options (string_bytes x.0) x.1))
+    → (AreNone trial.course.arrivals → NobodyActs trial.course.acts → IsStart trial → IfOk r (λ x. Reports (world_of trial.world) trial.world.options (string_bytes x.0) x.1))
+    → (¬ AreNone trial.course.arrivals → are_foreign is_counted trial.course.arrivals ≡ true → NobodyActs trial.course.acts → IsStart trial → IfOk r (λ x. ReportsAmong is_counted (world_of trial.world) trial.world.options (string_bytes x.0) x.1))
     → IfOk r (λ x. ReportsText text (string_bytes x.0) x.1)
 reports_text trial text (Ok x) is named alone among = record {
   trial = trial;
   is = is;
   named = named;
-  alone = λ no_journal nobody opening.
-      alone (record { far = is.says.far nobody; near = is.says.near nobody }) (record { none = is.says.journal no_journal; opening = opening; named = named });
-  among = λ no_journal some foreign opening.
-      among some foreign (record { none = is.says.journal no_journal; opening = opening; named = named });
+  alone = λ no_journal nobody no_flags no_removals opening.
+      alone (record { far = is.says.far nobody; near = is.says.near nobody }) (is.says.acts no_flags no_removals) (record { none = is.says.journal no_journal; opening = opening; named = named });
+  among = λ no_journal no_flags no_removals some foreign opening.
+      among some foreign (is.says.acts no_flags no_removals) (record { none = is.says.journal no_journal; opening = opening; named = named });
 }
 reports_text trial text (Err failure) is named alone among = tt

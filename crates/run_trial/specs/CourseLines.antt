@@ -6,10 +6,15 @@ use Rattle.device.specs.declared.schedule.CallStop.{CallStop}
 use Rattle.device.specs.declared.schedule.Moment.{Moment}
 use Rattle.device.specs.declared.schedule.Moment.TheVariants as moment
 use Rattle.mailcore.specs.Words.{flags_word}
+use Rattle.maildir.specs.declared.file_acts.FileAct.{FileAct}
 use Rattle.maildir.specs.declared.mem_folder.FolderCall.{FolderCall}
 use Rattle.maildir.specs.declared.visited_folder.ArrivingFile.{ArrivingFile}
+use Rattle.mem_link.specs.declared.acts.MessageDeed.{MessageDeed}
+use Rattle.mem_link.specs.declared.acts.MessageDeed.TheVariants as deeds
 use Rattle.book.specs.declared.mem_shelf.ShelfCall.{ShelfCall}
 use Rattle.worlds.specs.WorldText.{quoted}
+use Rattle.run_trial.specs.declared.act.FarAct.{FarAct}
+use Rattle.run_trial.specs.declared.act.TrialActs.{TrialActs}
 use Rattle.run_trial.specs.declared.arrival.FarArrival.{FarArrival}
 use Rattle.run_trial.specs.declared.arrival.TrialArrivals.{TrialArrivals}
 use Rattle.run_trial.specs.declared.stop.Cut.{Cut}
@@ -22,6 +27,7 @@ use Rattle.run_trial.specs.declared.stop.StopCommand.{StopCommand}
 use Rattle.run_trial.specs.declared.stop.Stops.{Stops}
 use Rattle.run_trial.specs.declared.stop.StopCommand.TheVariants.{Append}
 use Rattle.run_trial.specs.declared.trial.TrialCourse.{TrialCourse}
+use Rattle.run_trial.specs.ActLines.{file_deed, target_text}
 use Rattle.run_trial.specs.Calls.{command_word, folder_word, shelf_word}
 
 -- ---- words
@@ -94,19 +100,23 @@ pub record Said : Type 0 where
   pub journal : Option (Vec ℕ Global)
   pub far : List FarArrival
   pub near : List ArrivingFile
+  pub far_acts : List FarAct
+  pub near_acts : List FileAct
   pub mutes : List ℕ
   pub folder : List (CallStop FolderCall)
   pub shelf : List (CallStop ShelfCall)
   pub link : List FarStop
 
 abbrev pub nothing : Said
-nothing = record { journal = None; far = []; near = []; mutes = []; folder = []; shelf = []; link = [] }
+nothing = record { journal = None; far = []; near = []; far_acts = []; near_acts = []; mutes = []; folder = []; shelf = []; link = [] }
 
 abbrev pub said_in : TrialCourse → Said
 said_in c = record {
   journal = c.journal;
   far = c.arrivals.far.items;
   near = c.arrivals.near.items;
+  far_acts = c.acts.far.items;
+  near_acts = c.acts.near.items;
   mutes = c.mutes.items;
   folder = c.stops.folder.items;
   shelf = c.stops.shelf.items;
@@ -130,6 +140,10 @@ StopAdded (devices.Link stop) old new =
 abbrev pub with_arrivals : TrialArrivals → Said → Said
 with_arrivals arrivals said = record said { far = arrivals.far.items; near = arrivals.near.items }
 
+-- with what other clients do so far
+abbrev pub with_acts : TrialActs → Said → Said
+with_acts acts said = record said { far_acts = acts.far.items; near_acts = acts.near.items }
+
 -- with the stops so far
 abbrev pub with_stops : Stops → Said → Said
 with_stops stops said = record said { folder = stops.folder.items; shelf = stops.shelf.items; link = stops.link.items }
@@ -149,6 +163,35 @@ pub record AddsNear (text : List ℕ) (old new : Said) : Type 0 where
 
 abbrev pub AddsArrival : (text : List ℕ) → (old new : Said) → Type 0
 AddsArrival text old new = AddsFar text old new ⊎ AddsNear text old new
+
+-- What another client does to a message at the server, or to its file, after `flag` or `remove`: `SIDE before CALL k UID`, and what becomes of
+-- its flags.
+pub record AddsFarAct (deed : MessageDeed) (text : List ℕ) (old new : Said) : Type 0 where
+  pub command : StopCommand
+  pub k : ℕ
+  pub uid : ℕ
+  pub number : List ℕ
+  pub counts : IsCount k number
+  pub words : text ≡ spaced (codes "far" ∷ codes "before" ∷ command_word command ∷ number ∷ target_text uid deed ∷ [])
+  pub now : new ≡ record old { far_acts = old.far_acts ++ record { command = command; number = k; uid = uid; deed = deed } ∷ [] }
+
+pub record AddsNearAct (deed : MessageDeed) (text : List ℕ) (old new : Said) : Type 0 where
+  pub call : FolderCall
+  pub k : ℕ
+  pub uid : ℕ
+  pub number : List ℕ
+  pub counts : IsCount k number
+  pub words : text ≡ spaced (codes "near" ∷ codes "before" ∷ folder_word call ∷ number ∷ target_text uid deed ∷ [])
+  pub now : new ≡ record old { near_acts = old.near_acts ++ record { call = call; number = k; uid = uid; deed = file_deed deed } ∷ [] }
+
+abbrev pub AddsAct : MessageDeed → (text : List ℕ) → (old new : Said) → Type 0
+AddsAct deed text old new = AddsFarAct deed text old new ⊎ AddsNearAct deed text old new
+
+-- another client sets flags and then clears others, after `flag`
+pub record AddsFlags (text : List ℕ) (old new : Said) : Type 0 where
+  pub set : ℕ
+  pub clear : ℕ
+  pub adds : AddsAct (deeds.Flag set clear) text old new
 
 -- the journal, after `journal`, where no line before has said it
 pub record AddsJournal (text : List ℕ) (old new : Said) : Type 0 where
@@ -174,7 +217,9 @@ abbrev pub Adds : (line : List ℕ) → (old new : Said) → Type 0
 Adds line old new =
     After (codes "journal ") (λ text. AddsJournal text old new) line
     ⊎ (After (codes "arrive ") (λ text. AddsArrival text old new) line
-    ⊎ (After (codes "mute ") (λ text. AddsMute text old new) line ⊎ AddsStop line old new))
+    ⊎ (After (codes "mute ") (λ text. AddsMute text old new) line
+    ⊎ (After (codes "flag ") (λ text. AddsFlags text old new) line
+    ⊎ (After (codes "remove ") (λ text. AddsAct deeds.Remove text old new) line ⊎ AddsStop line old new))))
 
 -- the lines of a text say so much, one after another
 abbrev pub AddInTurn : List (List ℕ) → (old new : Said) → Type 0

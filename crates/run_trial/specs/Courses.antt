@@ -6,6 +6,7 @@ use Rattle.worlds.specs.WorldText.{text_from_far}
 use Rattle.worlds.specs.Worlds.{world_of}
 use Rattle.run_trial.specs.declared.trial.Trial.{Trial}
 use Rattle.run_trial.specs.declared.trial.TrialCourse.{TrialCourse}
+use Rattle.run_trial.specs.Acting.{NobodyActs}
 use Rattle.run_trial.specs.CourseLines.{AllSay, nothing, said_in}
 
 -- whole lines, of which the last one ends in LF
@@ -27,7 +28,7 @@ pub record HasTries (tries : ℕ) (following course : List ℕ) : Type 0 where
   pub spelled : tries + 1 < 2 ^ 32 → decimal tries ≡ number
 
 -- This is what a course says: its first line the attempts, each other line one thing. If none of these says that there is a journal, there is
--- none, and if none says that something arrives, nothing does.
+-- none; if none says that something arrives, nothing does; and if none says that other clients flag or remove a message, none does.
 pub record IsCourse (said : TrialCourse) (course : List ℕ) : Type 0 where
   pub following : List ℕ
   pub tries : HasTries said.tries following course
@@ -35,6 +36,7 @@ pub record IsCourse (said : TrialCourse) (course : List ℕ) : Type 0 where
   pub journal : LacksLine (codes "journal ") following → said.journal ≡ None
   pub far : LacksLine (codes "arrive ") following → said.arrivals.far.items ≡ []
   pub near : LacksLine (codes "arrive ") following → said.arrivals.near.items ≡ []
+  pub acts : LacksLine (codes "flag ") following → LacksLine (codes "remove ") following → NobodyActs said.acts
 
 -- a text is that of a trial: after its world stands its course
 pub record IsTextOf (trial : Trial) (text : List ℕ) : Type 0 where

@@ -57,13 +57,16 @@ pub record ReportsAmong (ours : List ℕ → Bool) (w : World) (options : Option
 
 -- ---- of a text
 
--- A text is that of this trial. This is reported of it, if no line says that there is a journal, and a run may begin with its world: one thing
--- where no line says that others add something; another where something is added, and nothing of it bears a mark that a trial may give.
+-- A text is that of this trial. This is reported of it, if no line says that there is a journal, none that other clients flag or remove a
+-- message, and a run may begin with its world: one thing where no line says that others add something; another where something is added, and
+-- nothing of it bears a mark that a trial may give.
 pub record ReportsText (text printed : List ℕ) (status : ℕ) : Type 0 where
   pub trial : Trial
   pub is : IsTextOf trial text
   pub named : IsNamed trial.world.options.keywords (world_of trial.world)
-  pub alone : LacksLine (codes "journal ") is.says.following → LacksLine (codes "arrive ") is.says.following → IsOpening (world_of trial.world)
+  pub alone : LacksLine (codes "journal ") is.says.following → LacksLine (codes "arrive ") is.says.following
+      → LacksLine (codes "flag ") is.says.following → LacksLine (codes "remove ") is.says.following → IsOpening (world_of trial.world)
       → Reports (world_of trial.world) trial.world.options printed status
-  pub among : LacksLine (codes "journal ") is.says.following → ¬ AreNone trial.course.arrivals → are_foreign is_counted trial.course.arrivals ≡ true
+  pub among : LacksLine (codes "journal ") is.says.following → LacksLine (codes "flag ") is.says.following
+      → LacksLine (codes "remove ") is.says.following → ¬ AreNone trial.course.arrivals → are_foreign is_counted trial.course.arrivals ≡ true
       → IsOpening (world_of trial.world) → ReportsAmong is_counted (world_of trial.world) trial.world.options printed status

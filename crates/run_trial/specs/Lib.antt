@@ -13,7 +13,9 @@ pub mod Among
 pub mod Memory
 pub mod Printed
 pub mod Trials
+pub mod ActLines
 pub mod CourseLines
 pub mod Coming
+pub mod Acting
 pub mod Courses
 pub mod FromText

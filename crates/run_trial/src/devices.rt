@@ -32,6 +32,7 @@ use mail_sides::far_side::FarSide;
 use mail_sides::sides::BothSides;
 use mailcore::keywords::Keywords;
 use mailcore::others::Others;
+use maildir::acted_folder::ActedFolder;
 use maildir::folder::Folder;
 use maildir::mem_folder::MemFolder;
 use maildir::visited_folder::VisitedFolder;
@@ -205,6 +206,18 @@ impl<L: TrialLink + Drop> Devices<L> {
         ensures shelf { IfOk result (λ devices. files_of devices.shelf ≡ files_in outside.book) }
         ensures map { IfOk result (λ devices. devices.keywords ≡ outside.far.far.keywords) }
         ensures seen { IfOk result (λ devices. HoldsAll O.ours (seen_of outside).device (held_in devices)) }
+    {
+        let (BothSides { far, folder, shelf }, fresh) = BothSides::apart(outside);
+        let folder = folder.into_folder()?;
+        Ok(Devices::over(far, folder, fresh, shelf))
+    }
+
+    /// The same where other programs change files too: the folder has all that has come.
+    pub(crate) fn acted(outside: Both<L, ActedFolder, MemShelf>) -> Result<Self, TrialError>
+        ensures account { IfOk result (λ devices. devices.account ≡ outside.far.account) }
+        ensures link { IfOk result (λ devices. devices.link ≡ outside.far.far.session.wire.link) }
+        ensures shelf { IfOk result (λ devices. files_of devices.shelf ≡ files_in outside.book) }
+        ensures map { IfOk result (λ devices. devices.keywords ≡ outside.far.far.keywords) }
     {
         let (BothSides { far, folder, shelf }, fresh) = BothSides::apart(outside);
         let folder = folder.into_folder()?;

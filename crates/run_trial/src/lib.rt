@@ -3,6 +3,8 @@
 //! devices that it says, and what is reported of it.
 #![tactic(auto)]
 
+pub mod act;
+mod acted;
 mod among;
 pub mod arrival;
 pub mod attempts;

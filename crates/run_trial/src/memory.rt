@@ -106,6 +106,7 @@ fn run_over(
         shelf,
         state: _,
         arrivals: _,
+        acts: _,
         options,
     } = setting;
     let FarSetting { server, schedule } = far;

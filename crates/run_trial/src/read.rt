@@ -7,6 +7,7 @@ ghost use Rattle.run_trial.specs.CourseLines.{Adds, AddsJournal, AddsMute, AllSa
 ghost use Rattle.run_trial.specs.Courses.{HasTries, IsCourse, IsTextOf, LacksLine, LacksStart};
 ghost use Rattle.run_trial.specs.Worlds.{IsNamed, world_of};
 
+use crate::act::TrialActs;
 use crate::arrival::TrialArrivals;
 use crate::count::read_ordinal;
 use crate::stop::{DeviceStop, Stops, read_cut, read_stop};
@@ -50,6 +51,7 @@ fn read_course(
         stops: Stops::new(alloc),
         mutes: Vec::new(alloc),
         arrivals: TrialArrivals::new(alloc),
+        acts: TrialActs::new(alloc),
     };
     match take_course(alloc, keywords, &mut course, lines) {
         Ok(()) => Ok(course),
@@ -82,6 +84,8 @@ fn take_course(
     ensures tries { course.new.tries ≡ course.old.tries }
     ensures journal { OnOk result (LacksLine (codes "journal ") lines.old.rest.now → course.new.journal ≡ course.old.journal) }
     ensures arrivals { OnOk result (LacksLine (codes "arrive ") lines.old.rest.now → course.new.arrivals ≡ course.old.arrivals) }
+    ensures acts { OnOk result (LacksLine (codes "flag ") lines.old.rest.now → LacksLine (codes "remove ") lines.old.rest.now
+        → course.new.acts ≡ course.old.acts) }
     ensures lines { OnOk result (AllSay lines.old.rest.now (said_in course.old) (said_in course.new)) }
     ensures fault { IfErr result (IsUpTo (line_count lines.old + 1)) }
 {
@@ -95,7 +99,7 @@ fn take_course(
     }
 }
 
-/// Adds what a line says: the journal, what others add, an APPEND without APPENDUID, or a stop.
+/// Adds what a line says: the journal, what others add, an APPEND without APPENDUID, what other clients do, or a stop.
 fn add_line(
     alloc: Global,
     keywords: &Keywords,
@@ -106,6 +110,8 @@ fn add_line(
     ensures tries { course.new.tries ≡ course.old.tries }
     ensures journal { LacksStart (codes "journal ") line.entry.text.now → course.new.journal ≡ course.old.journal }
     ensures arrivals { LacksStart (codes "arrive ") line.entry.text.now → course.new.arrivals ≡ course.old.arrivals }
+    ensures acts { LacksStart (codes "flag ") line.entry.text.now → LacksStart (codes "remove ") line.entry.text.now
+        → course.new.acts ≡ course.old.acts }
     ensures adds { OnOk result (Adds line.entry.text.now (said_in course.old) (said_in course.new)) }
 {
     if let Some(text) = line.text.strip_prefix(b"journal ") {
@@ -116,6 +122,12 @@ fn add_line(
     }
     if let Some(text) = line.text.strip_prefix(b"mute ") {
         return add_mute(course, text, line);
+    }
+    if let Some(text) = line.text.strip_prefix(b"flag ") {
+        return course.acts.add_flags(text, keywords, line);
+    }
+    if let Some(text) = line.text.strip_prefix(b"remove ") {
+        return course.acts.add_removal(text, line);
     }
     match stop_of(line.text) {
         Some(stop) => Ok(course.stops.push(stop)?),
@@ -133,6 +145,7 @@ fn add_journal(
     ensures fault { IfErr result (IsOf line.entry.number) }
     ensures tries { course.new.tries ≡ course.old.tries }
     ensures arrivals { course.new.arrivals ≡ course.old.arrivals }
+    ensures acts { course.new.acts ≡ course.old.acts }
     ensures adds { OnOk result (AddsJournal text.now (said_in course.old) (said_in course.new)) }
 {
     if course.journal.is_some() {
@@ -148,6 +161,7 @@ fn add_mute(course: &mut TrialCourse, text: &[u8], line: Line<'_>) -> Result<(),
     ensures tries { course.new.tries ≡ course.old.tries }
     ensures journal { course.new.journal ≡ course.old.journal }
     ensures arrivals { course.new.arrivals ≡ course.old.arrivals }
+    ensures acts { course.new.acts ≡ course.old.acts }
     ensures adds { OnOk result (AddsMute text.now (said_in course.old) (said_in course.new)) }
 {
     match read_ordinal(text) {

@@ -6,6 +6,7 @@ ghost use Rattle.imap_server.specs.Boxes.{AreServed};
 ghost use Rattle.mailcore.specs.Content.{mark_of};
 ghost use Rattle.mailcore.specs.Visitors.{IsForeign};
 ghost use Rattle.imap_client.specs.Seen.{HasMap};
+ghost use Rattle.run_trial.specs.Acting.{NobodyActs};
 ghost use Rattle.run_trial.specs.Arriving.{AreNone, are_foreign};
 ghost use Rattle.run_trial.specs.FromText.{Reports, ReportsAmong, ReportsText};
 ghost use Rattle.run_trial.specs.Held.{held_in};
@@ -16,6 +17,7 @@ ghost use Rattle.run_trial.specs.Trials.{IsStart};
 ghost use Rattle.run_trial.specs.Worlds.{world_of};
 ghost use Rattle.worlds.specs.Trial.{is_counted};
 
+use crate::acted::reported_acted;
 use crate::among::run_among;
 use crate::devices::Devices;
 use crate::failure::TrialError;
@@ -64,7 +66,7 @@ pub enum TrialRequest {
 /// Else `err` gets the reason: status 2 for other arguments and for a bad text, status 1 for lack of memory, and where
 /// reading or writing failed.
 ///
-/// With status 0, of a trial in memory that begins anew and to which others add nothing: after what the run came to, the world is printed
+/// With status 0, of a trial in memory that begins anew, where others add nothing and do nothing to messages: after what the run came to, the world is printed
 /// that stands in the devices, and it is alike to the outcome that the rules name for the world which the text gives.
 pub fn run_trial<R: Net + AllocGlobal + Clone + Drop, I: Read, O: Write, E: Write>(
     rt: R,
@@ -136,12 +138,15 @@ fn reported_of_trial<R: Net + AllocGlobal + Clone + Drop>(
     trial: Trial,
 ) -> Result<(String, u8), TrialError>
     ensures at_most { IfOk result (λ reported. reported.1 ≤ 1) }
-    ensures alone { request ≡ TrialRequest.Memory → AreNone trial.course.arrivals → IsStart trial
+    ensures alone { request ≡ TrialRequest.Memory → AreNone trial.course.arrivals → NobodyActs trial.course.acts → IsStart trial
         → IfOk result (λ reported. Reports (world_of trial.world) trial.world.options (string_bytes reported.0) reported.1) }
     ensures among { request ≡ TrialRequest.Memory → ¬ AreNone trial.course.arrivals → are_foreign is_counted trial.course.arrivals ≡ true
-        → IsStart trial → IfOk result (λ reported. ReportsAmong is_counted (world_of trial.world) trial.world.options
+        → NobodyActs trial.course.acts → IsStart trial → IfOk result (λ reported. ReportsAmong is_counted (world_of trial.world) trial.world.options
         (string_bytes reported.0) reported.1) }
 {
+    if !trial.course.acts.is_empty() {
+        return reported_acted(rt, request, trial);
+    }
     let alloc = rt.alloc();
     match request {
         TrialRequest::Memory | TrialRequest::Unknown if trial.course.arrivals.is_empty() => {
@@ -283,7 +288,7 @@ fn reported_over<L: TrialLink + Drop, O: Others>(
 }
 
 /// What is reported of a run, by what it left, and the exit status.
-fn reported_of<L: TrialLink + Drop>(
+pub(crate) fn reported_of<L: TrialLink + Drop>(
     alloc: Global,
     devices: Devices<L>,
     settled: Result<Settled, RunFault>,

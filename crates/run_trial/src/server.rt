@@ -19,6 +19,7 @@ use mailcore::keywords::Keywords;
 use mailcore::mailbox::{Message, StoredMailbox};
 use mailcore::mailbox_name::MailboxName;
 use mailcore::others::Others;
+use mem_link::acted_link::ActedLink;
 use mem_link::loop_link::LoopLink;
 use mem_link::mem_link::MemLink;
 use mem_link::visited_link::VisitedLink;
@@ -133,6 +134,16 @@ impl TrialLink for MemLink {
 }
 
 impl<O: Others> TrialLink for VisitedLink<O> {
+    fn stops(&self) -> usize {
+        self.stops()
+    }
+
+    fn server(&self) -> &Server {
+        self.server()
+    }
+}
+
+impl TrialLink for ActedLink {
     fn stops(&self) -> usize {
         self.stops()
     }

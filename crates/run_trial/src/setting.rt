@@ -6,6 +6,7 @@ ghost use Rattle.imap_server.specs.Boxes.{AreServed};
 ghost use Rattle.run_trial.specs.Worlds.{FitsWords, world_of};
 ghost use Rattle.run_trial.specs.Settings.{IsSettingOf, inbox_of};
 
+use crate::act::TrialActs;
 use crate::arrival::TrialArrivals;
 use crate::failure::TrialError;
 use crate::folder::folder_with;
@@ -38,6 +39,8 @@ pub struct TrialSetting {
     pub state: SyncState,
     /// What others add meanwhile.
     pub arrivals: TrialArrivals,
+    /// What other clients do to messages meanwhile.
+    pub acts: TrialActs,
     /// What the run may do, and its map of keywords, which is the server's.
     pub options: Options,
 }
@@ -76,6 +79,7 @@ pub fn setting_of(alloc: Global, trial: Trial) -> Result<TrialSetting, TrialErro
     ensures letters { IfOk result (λ setting. HasMap setting.options.keywords setting.far.server.server) }
     ensures holds { IfOk result (λ setting. IsSettingOf trial setting) }
     ensures arrivals { IfOk result (λ setting. setting.arrivals ≡ trial.course.arrivals) }
+    ensures acts { IfOk result (λ setting. setting.acts ≡ trial.course.acts) }
     ensures fits { IfOk result (λ _. FitsWords (world_of trial.world)) }
 {
     let Trial { world, course } = trial;
@@ -91,6 +95,7 @@ pub fn setting_of(alloc: Global, trial: Trial) -> Result<TrialSetting, TrialErro
         stops,
         mutes,
         arrivals,
+        acts,
         tries: _,
     } = course;
     // Their ranges are known from these.
@@ -112,6 +117,7 @@ pub fn setting_of(alloc: Global, trial: Trial) -> Result<TrialSetting, TrialErro
         shelf: shelf?,
         state,
         arrivals,
+        acts,
         options,
     })
 }

@@ -2,6 +2,7 @@
 
 ghost use Rattle.std.specs.Prelude.{◌<◌};
 
+use crate::act::TrialActs;
 use crate::arrival::TrialArrivals;
 use crate::stop::Stops;
 use worlds::world::World;
@@ -28,4 +29,6 @@ pub struct TrialCourse {
     pub mutes: Vec<u64>,
     /// What others add meanwhile.
     pub arrivals: TrialArrivals,
+    /// What other clients do to messages meanwhile.
+    pub acts: TrialActs,
 }

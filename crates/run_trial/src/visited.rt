@@ -67,6 +67,7 @@ pub(crate) fn visited<O: Others>(
         state,
         arrivals,
         options,
+        acts: _,
     } = setting;
     let near = NearSetting {
         folder: folder_among(alloc, folder, arrivals.near),

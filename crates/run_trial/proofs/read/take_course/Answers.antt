@@ -17,4 +17,6 @@ loop-line-preserved c =
       taken = (_, lines_more before text are, rest_after _ before _ text _ whole line, say_more before text _ _ _ so_far.taken.3 (c.in_ok-add_line.ensures.adds));
       journal = λ lacks. c.add_line.ensures.journal (line_lacks (codes "journal ") _ before _ text _ lacks are whole line) ∙ so_far.journal lacks;
       arrivals = λ lacks. c.add_line.ensures.arrivals (line_lacks (codes "arrive ") _ before _ text _ lacks are whole line) ∙ so_far.arrivals lacks;
+      acts = λ flags removals. c.add_line.ensures.acts (line_lacks (codes "flag ") _ before _ text _ flags are whole line)
+          (line_lacks (codes "remove ") _ before _ text _ removals are whole line) ∙ so_far.acts flags removals;
     }

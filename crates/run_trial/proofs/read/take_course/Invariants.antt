@@ -12,6 +12,7 @@ invariant-loop-line l = record {
   taken : (before : List ℕ) × AreLines before × (l.fn.lines.rest.now ≡ before ++ l.lines.rest.now) × AllSay before (said_in l.fn.course) (said_in l.course);
   journal : LacksLine (codes "journal ") l.fn.lines.rest.now → l.course.journal ≡ l.fn.course.journal;
   arrivals : LacksLine (codes "arrive ") l.fn.lines.rest.now → l.course.arrivals ≡ l.fn.course.arrivals;
+  acts : LacksLine (codes "flag ") l.fn.lines.rest.now → LacksLine (codes "remove ") l.fn.lines.rest.now → l.course.acts ≡ l.fn.course.acts;
 }
 
 abbrev pub decreases-loop-line : goal.decreases-loop-line
