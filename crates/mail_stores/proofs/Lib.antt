@@ -1,2 +1,3 @@
 pub mod LoanLemmas
+pub mod PlacedLemmas
 mod Walks

@@ -8,9 +8,11 @@ use Rattle.device.specs.OwnFiles.{FilesParts}
 use Rattle.maildir.specs.declared.folder.Folder as folder
 use Rattle.maildir.specs.DiskFolders.{FolderParts}
 use Rattle.mailcore.specs.Visitors.{Visitors}
+use Rattle.outside.specs.Calls.{Seen}
 use Rattle.outside.specs.declared.mailbox.Mailbox as mailbox
 use Rattle.run_pair.specs.BookParts.{honest_in}
 use Rattle.run_pair.specs.declared.pair.Pair.{Pair}
+use Rattle.channels.specs.Asked.{Place}
 use Rattle.channels.specs.Lendings.{IsLent, Lends, LendsNone, Lent, LentPlace}
 use Rattle.mail_sides.specs.declared.far_side.FarSide.{FarSide}
 use Rattle.mail_sides.specs.declared.near_side.NearSide.{NearSide}
@@ -18,8 +20,12 @@ use Rattle.mail_sides.specs.declared.sides.BothSides.{BothSides}
 use Rattle.mail_sides.specs.FarSides.{honest_of}
 use Rattle.mail_stores.specs.declared.loans.Loans.{Loans}
 use Rattle.mail_stores.specs.declared.past.Past.{Past}
-use Rattle.mail_stores.specs.Lent.{Loan, lent_among}
+use Rattle.mail_stores.specs.Lent.{LendsAs, Loan, lent_among}
 use Rattle.mail_stores.specs.Loans.{AreHonest, HaveKept, lent_among_all, lent_of}
+
+-- this mailbox was lent, which was seen so
+pub lends_as : (place : Place) (seen : Seen) (loan : Loan) (old new : List Loan) → new ≡ loan ∷ old → loan.place ≡ place → loan.old ≡ seen → LendsAs place seen old new
+lends_as place seen loan old new noted here was = record { loan = loan; noted = noted; here = here; was = was }
 
 module _ {L F S : Type 0} {links : link.Ghosts L} where
   -- one more was lent and given back, and so much was done over it

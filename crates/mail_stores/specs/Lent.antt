@@ -1,5 +1,5 @@
 -- A mailbox that was lent.
-use Rattle.std.specs.Prelude.{ℕ, Bool, List, Option}
+use Rattle.std.specs.Prelude.{◌≡◌, ℕ, Bool, List, ◌∷◌, Option}
 use Rattle.outside.specs.Calls.{Seen}
 use Rattle.outside.specs.Opened.{Opened}
 use Rattle.channels.specs.Asked.{Place}
@@ -18,3 +18,10 @@ lent_among ours alone loan = record {
   place = loan.place;
   lent = record { ours = ours; alone = alone; old = loan.old; new = loan.new; opened = loan.opened };
 }
+
+-- one mailbox more was lent: this one, and it was seen so
+pub record LendsAs (place : Place) (seen : Seen) (old new : List Loan) : Type 0 where
+  pub loan : Loan
+  pub noted : new ≡ loan ∷ old
+  pub here : loan.place ≡ place
+  pub was : loan.old ≡ seen

@@ -3,4 +3,5 @@ pub mod Loans
 pub mod Names
 pub mod Notices
 pub mod Passwords
+pub mod Placed
 pub mod Reached

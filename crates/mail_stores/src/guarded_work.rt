@@ -3,7 +3,10 @@
 ghost use Rattle.std.specs.Prelude.{◌≡◌};
 ghost use Rattle.channels.specs.Asked.{place_of};
 ghost use Rattle.channels.specs.Lendings.{IsLent, Lends};
+ghost use Rattle.std.specs.Int.NonZero.{non_zero_u32_get};
+ghost use Rattle.mail_stores.specs.Lent.{LendsAs};
 ghost use Rattle.mail_stores.specs.Loans.{AreHonest, both_sides, lent_among_all};
+ghost use Rattle.mail_stores.specs.Placed.{shown};
 
 use crate::lend::lend;
 use crate::loans::Loans;
@@ -48,6 +51,7 @@ impl<L: Link + Drop, F: Folder + Drop, S: Shelf + Drop, G: Guard + Drop> Guarded
         requires asked { keywords ≡ (W.options work).keywords }
         ensures lent { Lends (AreHonest F.honest S.honest) (lent_among_all (both_sides L.visitors F.visitors)) loans.old loans.new
             (IsLent (place_of place.entry) (λ this. W.did work this result.1)) }
+        ensures noted { LendsAs (place_of place.entry) (shown F.seen S.seen (non_zero_u32_get fresh) self.sides) loans.old.lent.loans loans.new.lent.loans }
     {
         let GuardedSides { sides, guard } = self;
         let both = sides.together(alloc, fresh, keywords);

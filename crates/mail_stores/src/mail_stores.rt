@@ -4,7 +4,9 @@ ghost use Rattle.std.specs.Prelude.{◌≡◌, [], IfOk, OnErr, string_bytes};
 ghost use Rattle.channels.specs.Asked.{place_of};
 ghost use Rattle.channels.specs.Lendings.{IsLent, Lends};
 ghost use Rattle.mail_stores.specs.Loans.{HaveKept, lent_of};
+ghost use Rattle.mail_stores.specs.Placed.{AllStood, AllStood-prop, AreOf};
 ghost use Rattle.mail_stores.specs.Reached.{AreIn, IsAccount};
+ghost use Rattle.std.specs.Int.NonZero.{non_zero_u32_get};
 
 use crate::asked::Asked;
 use crate::guarded_work::GuardedSides;
@@ -52,7 +54,7 @@ use std::rt::{Clock, Files};
 /// `C` is a choice of openings (`Openings`): it takes no memory, and changes nothing.
 #[derive(Drop)]
 pub struct MailStores<
-    R: Net + Files<File = File> + AllocGlobal + Clone + Drop,
+    R: Net + Files<File = File> + Clock + AllocGlobal + Clone + Drop,
     P,
     C = Brand,
     L: Link = RealLink<R, P>,
@@ -71,6 +73,8 @@ pub struct MailStores<
     /// What they were asked for, and the mailboxes that were lent.
     pub(crate) past: Past<L, DiskFolder<R>, DiskShelf<R>>,
     openings: PhantomData<C>,
+    /// Each mailbox that was lent stood at its place.
+    pub ghost placed: { AllStood reach.home (non_zero_u32_get reach.fresh) past.loans.lent.loans past.as_lent.items } by { AllStood-prop reach.home (non_zero_u32_get reach.fresh) past.loans.lent.loans past.as_lent.items },
 }
 
 impl<
@@ -233,6 +237,7 @@ impl<
     }
 
     /// Takes the lock of a mailbox, opens both sides, and does this over them. The session stands then, if it goes on.
+    #[tactic(auto, using(crate::proofs::PlacedLemmas::are_of))]
     pub(crate) fn work_in<W: Work + Drop>(
         &mut self,
         place: ChannelBox<'_>,
@@ -263,6 +268,7 @@ impl<
     ) -> W::Answer
         requires lock { string_bytes lock.now.folder ≡ folder.now }
         requires near { AreIn folder.now sides.sides.folder sides.sides.shelf sides.guard.folder }
+        requires placed { AreOf self.old.reach.home (place_of place) sides.sides }
         requires map { sides.sides.far.far.keywords ≡ keywords }
         requires asked { keywords ≡ (W.options work).keywords }
         ensures asked { self.new.past.asked ≡ self.old.past.asked }
@@ -270,6 +276,7 @@ impl<
             (IsLent (place_of place.entry) (λ this. W.did work this result)) }
     {
         let (alloc, fresh) = (self.reach.rt.alloc(), self.reach.fresh);
+        self.past.as_lent = self.past.as_lent.and(&sides.sides);
         let (sides, answer) = sides.work(
             place,
             lock,
@@ -295,6 +302,7 @@ impl<
         ensures far { IfOk result (λ sides. IsAccount place.entry.of.far_store.now place.entry.far.now sides.sides.far.account) }
         ensures near { IfOk result (λ sides. AreIn folder.now sides.sides.folder sides.sides.shelf sides.guard.folder) }
         ensures map { IfOk result (λ sides. sides.sides.far.far.keywords ≡ keywords.now) }
+        ensures home { self.new.reach.home ≡ self.old.reach.home }
         ensures past { self.new.past ≡ self.old.past }
     {
         let near = match self.reach.near_parts(folder) {
@@ -316,6 +324,7 @@ impl<
     ) -> Result<FarSide<RealLink<R, P>>, PlaceRefusal>
         ensures account { IfOk result (λ far. IsAccount place.entry.of.far_store.now place.entry.far.now far.account) }
         ensures map { IfOk result (λ far. far.far.keywords ≡ keywords.now) }
+        ensures home { self.new.reach.home ≡ self.old.reach.home }
         ensures past { self.new.past ≡ self.old.past }
     {
         let alloc = self.reach.rt.alloc();
