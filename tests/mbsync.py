@@ -141,10 +141,19 @@ def the_walk(tally):
         tally.same("a Path that is a file", scene.run("-l", "all"), [1, f"mbsync: cannot open {scene.path('mail/')}", "  a part of this path is a file, not a folder"])
 
 
+def has_begun(journal):
+    """Whether a whole plan stands in it: one without its line `go` is no plan, and the next run makes a new one."""
+    try:
+        with open(journal, "rb") as text:
+            return b"\ngo\n" in text.read()
+    except FileNotFoundError:
+        return False
+
+
 def the_lock(tally):
     with Scene(*([ONE] * 200)) as scene, Scene(ONE) as other:
         first = scene.start("c")
-        while not os.path.exists(scene.path("inbox/.mbsyncstate.journal")) and first.poll() is None:
+        while not has_begun(scene.path("inbox/.mbsyncstate.journal")) and first.poll() is None:
             time.sleep(0.001)
         first.send_signal(signal.SIGSTOP)
         os.symlink(scene.path("inbox"), other.path("inbox"))
