@@ -27,10 +27,14 @@ pub struct ActedFolder {
 }
 
 impl ActedFolder {
+    ghost use Rattle.mailcore.specs.Visitors.{others_but};
+    ghost use Rattle.maildir.specs.VisitedFolders.{AddsAlone};
+
     /// This folder, the map by which the flags of names are known, and what others do there. Of two acts before one call the first is done
     /// first.
     pub fn new(folder: VisitedFolder<AnyMarks>, keywords: Keywords, acts: Vec<FileAct>) -> Self
         ensures folder { result.folder ≡ folder }
+        ensures keywords { result.keywords ≡ keywords }
         ensures acts { result.acts ≡ acts }
     {
         ActedFolder {
@@ -43,7 +47,9 @@ impl ActedFolder {
     /// The folder with all that has come.
     ///
     /// `NoMemory`: memory ran out.
-    pub fn into_folder(self) -> Result<MemFolder, DeviceFault> {
+    pub fn into_folder(self) -> Result<MemFolder, DeviceFault>
+        ensures { IfOk result (λ folder. AddsAlone (others_but (λ _. false)) (seen_of self.folder.folder) (seen_of folder)) }
+    {
         let ActedFolder { folder, .. } = self;
         folder.into_folder()
     }

@@ -1,6 +1,6 @@
 //! A link to a server in memory, where other clients add, change and remove messages.
 
-ghost use Rattle.std.specs.Prelude.{◌≡◌};
+ghost use Rattle.std.specs.Prelude.{◌≡◌, ◌<◌, ◌^◌};
 ghost use Rattle.mem_link.specs.MemLinks.{line_of, stops_of};
 
 use crate::acts::MailboxActs;
@@ -34,7 +34,9 @@ impl ActedLink {
     }
 
     /// How many calls have stopped, up to the top of its type.
-    pub fn stops(&self) -> usize {
+    pub fn stops(&self) -> usize
+        ensures { stops_of self.now.link < 2 ^ 64 → result ≡ stops_of self.now.link }
+    {
         self.link.stops()
     }
 

@@ -1,6 +1,6 @@
 //! What other clients do to the messages of a server in memory.
 
-ghost use Rattle.std.specs.Prelude.{◌≡◌, IfErr};
+ghost use Rattle.std.specs.Prelude.{◌≡◌, [], IfErr};
 ghost use Rattle.mem_link.specs.MemLinks.{stops_of};
 
 use crate::command::Nth;
@@ -47,7 +47,9 @@ pub struct MailboxActs {
 
 impl MailboxActs {
     /// They do nothing.
-    pub fn none(alloc: Global) -> MailboxActs {
+    pub fn none(alloc: Global) -> MailboxActs
+        ensures { result.list.items ≡ [] }
+    {
         MailboxActs {
             mailbox: Octets::from_vec(Vec::new(alloc)),
             list: Vec::new(alloc),

@@ -93,6 +93,7 @@ impl<R: Net + AllocGlobal + Clone + Drop> LoopLink<R> {
     /// The same link to a server of which other clients do this to messages, after what comes before the same command.
     pub fn acting(self, acts: MailboxActs) -> Self
         ensures far { result.far ≡ self.far }
+        ensures acts { result.acts ≡ acts }
     {
         let mut link = self;
         link.acts = acts;

@@ -1,6 +1,6 @@
 //! A link to a server in memory to which others add messages.
 
-ghost use Rattle.std.specs.Prelude.{◌≡◌};
+ghost use Rattle.std.specs.Prelude.{◌≡◌, ◌<◌, ◌^◌};
 ghost use Rattle.mem_link.specs.MemLinks.{line_of, stops_of};
 ghost use Rattle.mem_link.specs.Others.{AreForeign, AreForeign-prop};
 ghost use Rattle.mailcore.specs.Visitors.{others_but};
@@ -36,7 +36,9 @@ impl<O: Others> VisitedLink<O> {
     }
 
     /// How many calls have stopped, up to the top of its type.
-    pub fn stops(&self) -> usize {
+    pub fn stops(&self) -> usize
+        ensures { stops_of self.now.link < 2 ^ 64 → result ≡ stops_of self.now.link }
+    {
         self.link.stops()
     }
 

@@ -1,9 +1,12 @@
 //! A trial in which other clients do things to messages: what its run is made over, and what is reported of it. Of such a run no clause of
 //! this crate says what it leaves; which calls it asks for holds of it too (`runner::settle`, clause `asked`).
 
-ghost use Rattle.std.specs.Prelude.{◌≡◌, ◌≤◌, IfOk};
+ghost use Rattle.std.specs.Prelude.{◌≡◌, ◌≤◌, IfOk, map};
 ghost use Rattle.imap_client.specs.Seen.{HasMap};
 ghost use Rattle.imap_server.specs.Boxes.{AreServed};
+ghost use Rattle.maildir.specs.MemFolders.{stored_in};
+ghost use Rattle.run_trial.specs.Acting.{act_of};
+ghost use Rattle.run_trial.specs.Among.{AreKept, arrival_of};
 
 use crate::act::{FarAct, TrialActs};
 use crate::devices::{Devices, settle_all, together};
@@ -180,6 +183,13 @@ fn reported_over<L: TrialLink + Drop>(
 fn acted(alloc: Global, setting: TrialSetting) -> Result<ActedSetting, AllocError>
     requires { AreServed setting.far.server.server.mailboxes }
     ensures served { IfOk result (λ a. AreServed a.far.server.server.mailboxes) }
+    ensures far { IfOk result (λ a. a.far ≡ setting.far) }
+    ensures options { IfOk result (λ a. a.options ≡ setting.options) }
+    ensures arrivals { IfOk result (λ a. a.arrivals.list.items ≡ map arrival_of setting.arrivals.far.items) }
+    ensures acts { IfOk result (λ a. a.acts.list.items ≡ map act_of setting.acts.far.items) }
+    ensures near { IfOk result (λ a. (stored_in a.near.folder.folder.folder ≡ stored_in setting.folder)
+        × (a.near.folder.folder.arrivals ≡ setting.arrivals.near) × (a.near.folder.acts ≡ setting.acts.near)) }
+    ensures kept { IfOk result (λ a. AreKept setting a.near.shelf a.near.state) }
 {
     let mut setting = setting;
     let TrialActs {
@@ -203,7 +213,12 @@ fn acted(alloc: Global, setting: TrialSetting) -> Result<ActedSetting, AllocErro
 }
 
 /// What stands near, where other programs do this.
-fn acted_near(near: NearSetting<AnyMarks>, keywords: Keywords, acts: Vec<FileAct>) -> ActedNear {
+fn acted_near(near: NearSetting<AnyMarks>, keywords: Keywords, acts: Vec<FileAct>) -> ActedNear
+    ensures folder { result.folder.folder ≡ near.folder }
+    ensures acts { result.folder.acts ≡ acts }
+    ensures shelf { result.shelf ≡ near.shelf }
+    ensures state { result.state ≡ near.state }
+{
     let NearSetting {
         folder,
         shelf,
@@ -217,7 +232,9 @@ fn acted_near(near: NearSetting<AnyMarks>, keywords: Keywords, acts: Vec<FileAct
 }
 
 /// What other clients do to messages of the far mailbox, as a link says it.
-fn mailbox_acts(alloc: Global, acts: &[FarAct]) -> Result<MailboxActs, AllocError> {
+fn mailbox_acts(alloc: Global, acts: &[FarAct]) -> Result<MailboxActs, AllocError>
+    ensures { IfOk result (λ a. a.list.items ≡ map act_of acts.now) }
+{
     let mailbox = Octets::from_vec(Vec::from_slice(alloc, MAILBOX)?);
     let mut list = Vec::with_capacity(alloc, acts.len())?;
     for act in acts {

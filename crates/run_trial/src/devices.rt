@@ -216,6 +216,7 @@ impl<L: TrialLink + Drop> Devices<L> {
     pub(crate) fn acted(outside: Both<L, ActedFolder, MemShelf>) -> Result<Self, TrialError>
         ensures account { IfOk result (λ devices. devices.account ≡ outside.far.account) }
         ensures link { IfOk result (λ devices. devices.link ≡ outside.far.far.session.wire.link) }
+        ensures fresh { IfOk result (λ devices. devices.fresh ≡ outside.near.fresh) }
         ensures shelf { IfOk result (λ devices. files_of devices.shelf ≡ files_in outside.book) }
         ensures map { IfOk result (λ devices. devices.keywords ≡ outside.far.far.keywords) }
     {
