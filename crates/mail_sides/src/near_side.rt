@@ -107,9 +107,9 @@ impl<F: Folder + Drop> Mailbox for NearSide<F> {
     ghost use Rattle.mailcore.specs.Mailboxes.{SetsAside};
     ghost use Rattle.mailcore.specs.CopyPieces.{text_left};
     ghost use Rattle.mailcore.specs.Spared.{spares};
-    ghost use Rattle.near_box.specs.Entries.{asked};
+    ghost use Rattle.near_box.specs.Entries.{IsUnmarked, asked};
     ghost use Rattle.outside.specs.MailboxCalls.{IsPlain, Never};
-    ghost use Rattle.outside.specs.MailboxOperations.{Answers, Appends, HasNumbers, IsCopyText, IsFull, Lists, ListsWithin, NoRoom, ReportsValidity};
+    ghost use Rattle.outside.specs.MailboxOperations.{Answers, Appends, HasNumbers, IsCopyText, IsFull, Lists, ListsWithin, NoRoom, ReportsValidity, Turns, removed};
     ghost use Rattle.mail_sides.specs.NearSides.{Calls, CallsAdmit, Unfit, seen_of};
 
     ghost side = { Near };
@@ -206,7 +206,15 @@ impl<F: Folder + Drop> Mailbox for NearSide<F> {
         reported_by(self.near.remove_flags(uid, flags))
     }
 
-    fn expunge(&mut self, uid: Uid) -> Result<(), BoxFault> {
+    fn expunge(&mut self, uid: Uid) -> Result<(), BoxFault>
+        requires whole { (seen_of self.old).is_broken ≡ false }
+        requires open { self.old.is_open ≡ true }
+        ensures was_honest { F.honest self.new.near.folder → F.honest self.old.near.folder }
+        ensures keywords { self.new.near.keywords ≡ self.old.near.keywords }
+        ensures open { self.new.is_open ≡ true }
+        ensures unmarked { IsUnmarked self.old.near.keywords uid self.old.near.survey.entries.items → self.new ≡ self.old }
+        ensures call { Calls {T = Unit {0}} Never (λ _. Turns (removed uid)) Nothing self.old self.new result }
+    {
         if self.near.is_deleted(uid) {
             reported_by(self.near.expunge(&[uid]))
         } else {

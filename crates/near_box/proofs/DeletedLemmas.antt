@@ -1,5 +1,5 @@
 -- Which messages that were surveyed are marked as deleted.
-use Rattle.std.proofs.Common.{◌≡◌, ◌<◌, ℕ, Bool, List, [], ◌∷◌, map, length, get_or, All, sym, ap, subst, ◌∙◌}
+use Rattle.std.proofs.Common.{◌≡◌, ◌<◌, ℕ, Bool, false, List, [], ◌∷◌, map, length, get_or, All, sym, ap, subst, ◌∙◌}
 use Rattle.std.proofs.lemmas.List.{get_or_default}
 use Rattle.std.proofs.lemmas.List.Elements.{All-cons, All-head, All-map, All-nil, All-tail, All-weaker}
 use Rattle.mailcore.specs.declared.keywords.Keyword.{Keyword}
@@ -9,7 +9,7 @@ use Rattle.maildir.specs.FlaggedNames.{flags_by_name}
 use Rattle.maildir.specs.Folders.{Stored}
 use Rattle.near_box.specs.declared.survey.SurveyEntry.{SurveyEntry}
 use Rattle.near_box.specs.declared.survey.Survey.{Survey}
-use Rattle.near_box.specs.Entries.{AreRising, message_at}
+use Rattle.near_box.specs.Entries.{AreRising, IsUnmarked, message_at}
 use Rattle.near_box.specs.Mailboxes.{near_of}
 use Rattle.near_box.specs.Surveys.{Surveys}
 use Rattle.near_box.proofs.KeptLemmas.{one_place}
@@ -32,6 +32,10 @@ module _ (keywords : List Keyword) (uid : ℕ) where
 
   pub is_found : (es : List SurveyEntry) (i : ℕ) (entry : SurveyEntry) → i < length es → entry ≡ get_or es i entry → entry.uid ≡ uid → All (λ e. e.uid ≡ uid → ⊥) es → ⊥
   is_found es i entry within is own none = none i entry within (sym (ap (λ (e : SurveyEntry). e.uid) is) ∙ own)
+
+  -- the entry that was found is one of those that do not bear the mark
+  pub unmarked_found : (es : List SurveyEntry) (i : ℕ) (entry : SurveyEntry) → i < length es → entry ≡ get_or es i entry → entry.uid ≡ uid → IsUnmarked keywords uid es → is_marked entry ≡ false
+  unmarked_found es i entry within is own none = ap is_marked is ∙ none i entry within (sym (ap (λ (e : SurveyEntry). e.uid) is) ∙ own)
 
   of_entries : (s : Stored) (es : List SurveyEntry) → All (λ m. m.uid ≡ uid → ⊥) (map (message_at keywords s) es) → All (λ e. e.uid ≡ uid → ⊥) es
   of_entries s [] none = All-nil (λ (e : SurveyEntry). e.uid ≡ uid → ⊥)

@@ -1,5 +1,6 @@
 -- The messages that a survey names, and the files that wait.
 use Rattle.std.specs.Prelude.{◌≡◌, ◌<◌, ℕ, Bool, true, false, not, List, [], Some, All, AllPairs, filter, length, unwrap_or}
+use Rattle.mailcore.specs.FlagSet.{DELETED, has}
 use Rattle.mailcore.specs.declared.keywords.Keyword.{Keyword}
 use Rattle.mailcore.specs.declared.mailbox.Message.{Message}
 use Rattle.mailcore.specs.declared.listing.Item.{Item}
@@ -49,3 +50,7 @@ AreRising entries = AllPairs (λ a b. a.uid < b.uid) entries
 -- all are spared
 abbrev pub AreSpared : (spared : ℕ → Bool) → List SurveyEntry → Type 0
 AreSpared spared entries = All (λ entry. spared entry.uid ≡ true) entries
+
+-- the name of no file with this UID marks its message as deleted
+abbrev pub IsUnmarked : List Keyword → (uid : ℕ) → List SurveyEntry → Type 0
+IsUnmarked keywords uid entries = All (λ entry. entry.uid ≡ uid → has (flags_by_name keywords entry.name) DELETED ≡ false) entries

@@ -10,7 +10,7 @@ ghost use Rattle.mailcore.specs.KeywordNames.{kept};
 ghost use Rattle.mailcore.specs.Operations.{Shows, ShowsSparing, bytes_of, expunged, flagged, flags_added, flags_removed, marked_from};
 ghost use Rattle.mailcore.specs.CopyPieces.{text_left};
 ghost use Rattle.mailcore.specs.Spared.{spares};
-ghost use Rattle.near_box.specs.Entries.{AreSpared, asked};
+ghost use Rattle.near_box.specs.Entries.{AreSpared, IsUnmarked, asked};
 ghost use Rattle.near_box.specs.FlagChanges.{changed_flags, kept_change};
 ghost use Rattle.mailcore.specs.Mailboxes.{on_store, delivered, ExpungesSome, SetsAside};
 ghost use Rattle.near_box.specs.Mailboxes.{IsMailbox, IsMetaOf, meta_at};
@@ -262,6 +262,7 @@ impl<F: Folder> NearBox<F> {
             → All (λ m. m.uid ≡ uid → has m.flags DELETED ≡ result) (mailbox_of self.now).store.messages }
         ensures missing { F.honest self.now.folder → self.now.is_ready ≡ true → All (λ m. m.uid ≢ uid) (mailbox_of self.now).store.messages
             → result ≡ false }
+        ensures unmarked { IsUnmarked self.now.keywords uid self.now.survey.entries.items → result ≡ false }
     {
         is_deleted(&self.survey.entries, uid, &self.keywords)
     }

@@ -4,7 +4,7 @@ ghost use Rattle.std.specs.Prelude.{◌≡◌, ◌≢◌, ◌<◌, ◌+◌, ◌^
 ghost use Rattle.std.specs.List.{HoldsAt};
 ghost use Rattle.device.specs.Calls.{Nothing};
 ghost use Rattle.mailcore.specs.FlagSet.{DELETED, has};
-ghost use Rattle.near_box.specs.Entries.{AreRising};
+ghost use Rattle.near_box.specs.Entries.{AreRising, IsUnmarked};
 ghost use Rattle.maildir.specs.Folders.{text_of, name_at, renamed_file};
 ghost use Rattle.maildir.specs.FlaggedNames.{flags_by_name, letters_by_name};
 ghost use Rattle.near_box.specs.NearEffects.{name_flagged, copy_name, copy_base, set_name, file_of, admitted, name_admitted, Does};
@@ -71,6 +71,7 @@ pub fn is_deleted(entries: &[SurveyEntry], uid: Uid, keywords: &Keywords) -> boo
     ensures marked { AreRising entries.now
         → All (λ entry. entry.uid ≡ uid → has (flags_by_name keywords.now entry.name) DELETED ≡ result) entries.now }
     ensures missing { All (λ entry. entry.uid ≢ uid) entries.now → result ≡ false }
+    ensures unmarked { IsUnmarked keywords.now uid entries.now → result ≡ false }
 {
     match place_of(entries, uid) {
         Some(i) => flags_of(&entries[i], keywords).has(Flag::Deleted),
