@@ -126,14 +126,11 @@ def main():
     words = parser_of(__doc__)
     words.add_argument("--program", default=MBSYNC, help="the built mbsync, if it is left out")
     words.add_argument("--isync", default="/usr/bin/mbsync", help="/usr/bin/mbsync, if it is left out")
-    words.add_argument("--server", help="the built trial-imapd, if it is left out")
+    trial_imapd.take_server(words)
     words.add_argument("names", nargs="*", help="only works with one of these in their names")
     words = words.parse_args()
     must_run(words.program)
-    if words.server:
-        trial_imapd.PROGRAM = words.server
-    else:
-        trial_imapd.build()
+    trial_imapd.use_server(words.server)
     tally = Tally()
     if not os.access(words.isync, os.X_OK):
         tally.skip("isync", f"it is not installed at {words.isync}")

@@ -302,13 +302,10 @@ SCENES = [first_pull, changes_both_ways, gone, only_what_is_asked, several_boxes
 def main():
     words = parser_of(__doc__)
     words.add_argument("--program", default=os.path.join(TOP, "bin", "mbsync"), help="bin/mbsync, if it is left out")
-    words.add_argument("--server", metavar="PROGRAM", help="the built trial-imapd, if it is left out")
+    trial_imapd.take_server(words)
     words.add_argument("names", nargs="*", metavar="NAME")
     words = words.parse_args()
-    if words.server:
-        trial_imapd.PROGRAM = words.server
-    else:
-        trial_imapd.build()
+    trial_imapd.use_server(words.server)
     Scene.program = os.path.abspath(words.program)
     subprocess.run([Scene.program, "-h"], stdout=subprocess.DEVNULL, check=True)
     Tally().play(SCENES, words.names)

@@ -16,14 +16,29 @@ def build():
     places.build("trial_imapd", "-h")
 
 
+def take_server(words):
+    """Has the words of a script name the trial-imapd that it runs."""
+    words.add_argument("--server", metavar="PROGRAM", help="the built trial-imapd, if it is left out")
+
+
+def use_server(program):
+    """Has servers run this program, or, where none is named, the built one."""
+    global PROGRAM
+    if program:
+        PROGRAM = program
+    else:
+        build()
+
+
 def program_over(text):
-    """The mbsync that a script tries, which its words name, with trial-imapd built. The help begins with the text of the script."""
+    """The mbsync that a script tries, over the trial-imapd that it runs, as its words name them. The help begins with the text of the script."""
     words = places.parser_of(text)
     words.add_argument("program", nargs="?", default=places.MBSYNC, help="the built mbsync, if it is left out")
-    program = words.parse_args().program
-    places.must_run(program)
-    build()
-    return program
+    take_server(words)
+    words = words.parse_args()
+    places.must_run(words.program)
+    use_server(words.server)
+    return words.program
 
 
 def world(messages, keywords=()):

@@ -1,7 +1,7 @@
 //! How the lines of a case are played.
 
 use crate::cuts::print_cuts;
-use crate::stage::Stage;
+use crate::lying_stage::Stage;
 use std::alloc::Global;
 use std::cell::RefCell;
 use test_client::tape::Tape;

@@ -1,6 +1,6 @@
 //! Runs whose server says less than it should.
 
-use crate::stage::Stage;
+use crate::lying_stage::Stage;
 use std::alloc::Global;
 use std::cell::RefCell;
 use test_client::tape::Tape;
