@@ -28,13 +28,24 @@ impl Drop for Ground {
 }
 
 impl Ground {
-    /// A place where nothing stands yet.
+    /// A place where nothing stands yet: in memory, if that may be.
     pub fn new(rt: &HostRuntime) -> Result<Ground, Failure> {
-        let top = top_of(rt)?;
+        let in_memory = Ground::below(rt, IN_MEMORY)?;
+        if fs::create_dir(rt, in_memory.home.as_str()).is_ok() {
+            return Ok(in_memory);
+        }
+        drop(in_memory);
+        let temporary = env::temp_dir(rt)?;
+        Ground::below(rt, temporary.as_path().as_str())
+    }
+
+    /// The place in this folder; the process's number keeps it apart from those of other runs.
+    fn below(rt: &HostRuntime, root: &str) -> Result<Ground, Failure> {
+        let id = process::id(rt.process());
         Ok(Ground {
             rt: *rt,
-            home: format!(in rt.alloc(); "{top}/home")?,
-            random: format!(in rt.alloc(); "{top}/home/random")?,
+            home: format!(in rt.alloc(); "{root}/test_whole_runs_{id}")?,
+            random: format!(in rt.alloc(); "{root}/test_whole_runs_{id}/random")?,
         })
     }
 
@@ -58,15 +69,4 @@ impl Ground {
             let _ = fs::remove_dir_all(&self.rt, home);
         }
     }
-}
-
-/// Where it stands; the process's number keeps it apart from those of other runs.
-fn top_of(rt: &HostRuntime) -> Result<String, Failure> {
-    let temporary = env::temp_dir(rt)?;
-    let root = match fs::metadata(rt, IN_MEMORY) {
-        Ok(found) if found.is_dir() => IN_MEMORY,
-        _ => temporary.as_path().as_str(),
-    };
-    let id = process::id(rt.process());
-    Ok(format!(in rt.alloc(); "{root}/test_whole_runs_{id}")?)
 }
