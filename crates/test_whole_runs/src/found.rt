@@ -71,8 +71,11 @@ impl FoundMessages {
         Ok(self.lines.push(String::from_str(alloc, line.as_str())?)?)
     }
 
-    /// Adds the files of one folder.
+    /// Adds the files of one folder, if it is there.
     fn add_files(&mut self, rt: &HostRuntime, folder: &str, path: &str) -> Result<(), Failure> {
+        if fs::metadata(rt, path).is_err() {
+            return Ok(());
+        }
         for entry in fs::read_dir(rt, path)? {
             self.add_file(rt, folder, entry)?;
         }

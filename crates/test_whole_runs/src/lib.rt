@@ -25,6 +25,7 @@
 //! | `mailbox VALIDITY NEXT NAME` | a mailbox of the server |
 //! | `message UID FLAGS "BYTES"` | a message of this mailbox, after the others |
 //! | `folder PATH` | a Maildir folder, by its path from the home folder |
+//! | `look PATH` | a Maildir folder that is looked at where it is there, since a run may make it |
 //! | `file PATH "BYTES"` | a file |
 //! | `config` | the lines up to `end` are the configuration, `.mbsyncrc` |
 //! | `world` | the lines up to `end` are a world (docs/FORMATS.md): its far mailbox is the server's INBOX, its near one stands in the folder `mail` with its state, and the channel `c` synchronises them |

@@ -24,7 +24,7 @@ pub struct ProgramStage {
 pub struct Ran {
     /// The exit status.
     pub status: u8,
-    /// What was printed on standard output, and then on standard error.
+    /// What was printed on standard output.
     pub out: Vec<u8>,
     /// What was printed on standard error.
     pub err: Vec<u8>,

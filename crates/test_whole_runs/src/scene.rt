@@ -24,7 +24,7 @@ pub struct Scene {
     lines: Vec<u8>,
     config: Vec<u8>,
     world: Option<Vec<u8>>,
-    /// The Maildir folders, by their paths from the home folder.
+    /// The Maildir folders that are looked at, by their paths from the home folder.
     pub folders: Vec<String>,
 }
 
@@ -57,7 +57,7 @@ impl Scene {
 
     /// Adds a line, which begins with this word.
     pub fn add(&mut self, alloc: Global, word: &str, rest: &[u8]) -> Result<(), Failure> {
-        if word == "folder" {
+        if word == "folder" || word == "look" {
             let path = str::from_utf8(rest).unwrap_or_default();
             self.folders.push(String::from_str(alloc, path)?)?;
         }
@@ -97,6 +97,9 @@ fn place(
         "mailbox" => add_mailbox(rt.alloc(), mailboxes, &mut words)?,
         "message" => add_message(rt.alloc(), mailboxes, &mut words)?,
         "folder" => make_folder(rt, ground, words.text())?,
+        "look" => {
+            words.text();
+        }
         "file" => {
             let path = ground.at(words.word())?;
             let bytes = words.bytes(rt.alloc())?;
