@@ -115,30 +115,36 @@ fn read_item(bytes: &[u8]) -> Result<(FetchItem<'_>, &[u8]), Stop>
 fn item_word(bytes: &[u8]) -> Result<(ItemWord, &[u8]), Stop>
     ensures { Gives (λ r. (r.0, r.1.now)) result (item_word_at bytes.now) }
 {
-    either(keyed(ItemWord::Uid, b"UID ", bytes), later_word(bytes))
+    match keyed(ItemWord::Uid, b"UID ", bytes) {
+        Ok(read) => Ok(read),
+        stop => either(stop, later_word(bytes)),
+    }
 }
 
 /// The same, of the words after UID.
 fn later_word(bytes: &[u8]) -> Result<(ItemWord, &[u8]), Stop>
     ensures { Gives (λ r. (r.0, r.1.now)) result (keys_at item_word ItemWord.Flags (ItemWord.Size ∷ ItemWord.Body ∷ ItemWord.Head ∷ []) bytes.now) }
 {
-    either(
-        keyed(ItemWord::Flags, b"FLAGS ", bytes),
-        size_or_body(bytes),
-    )
+    match keyed(ItemWord::Flags, b"FLAGS ", bytes) {
+        Ok(read) => Ok(read),
+        stop => either(stop, size_or_body(bytes)),
+    }
 }
 
 /// The same, of the words after FLAGS.
 fn size_or_body(bytes: &[u8]) -> Result<(ItemWord, &[u8]), Stop>
     ensures { Gives (λ r. (r.0, r.1.now)) result (keys_at item_word ItemWord.Size (ItemWord.Body ∷ ItemWord.Head ∷ []) bytes.now) }
 {
-    either(
-        keyed(ItemWord::Size, b"RFC822.SIZE ", bytes),
-        either(
-            keyed(ItemWord::Body, b"BODY[] ", bytes),
-            keyed(ItemWord::Head, b"BODY[]<0> ", bytes),
+    match keyed(ItemWord::Size, b"RFC822.SIZE ", bytes) {
+        Ok(read) => Ok(read),
+        stop => either(
+            stop,
+            either(
+                keyed(ItemWord::Body, b"BODY[] ", bytes),
+                keyed(ItemWord::Head, b"BODY[]<0> ", bytes),
+            ),
         ),
-    )
+    }
 }
 
 /// What follows the word of an item.
