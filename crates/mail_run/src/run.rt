@@ -22,10 +22,10 @@ use mail_stores::notes::ServerNotes;
 use mail_stores::openings::Openings;
 use mailcore::keywords::Keywords;
 use near_places::home::Home;
+use near_places::lock::LockFiles;
 use rand_chacha::ChaCha20Rng;
 use rand_core::Rng;
 use std::alloc::{AllocError, Global};
-use std::fs::File;
 use std::io::Write;
 use std::marker::Brand;
 use std::net::Net;
@@ -94,7 +94,7 @@ fn refuse_boxes(alloc: Global, config: &Config) -> Result<(), StartFailure>
 /// Where there is a terminal, a line of it shows which mailbox is at work, and how many steps of its plan are logged; it is wiped before
 /// anything is written to `out` or `err`.
 pub fn run_mail<
-    R: Net + Files<File = File> + Env + Clock + AllocGlobal + Clone + Drop,
+    R: Net + LockFiles + Env + Clock + AllocGlobal + Clone + Drop,
     T: Write + Copy,
     O: Write,
     E: Write,
@@ -127,7 +127,7 @@ fn say_none<E: Write>(config: &Config, request: &RunRequest, err: &mut E) {
 /// and nothing was to be listed, each chosen mailbox was lent and is settled, from whatever opening its run is looked at (`C`). Whatever it
 /// is, no mailbox but such a one was lent, and the run over each is settled or underway.
 fn run_start<
-    R: Net + Files<File = File> + Env + Clock + AllocGlobal + Clone + Drop,
+    R: Net + LockFiles + Env + Clock + AllocGlobal + Clone + Drop,
     T: Write + Copy,
     O: Write,
     E: Write,

@@ -10,21 +10,22 @@ use box_worlds::reader::WorldReader;
 use channels::scope::options_of;
 use channels::stores::Stores;
 use mail_stores::mail_stores::MailStores;
+use near_places::lock::LockFiles;
 use std::alloc::Global;
-use std::fs::File;
 use std::io;
 use std::io::Write;
 use std::net::Net;
-use std::rt::{Clock, Env, Files};
+use std::rt::{Clock, Env};
 
 /// Does what a command line of `mbworld` asks for, over the servers and the folders of its configuration, and gives the exit status. Nothing
 /// is changed: the lock of the mailbox is taken if its file is there, and no more. With status 0 the whole world is printed to `out`.
 /// Otherwise `err` gets the reason, on a second line what to do: status 2 for a command line that is refused and an unknown channel, else 1.
-pub fn run_world<
-    R: Net + Files<File = File> + Env + Clock + AllocGlobal + Clone + Drop,
-    O: Write,
-    E: Write,
->(rt: R, line: WorldLine<'_>, out: &mut O, err: &mut E) -> u8 {
+pub fn run_world<R: Net + LockFiles + Env + Clock + AllocGlobal + Clone + Drop, O: Write, E: Write>(
+    rt: R,
+    line: WorldLine<'_>,
+    out: &mut O,
+    err: &mut E,
+) -> u8 {
     match line {
         WorldLine::Help => status_of(print(out, HELP), 0),
         WorldLine::Refused => {
@@ -55,11 +56,14 @@ fn print<O: Write>(out: &mut O, text: &str) -> io::Result<()> {
 }
 
 /// Prints the world that is asked for, of a mailbox of this configuration.
-fn start_world<
-    R: Net + Files<File = File> + Env + Clock + AllocGlobal + Clone + Drop,
-    O: Write,
-    E: Write,
->(rt: R, start: Start, mailbox: &str, bodies: Bodies, out: &mut O, err: &mut E) -> u8 {
+fn start_world<R: Net + LockFiles + Env + Clock + AllocGlobal + Clone + Drop, O: Write, E: Write>(
+    rt: R,
+    start: Start,
+    mailbox: &str,
+    bodies: Bodies,
+    out: &mut O,
+    err: &mut E,
+) -> u8 {
     let alloc = rt.alloc();
     let Start {
         config,

@@ -8,11 +8,11 @@ use channels::stores::Stores;
 use imap_client::waits::Waits;
 use mail_stores::mail_stores::MailStores;
 use mail_stores::openings::Openings;
+use near_places::lock::LockFiles;
 use rules::options::Sides;
 use runner::progress::Progress;
-use std::fs::File;
 use std::net::Net;
-use std::rt::{Clock, Files};
+use std::rt::Clock;
 
 /// Stores that read the world of a mailbox, as the next run finds it.
 pub(crate) trait WorldStores: Stores {
@@ -26,7 +26,7 @@ pub(crate) trait WorldStores: Stores {
 }
 
 impl<
-    R: Net + Files<File = File> + Clock + AllocGlobal + Clone + Drop,
+    R: Net + LockFiles + Clock + AllocGlobal + Clone + Drop,
     P: Progress + Waits + Copy,
     C: Openings,
 > WorldStores for MailStores<R, P, C> {

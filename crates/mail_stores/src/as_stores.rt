@@ -20,14 +20,14 @@ use config::config::{ImapStore, MaildirStore};
 use imap_client::waits::Waits;
 use mailcore::mailbox_name::MailboxName;
 use mailcore::side::Side;
+use near_places::lock::LockFiles;
 use runner::progress::Progress;
 use std::alloc::AllocError;
-use std::fs::File;
 use std::net::Net;
-use std::rt::{Clock, Files};
+use std::rt::Clock;
 
 impl<
-    R: Net + Files<File = File> + Clock + AllocGlobal + Clone + Drop,
+    R: Net + LockFiles + Clock + AllocGlobal + Clone + Drop,
     P: Progress + Waits + Copy,
     C,
 > MailStores<R, P, C> {
@@ -109,7 +109,7 @@ impl<
 }
 
 impl<
-    R: Net + Files<File = File> + Clock + AllocGlobal + Clone + Drop,
+    R: Net + LockFiles + Clock + AllocGlobal + Clone + Drop,
     P: Progress + Waits + Copy,
     C: Openings,
 > BoxLists for MailStores<R, P, C> {
@@ -149,7 +149,7 @@ impl<
 }
 
 impl<
-    R: Net + Files<File = File> + Clock + AllocGlobal + Clone + Drop,
+    R: Net + LockFiles + Clock + AllocGlobal + Clone + Drop,
     P: Progress + Waits + Copy,
     C: Openings,
 > Stores for MailStores<R, P, C> {

@@ -36,10 +36,10 @@ impl<L: Link + Drop, F: Folder + Drop, S: Shelf + Drop, G: Guard + Drop> Guarded
     /// Lends both sides, which are those of this mailbox, and does this over them, while its lock is held. Its calls stop where the guard
     /// says no. All is closed then, and is given back beside what the work came to. The UIDVALIDITY of the near mailbox is `fresh` where it
     /// has none, and its map of keywords is that of the far one.
-    pub(crate) fn work<W: Work + Drop, P: Progress>(
+    pub(crate) fn work<W: Work + Drop, P: Progress, K>(
         self,
         place: ChannelBox<'_>,
-        _lock: &Lock,
+        _lock: &Lock<K>,
         alloc: Global,
         fresh: NonZeroU32,
         keywords: Keywords,

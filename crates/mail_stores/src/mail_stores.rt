@@ -34,15 +34,14 @@ use mailcore::keywords::Keywords;
 use mailcore::mailbox_name::MailboxName;
 use maildir::disk_folder::DiskFolder;
 use near_places::home::Home;
-use near_places::lock::{Lock, LockFault};
+use near_places::lock::{Lock, LockFault, LockFiles};
 use near_places::refusal::PlaceRefusal;
 use runner::progress::Progress;
 use std::alloc::{AllocError, Global};
-use std::fs::File;
 use std::marker::{Brand, PhantomData};
 use std::net::Net;
 use std::num::NonZeroU32;
-use std::rt::{Clock, Files};
+use std::rt::Clock;
 
 /// The stores of a configuration: mailboxes at IMAP servers, and folders of a disk.
 ///
@@ -54,7 +53,7 @@ use std::rt::{Clock, Files};
 /// `C` is a choice of openings (`Openings`): it takes no memory, and changes nothing.
 #[derive(Drop)]
 pub struct MailStores<
-    R: Net + Files<File = File> + Clock + AllocGlobal + Clone + Drop,
+    R: Net + LockFiles + Clock + AllocGlobal + Clone + Drop,
     P,
     C = Brand,
     L: Link = RealLink<R, P>,
@@ -78,7 +77,7 @@ pub struct MailStores<
 }
 
 impl<
-    R: Net + Files<File = File> + Clock + AllocGlobal + Clone + Drop,
+    R: Net + LockFiles + Clock + AllocGlobal + Clone + Drop,
     P: Progress + Waits + Copy,
     C,
 > MailStores<R, P, C> {
@@ -261,7 +260,7 @@ impl<
         &mut self,
         place: ChannelBox<'_>,
         folder: &str,
-        lock: &Lock,
+        lock: &Lock<R::File>,
         sides: RealSides<R, P>,
         keywords: Keywords,
         work: W,
@@ -374,7 +373,7 @@ impl<
 }
 
 /// Both sides of a mailbox.
-fn sides_of<R: Net + Files<File = File> + Clock + AllocGlobal + Clone + Drop, P: Waits + Copy>(
+fn sides_of<R: Net + LockFiles + Clock + AllocGlobal + Clone + Drop, P: Waits + Copy>(
     far: FarSide<RealLink<R, P>>,
     near: NearParts<R>,
 ) -> RealSides<R, P>

@@ -21,12 +21,11 @@ use mailcore::keywords::Keywords;
 use maildir::disk_folder::DiskFolder;
 use near_places::boxes::{NearBoxes, near_boxes, near_folder};
 use near_places::home::Home;
-use near_places::lock::LockFault;
+use near_places::lock::{LockFault, LockFiles};
 use near_places::names::has_own_part;
 use near_places::refusal::{OWN_PART, PlaceRefusal};
 use std::alloc::AllocError;
 use std::fs;
-use std::fs::File;
 use std::io::ErrorKind;
 use std::net::Net;
 use std::num::NonZeroU32;
@@ -51,7 +50,7 @@ pub(crate) type RealSides<R, W> = GuardedSides<
 
 /// The near side of a mailbox: its folder, its book, and the look into it.
 #[derive(Drop)]
-pub(crate) struct NearParts<R: Files<File = File> + AllocGlobal + Clone + Drop> {
+pub(crate) struct NearParts<R: Files + AllocGlobal + Clone + Drop> {
     pub(crate) folder: DiskFolder<R>,
     pub(crate) shelf: DiskShelf<R>,
     pub(crate) look: NearLook<R>,
@@ -59,7 +58,7 @@ pub(crate) struct NearParts<R: Files<File = File> + AllocGlobal + Clone + Drop> 
 
 /// Where the mailboxes of a user are. Nothing of them is open.
 #[derive(Drop)]
-pub(crate) struct Reach<R: Net + Files<File = File> + AllocGlobal + Clone + Drop, W> {
+pub(crate) struct Reach<R: Net + LockFiles + AllocGlobal + Clone + Drop, W> {
     /// The system.
     pub(crate) rt: R,
     /// The home folder.
@@ -72,10 +71,7 @@ pub(crate) struct Reach<R: Net + Files<File = File> + AllocGlobal + Clone + Drop
     pub(crate) waits: W,
 }
 
-impl<R: Net + Files<File = File> + Clock + AllocGlobal + Clone + Drop, W: Waits + Copy> Reach<
-    R,
-    W,
-> {
+impl<R: Net + LockFiles + Clock + AllocGlobal + Clone + Drop, W: Waits + Copy> Reach<R, W> {
     /// A new session at the server of a store, which is seen by this map of keywords.
     pub(crate) fn log_in(
         &self,

@@ -12,19 +12,18 @@ use channels::channel_box::ChannelBox;
 use channels::store_fault::StoreFault;
 use imap_client::waits::Waits;
 use maildir::disk_folder::DiskFolder;
-use near_places::lock::{Lock, LockFault};
+use near_places::lock::{Lock, LockFault, LockFiles};
 use rules::options::Sides;
 use runner::fault::RunFault;
 use runner::progress::Progress;
-use std::fs::File;
 use std::net::Net;
-use std::rt::{Clock, Files};
+use std::rt::Clock;
 
 /// What is there of a near mailbox on a disk.
 type DiskFiles<R> = NearFiles<DiskFolder<R>, DiskShelf<R>>;
 
 impl<
-    R: Net + Files<File = File> + Clock + AllocGlobal + Clone + Drop,
+    R: Net + LockFiles + Clock + AllocGlobal + Clone + Drop,
     P: Progress + Waits + Copy,
     C,
 > MailStores<R, P, C> {

@@ -45,19 +45,31 @@ impl<T: Drop> From<AllocFailed<T>> for LockFault {
     }
 }
 
-/// The lock of a near mailbox. It is held until the value is dropped, and not longer than the process lives: a file that a killed
-/// process has left is no lock.
+/// A system whose files can be locked.
+pub trait LockFiles: Files {
+    /// Locks a file that is open, without waiting, until it is closed. `WouldBlock`: it is open elsewhere too, and locked there.
+    fn try_lock(&self, file: &Self::File) -> Result<(), TryLockError>;
+}
+
+impl LockFiles for HostRuntime {
+    fn try_lock(&self, file: &File) -> Result<(), TryLockError> {
+        file.try_lock()
+    }
+}
+
+/// The lock of a near mailbox, over a file of type `F`. It is held until the value is dropped, and not longer than the process lives: a
+/// file that a killed process has left is no lock.
 #[derive(Drop)]
-pub struct Lock {
-    _file: File,
+pub struct Lock<F> {
+    _file: F,
     folder: String,
 }
 
-impl Lock {
+impl<F> Lock<F> {
     /// Takes the lock of the mailbox in this folder, without waiting.
     ///
     /// `Held`: another process has it. `Refused`: the file of the lock cannot be opened or locked; its path is reported.
-    pub fn take<R: Files<File = File> + AllocGlobal>(
+    pub fn take<R: LockFiles<File = F> + AllocGlobal>(
         rt: &R,
         folder: &str,
     ) -> Result<Self, LockFault>
@@ -72,7 +84,7 @@ impl Lock {
     }
 
     /// The same, where the file of the lock is there. It is not made: None is given then, since no process has synchronised the mailbox.
-    pub fn take_made<R: Files<File = File> + AllocGlobal>(
+    pub fn take_made<R: LockFiles<File = F> + AllocGlobal>(
         rt: &R,
         folder: &str,
     ) -> Result<Option<Self>, LockFault>
@@ -88,17 +100,17 @@ impl Lock {
     }
 
     /// Locks the file at this path, that of the mailbox in this folder.
-    fn of_file<R: AllocGlobal>(
+    fn of_file<R: LockFiles<File = F> + AllocGlobal>(
         rt: &R,
         folder: &str,
         path: &str,
-        file: File,
+        file: F,
     ) -> Result<Self, LockFault>
         ensures folder { IfOk result (λ lock. string_bytes lock.folder ≡ folder.now) }
         ensures fault { IfErr result (ReportsLock path.now) }
     {
         let folder = String::from_str(rt.alloc(), folder)?;
-        match file.try_lock() {
+        match rt.try_lock(&file) {
             Ok(()) => Ok(Lock {
                 _file: file,
                 folder,
@@ -110,7 +122,7 @@ impl Lock {
 }
 
 /// The file of the lock, made if it is not there. No link is followed, and nothing but a file is opened: a fifo would not answer.
-fn lock_file<R: Files<File = File>>(rt: &R, path: &str) -> io::Result<File> {
+fn lock_file<R: Files>(rt: &R, path: &str) -> io::Result<R::File> {
     let mut options = OpenOptions::new();
     options.write(true).create_new(true).mode(FILE_MODE);
     match options.open(rt, path) {
@@ -120,7 +132,7 @@ fn lock_file<R: Files<File = File>>(rt: &R, path: &str) -> io::Result<File> {
 }
 
 /// The file of the lock that is there.
-fn open_lock_file<R: Files<File = File>>(rt: &R, path: &str) -> io::Result<File> {
+fn open_lock_file<R: Files>(rt: &R, path: &str) -> io::Result<R::File> {
     if !fs::symlink_metadata(rt, path)?.is_file() {
         return Err(io::Error::from(ErrorKind::InvalidInput));
     }

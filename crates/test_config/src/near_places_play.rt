@@ -33,6 +33,7 @@ use near_places::home::Home;
 use near_places::lock::{Lock, LockFault};
 use near_places::refusal::PlaceRefusal;
 use std::alloc::{AllocError, Global};
+use std::fs::File;
 use std::mem;
 use test_scripts::failure::Failure;
 use test_scripts::play::{Player, play_all};
@@ -69,7 +70,7 @@ struct Scene<'a> {
     ground: &'a Ground,
     home: Home,
     store: MaildirStore,
-    locks: Vec<Lock>,
+    locks: Vec<Lock<File>>,
 }
 
 impl Player for Scene<'_> {

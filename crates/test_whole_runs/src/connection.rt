@@ -54,8 +54,8 @@ impl Read for Connection<'_> {
 
 impl Write for Connection<'_> {
     fn write(&mut self, buf: &[u8]) -> io::Result<usize> {
-        self.host.calls.begin()?;
-        let count = self.feed(buf);
+        let part = self.host.calls.begin_write(buf)?;
+        let count = self.feed(part);
         self.host.calls.end(count)
     }
 

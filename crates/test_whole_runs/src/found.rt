@@ -1,5 +1,7 @@
 //! The messages that are found on both sides.
 
+use crate::home::at_home;
+use crate::mem_disk::MemDisk;
 use imap_server::server::Server;
 use mailcore::tuid::TUID_LENGTH;
 use std::alloc::Global;
@@ -20,29 +22,29 @@ pub struct FoundMessages {
 impl FoundMessages {
     /// Those of a server and of these folders below the home folder.
     pub fn read(
-        rt: &HostRuntime,
+        disk: &MemDisk,
         server: &Server,
-        home: &str,
         folders: &[String],
     ) -> Result<FoundMessages, Failure> {
+        let alloc = disk.alloc();
         let mut found = FoundMessages {
-            lines: Vec::new(rt.alloc()),
+            lines: Vec::new(alloc),
         };
         for mailbox in server.mailboxes() {
             for message in mailbox.messages.as_slice() {
-                let mut line = Reported::new(rt.alloc());
+                let mut line = Reported::new(alloc);
                 line.text("far ");
                 line.text(mailbox.name.as_str());
                 line.text(" ");
                 line.flags(message.flags);
-                found.add(rt.alloc(), line, message.bytes.as_slice())?;
+                found.add(alloc, line, message.bytes.as_slice())?;
             }
         }
         for folder in folders {
             for part in ["cur", "new"] {
                 let folder = folder.as_str();
-                let path = format!(in rt.alloc(); "{home}/{folder}/{part}")?;
-                found.add_files(rt, folder, path.as_str())?;
+                let path = format!(in alloc; "{folder}/{part}")?;
+                found.add_files(disk, folder, at_home(alloc, path.as_str())?.as_str())?;
             }
         }
         found.lines.sort()?;
@@ -72,30 +74,30 @@ impl FoundMessages {
     }
 
     /// Adds the files of one folder, if it is there.
-    fn add_files(&mut self, rt: &HostRuntime, folder: &str, path: &str) -> Result<(), Failure> {
-        if fs::metadata(rt, path).is_err() {
+    fn add_files(&mut self, disk: &MemDisk, folder: &str, path: &str) -> Result<(), Failure> {
+        if fs::metadata(disk, path).is_err() {
             return Ok(());
         }
-        for entry in fs::read_dir(rt, path)? {
-            self.add_file(rt, folder, entry)?;
+        for entry in fs::read_dir(&disk, path)? {
+            self.add_file(disk, folder, entry)?;
         }
         Ok(())
     }
 
     fn add_file(
         &mut self,
-        rt: &HostRuntime,
+        disk: &MemDisk,
         folder: &str,
-        entry: io::Result<DirEntry<HostRuntime>>,
+        entry: io::Result<DirEntry<&MemDisk>>,
     ) -> Result<(), Failure> {
         let entry = entry?;
-        let bytes = fs::read(rt, entry.path())?;
-        let mut line = Reported::new(rt.alloc());
+        let bytes = fs::read(disk, entry.path())?;
+        let mut line = Reported::new(disk.alloc());
         line.text("near ");
         line.text(folder);
         line.text(" ");
         line.text(letters_in(entry.file_name().as_bytes()));
-        self.add(rt.alloc(), line, &bytes)
+        self.add(disk.alloc(), line, &bytes)
     }
 }
 

@@ -11,11 +11,14 @@
 //! | `state`, `journal` | the bytes of this file after a run, or `missing` |
 //! | `cut everywhere` | the lines before it in the case are played with each beginning of what the server says in them: what the runs answer, and at which places |
 //!
-//! **Of the program**, with [`program_play::run`]: mbsync from the words of the command line to the exit status, over a server in memory and folders of a disk.
+//! **Of the program**, with [`program_play::run`]: mbsync from the words of the command line to the exit status, over a server and folders in
+//! memory.
 //!
-//! It runs on a machine of its own ([`machine::Machine`]). Its home folder is a new one of the disk, `/dev/urandom` always gives
-//! the same bytes, its clock stands, and whatever address it connects to is a server in memory, for the user `u` with the password `p`.
-//! Each of its calls of the system can be interrupted, but for those on a file that is open: then each later one fails too.
+//! It runs on a machine of its own ([`machine::Machine`]). Its disk is in memory, with an empty home folder, and `/dev/urandom` always gives
+//! the same bytes. Its clock stands, and whatever address it connects to is a server in memory, for the user `u` with the password `p`.
+//! Each of its calls of the system can be interrupted, those on an open file and on a connection among them: then each later one fails too.
+//! Only folders have times, and these stand still. What was written but not synced is kept, as where a process is killed and the system goes
+//! on.
 //!
 //! FLAGS are letters, or `-` for none. Bytes between quotes are escaped as in worlds (docs/FORMATS.md). A line `case NAME` begins anew, with
 //! no mailbox and an empty home folder. Lines of the scene say what stands at first:
@@ -36,21 +39,28 @@
 //! |---|---|
 //! | `run WORDS` | the exit status, and what is printed; the next line finds what this run left |
 //! | `show` | the messages of both sides, without marks, and whose they are |
-//! | `stops WORDS` | From the scene, the program runs and is interrupted at one call of the system, before its effect or after it, and runs again: for each call. Whether each time this left the same messages as a run that nothing interrupts, and nothing to do |
+//! | `stops WORDS` | From the scene, the program runs and is interrupted at one call of the system, before its effect, after it, or after it has written the first half of its bytes, and runs again, unless the interruption before has left the same: for each call. Whether each time this left the same messages as a run that nothing interrupts, and nothing to do |
 #![tactic(auto)]
 
 mod calls;
 mod connection;
+mod counted_file;
 mod cuts;
 mod found;
-mod ground;
+mod home;
 pub mod lying_play;
 mod lying_stage;
 pub mod machine;
+mod mem_content;
+mod mem_dir;
+mod mem_disk;
+mod mem_file;
+mod mem_tree;
 mod near;
 pub mod program_play;
 mod program_stage;
 mod scene;
 mod stops;
+mod system_folders;
 mod whole_run;
 mod world;

@@ -2,31 +2,29 @@
 
 use crate::calls::Calls;
 use crate::connection::{Connection, NoListener};
+use crate::counted_file::{CountedDir, CountedFile};
+use crate::home::HOME;
+use crate::mem_disk::MemDisk;
 use imap_server::server::Server;
+use near_places::lock::LockFiles;
 use std::alloc::{Allocator, Global};
 use std::cell::RefCell;
 use std::env::{Env, FillError};
-use std::fs::{File, Metadata, OpenOptions};
+use std::fs::{Metadata, OpenOptions, TryLockError};
 use std::io;
 use std::io::ErrorKind;
 use std::net::{Net, SocketAddr};
 use std::rt::{Clock, Files};
 use std::time::Duration;
 
-/// Where a program reads random bytes.
-const RANDOM: &str = "/dev/urandom";
-
-/// The seconds since 1970 at which its clock stands: in 2100, later than all times of files.
+/// The seconds since 1970 at which its clock stands: in 2100, later than all times of folders.
 const NOW: u64 = 4_102_444_800;
 
-/// What a machine has: a home folder on a disk, a file that stands in for `/dev/urandom`, and the server at all addresses. Its calls are
-/// counted, and may be interrupted.
+/// What a machine has: a disk, and the server at all addresses. Its calls are counted, and may be interrupted.
 #[derive(Drop)]
 pub struct Host {
-    /// The path of the home folder.
-    pub home: String,
-    /// The path of the file with the random bytes.
-    pub random: String,
+    /// The disk.
+    pub disk: MemDisk,
     /// The calls of the system.
     pub calls: Calls,
     /// The server.
@@ -36,7 +34,7 @@ pub struct Host {
 /// The machine, as a program runs on it.
 #[derive(Clone, Copy)]
 pub struct Machine<'a> {
-    /// The system that has the disk.
+    /// The system that has the memory.
     pub rt: HostRuntime,
     /// The rest.
     pub host: &'a Host,
@@ -69,7 +67,7 @@ impl Env for Machine<'_> {
         if name != "HOME" {
             return Err(FillError::NotPresent);
         }
-        let home = self.host.home.as_str().as_bytes();
+        let home = HOME.as_bytes();
         if home.len() > buf.len() {
             return Err(FillError::TooLong);
         }
@@ -82,34 +80,37 @@ impl Env for Machine<'_> {
     }
 }
 
-impl Files for Machine<'_> {
-    type File = File;
+impl<'a> Files for Machine<'a> {
+    type File = CountedFile<'a>;
 
-    type Dir = <HostRuntime as Files>::Dir;
+    type Dir = CountedDir<'a>;
 
-    fn open_file(&self, how: &OpenOptions, path: &str) -> io::Result<File> {
-        self.host.calls.begin()?;
-        let path = if path == RANDOM {
-            self.host.random.as_str()
+    fn open_file(&self, how: &OpenOptions, path: &str) -> io::Result<CountedFile<'a>> {
+        let Host { calls, disk, .. } = self.host;
+        if how.asks_create() || how.asks_create_new() || how.asks_truncate() {
+            calls.begin_change()?;
         } else {
-            path
-        };
-        self.host.calls.end(self.rt.open_file(how, path))
+            calls.begin()?;
+        }
+        let file = calls.end(disk.open_file(how, path))?;
+        Ok(CountedFile::new(calls, file))
     }
 
-    fn open_dir(&self, path: &str) -> io::Result<Self::Dir> {
-        self.host.calls.begin()?;
-        self.host.calls.end(self.rt.open_dir(path))
+    fn open_dir(&self, path: &str) -> io::Result<CountedDir<'a>> {
+        let Host { calls, disk, .. } = self.host;
+        calls.begin()?;
+        let dir = calls.end(disk.open_dir(path))?;
+        Ok(CountedDir::new(calls, dir))
     }
 
     fn metadata(&self, path: &str) -> io::Result<Metadata> {
         self.host.calls.begin()?;
-        self.host.calls.end(Files::metadata(&self.rt, path))
+        self.host.calls.end(self.host.disk.metadata(path))
     }
 
     fn symlink_metadata(&self, path: &str) -> io::Result<Metadata> {
         self.host.calls.begin()?;
-        self.host.calls.end(self.rt.symlink_metadata(path))
+        self.host.calls.end(self.host.disk.symlink_metadata(path))
     }
 
     fn copy(&self, _from: &str, _to: &str) -> io::Result<u64> {
@@ -117,25 +118,25 @@ impl Files for Machine<'_> {
     }
 
     fn rename(&self, from: &str, to: &str) -> io::Result<()> {
-        self.host.calls.begin()?;
-        self.host.calls.end(self.rt.rename(from, to))
+        self.host.calls.begin_change()?;
+        self.host.calls.end(self.host.disk.rename(from, to))
     }
 
     fn remove_file(&self, path: &str) -> io::Result<()> {
-        self.host.calls.begin()?;
-        self.host.calls.end(self.rt.remove_file(path))
+        self.host.calls.begin_change()?;
+        self.host.calls.end(self.host.disk.remove_file(path))
     }
 
     fn create_dir(&self, path: &str) -> io::Result<()> {
-        self.host.calls.begin()?;
-        self.host.calls.end(self.rt.create_dir(path))
+        self.host.calls.begin_change()?;
+        self.host.calls.end(self.host.disk.create_dir(path))
     }
 
     fn create_dir_with_mode(&self, path: &str, mode: u32) -> io::Result<()> {
-        self.host.calls.begin()?;
+        self.host.calls.begin_change()?;
         self.host
             .calls
-            .end(self.rt.create_dir_with_mode(path, mode))
+            .end(self.host.disk.create_dir_with_mode(path, mode))
     }
 
     fn remove_dir(&self, _path: &str) -> io::Result<()> {
@@ -144,6 +145,12 @@ impl Files for Machine<'_> {
 
     fn remove_dir_all<B: Allocator>(&self, _alloc: B, _path: &str) -> io::Result<()> {
         Err(io::Error::from(ErrorKind::Unsupported))
+    }
+}
+
+impl<'a> LockFiles for Machine<'a> {
+    fn try_lock(&self, file: &CountedFile<'a>) -> Result<(), TryLockError> {
+        file.try_lock()
     }
 }
 
@@ -157,7 +164,7 @@ impl<'a> Net for Machine<'a> {
     }
 
     fn connect(&self, _addr: SocketAddr) -> io::Result<Connection<'a>> {
-        self.host.calls.begin()?;
+        self.host.calls.begin_change()?;
         let connection = Connection::open(self.alloc(), self.host);
         self.host.calls.end(connection)
     }

@@ -1,6 +1,5 @@
 //! Who plays the scripts.
 
-use crate::ground::Ground;
 use crate::program_stage::ProgramStage;
 use crate::scene::Scene;
 use crate::stops::play_stops;
@@ -11,16 +10,8 @@ use test_scripts::words::Words;
 
 /// Plays a script of whole runs.
 pub fn run(rt: &HostRuntime, script: &mut Script<'_>) -> Result<(), Failure> {
-    let ground = Ground::new(rt)?;
-    let played = play_on(rt, &ground, script);
-    drop(ground);
-    played
-}
-
-fn play_on(rt: &HostRuntime, ground: &Ground, script: &mut Script<'_>) -> Result<(), Failure> {
     let mut desk = Desk {
         rt: *rt,
-        ground,
         scene: Scene::new(rt.alloc()),
         stage: None,
     };
@@ -31,14 +22,13 @@ fn play_on(rt: &HostRuntime, ground: &Ground, script: &mut Script<'_>) -> Result
 
 /// The scene of a case, and the stage, once the program has run on it.
 #[derive(Drop)]
-struct Desk<'a> {
+struct Desk {
     rt: HostRuntime,
-    ground: &'a Ground,
     scene: Scene,
     stage: Option<ProgramStage>,
 }
 
-impl Player for Desk<'_> {
+impl Player for Desk {
     fn begin(&mut self) -> Result<(), Failure> {
         self.stage = None;
         self.scene = Scene::new(self.rt.alloc());
@@ -54,20 +44,14 @@ impl Player for Desk<'_> {
             "stops" => {
                 let words = self.words(line)?;
                 self.stage = None;
-                play_stops(
-                    &self.rt,
-                    self.ground,
-                    &self.scene,
-                    &words,
-                    &mut script.reported,
-                )
+                play_stops(&self.rt, &self.scene, &words, &mut script.reported)
             }
             word => self.scene.add(self.rt.alloc(), word, line.rest()),
         }
     }
 }
 
-impl Desk<'_> {
+impl Desk {
     /// The words of a command line.
     fn words(&self, line: &mut Words<'_>) -> Result<Vec<String>, Failure> {
         let alloc = self.rt.alloc();
@@ -82,7 +66,7 @@ impl Desk<'_> {
     /// The stage as the last run left it, or the scene.
     fn stage(&mut self) -> Result<&ProgramStage, Failure> {
         if self.stage.is_none() {
-            self.stage = Some(ProgramStage::new(&self.rt, self.ground, &self.scene)?);
+            self.stage = Some(ProgramStage::new(&self.rt, &self.scene)?);
         }
         self.stage.as_ref().ok_or(Failure::Script)
     }

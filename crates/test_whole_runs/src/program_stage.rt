@@ -2,7 +2,7 @@
 
 use crate::calls::{Calls, Stop};
 use crate::found::FoundMessages;
-use crate::ground::Ground;
+use crate::home::new_disk;
 use crate::machine::{Host, Machine};
 use crate::scene::Scene;
 use command_line::read::read_words;
@@ -30,17 +30,21 @@ pub struct Ran {
     pub err: Vec<u8>,
     /// How many calls of the system there were.
     pub calls: u32,
+    /// How many of them had an effect that outlasts the run.
+    pub changes: u32,
+    /// Whether the one at which it was interrupted writes.
+    pub was_write: bool,
 }
 
 impl ProgramStage {
     /// A scene, as it stands at first.
-    pub fn new(rt: &HostRuntime, ground: &Ground, scene: &Scene) -> Result<ProgramStage, Failure> {
-        let server = scene.stand(rt, ground)?;
+    pub fn new(rt: &HostRuntime, scene: &Scene) -> Result<ProgramStage, Failure> {
+        let disk = new_disk(rt)?;
+        let server = scene.stand(&disk)?;
         Ok(ProgramStage {
             rt: *rt,
             host: Host {
-                home: String::from_str(rt.alloc(), ground.home.as_str())?,
-                random: String::from_str(rt.alloc(), ground.random.as_str())?,
+                disk,
                 calls: Calls::new(),
                 server: RefCell::new(server),
             },
@@ -66,18 +70,15 @@ impl ProgramStage {
             out,
             err,
             calls: self.host.calls.count(),
+            changes: self.host.calls.changes(),
+            was_write: self.host.calls.is_write(),
         })
     }
 
     /// The messages of both sides.
     pub fn found(&self, scene: &Scene) -> Result<FoundMessages, Failure> {
         match self.host.server.try_borrow() {
-            Ok(server) => FoundMessages::read(
-                &self.rt,
-                &server,
-                self.host.home.as_str(),
-                &scene.folders,
-            ),
+            Ok(server) => FoundMessages::read(&self.host.disk, &server, &scene.folders),
             Err(_) => Err(Failure::Device),
         }
     }

@@ -3,7 +3,8 @@
 ghost use Rattle.std.specs.Prelude.{IfOk};
 ghost use Rattle.imap_server.specs.Boxes.{AreServed};
 
-use crate::ground::Ground;
+use crate::home::at_home;
+use crate::mem_disk::MemDisk;
 use crate::world::{FOLDER, config_of, place_world};
 use imap_server::served::are_served;
 use imap_server::server::Server;
@@ -67,54 +68,50 @@ impl Scene {
         Ok(self.lines.extend_from_slice(b"\n")?)
     }
 
-    /// Has all stand there anew, and gives the server.
-    pub fn stand(&self, rt: &HostRuntime, ground: &Ground) -> Result<Server, Failure> {
-        ground.renew()?;
-        fs::write(rt, ground.at(".mbsyncrc")?.as_str(), &self.config)?;
-        let mut mailboxes = Vec::new(rt.alloc());
-        let mut keywords = Keywords::new(rt.alloc());
+    /// Has all stand on a disk with an empty home folder, and gives the server.
+    pub fn stand(&self, disk: &MemDisk) -> Result<Server, Failure> {
+        let alloc = disk.alloc();
+        fs::write(disk, at_home(alloc, ".mbsyncrc")?.as_str(), &self.config)?;
+        let mut mailboxes = Vec::new(alloc);
+        let mut keywords = Keywords::new(alloc);
         for line in self.lines.split_inclusive(|byte| *byte == b'\n') {
-            place(rt, ground, &mut mailboxes, line)?;
+            place(disk, &mut mailboxes, line)?;
         }
         if let Some(text) = &self.world {
-            let far = place_world(rt, ground, text)?;
+            let far = place_world(disk, text)?;
             mailboxes.push(far.mailbox)?;
             keywords = far.keywords;
         }
-        serve(rt.alloc(), mailboxes, keywords)
+        serve(alloc, mailboxes, keywords)
     }
 }
 
 /// Has stand there what a line says.
-fn place(
-    rt: &HostRuntime,
-    ground: &Ground,
-    mailboxes: &mut Vec<StoredMailbox>,
-    line: &[u8],
-) -> Result<(), Failure> {
+fn place(disk: &MemDisk, mailboxes: &mut Vec<StoredMailbox>, line: &[u8]) -> Result<(), Failure> {
+    let alloc = disk.alloc();
     let mut words = Words::new(line.strip_suffix(b"\n").unwrap_or(line));
     match words.word() {
-        "mailbox" => add_mailbox(rt.alloc(), mailboxes, &mut words)?,
-        "message" => add_message(rt.alloc(), mailboxes, &mut words)?,
-        "folder" => make_folder(rt, ground, words.text())?,
+        "mailbox" => add_mailbox(alloc, mailboxes, &mut words)?,
+        "message" => add_message(alloc, mailboxes, &mut words)?,
+        "folder" => make_folder(disk, words.text())?,
         "look" => {
             words.text();
         }
         "file" => {
-            let path = ground.at(words.word())?;
-            let bytes = words.bytes(rt.alloc())?;
-            fs::write(rt, path.as_str(), &bytes)?;
+            let path = at_home(alloc, words.word())?;
+            let bytes = words.bytes(alloc)?;
+            fs::write(disk, path.as_str(), &bytes)?;
         }
         _ => words.refuse(),
     }
     words.end()
 }
 
-fn make_folder(rt: &HostRuntime, ground: &Ground, path: &str) -> Result<(), Failure> {
-    let top = ground.at(path)?;
+fn make_folder(disk: &MemDisk, path: &str) -> Result<(), Failure> {
+    let top = at_home(disk.alloc(), path)?;
     for part in PARTS {
-        let path = format!(in rt.alloc(); "{top}/{part}")?;
-        fs::create_dir_all(rt, path.as_str())?;
+        let path = format!(in disk.alloc(); "{top}/{part}")?;
+        fs::create_dir_all(disk, path.as_str())?;
     }
     Ok(())
 }

@@ -2,7 +2,6 @@
 
 use crate::calls::Stop;
 use crate::found::FoundMessages;
-use crate::ground::Ground;
 use crate::program_stage::{ProgramStage, Ran};
 use crate::scene::Scene;
 use test_scripts::failure::Failure;
@@ -40,75 +39,125 @@ impl Difference {
 /// Interrupts runs with these words at each call of the system, and answers whether each was made good by the run after it.
 pub fn play_stops(
     rt: &HostRuntime,
-    ground: &Ground,
     scene: &Scene,
     words: &[String],
     reported: &mut Reported,
 ) -> Result<(), Failure> {
-    let stage = ProgramStage::new(rt, ground, scene)?;
-    let unbroken = Unbroken {
-        run: stage.run(words, None)?,
-        found: stage.found(scene)?,
-        idle: stage.run(words, None)?,
-    };
-    drop(stage);
+    let unbroken = Unbroken::make(rt, scene, words)?;
     if unbroken.run.status != 0 {
         unbroken.run.print(reported);
         return Ok(());
     }
-    let mut are_good = true;
+    let mut interruptions = Interruptions {
+        rt,
+        scene,
+        words,
+        unbroken: &unbroken,
+        are_good: true,
+        compared: None,
+    };
     for number in 1..=unbroken.run.calls {
-        for stop in [Stop::Before(number), Stop::After(number)] {
-            let stage = ProgramStage::new(rt, ground, scene)?;
-            let difference = compared(&stage, scene, words, stop, &unbroken)?;
-            drop(stage);
-            if let Some(difference) = difference {
-                are_good = false;
-                print_difference(reported, stop, difference);
-            }
-        }
+        interruptions.interrupt(number, reported)?;
     }
-    if are_good {
+    if interruptions.are_good {
         reported.answer("interrupted before and after each call: made good by the run after it");
     }
     Ok(())
 }
 
-/// The first difference of what stands after an interrupted run and another one.
-fn compared(
-    stage: &ProgramStage,
-    scene: &Scene,
-    words: &[String],
-    stop: Stop,
-    unbroken: &Unbroken,
-) -> Result<Option<Difference>, Failure> {
-    drop(stage.run(words, Some(stop))?);
-    if stage.run(words, None)?.status != 0 {
-        return Ok(Some(Difference::Status));
+impl Unbroken {
+    fn make(rt: &HostRuntime, scene: &Scene, words: &[String]) -> Result<Unbroken, Failure> {
+        let stage = ProgramStage::new(rt, scene)?;
+        Ok(Unbroken {
+            run: stage.run(words, None)?,
+            found: stage.found(scene)?,
+            idle: stage.run(words, None)?,
+        })
     }
-    if !stage.found(scene)?.are(&unbroken.found) {
-        return Ok(Some(Difference::Messages));
+}
+
+/// Runs that are interrupted.
+#[derive(Drop)]
+struct Interruptions<'a> {
+    rt: &'a HostRuntime,
+    scene: &'a Scene,
+    words: &'a [String],
+    unbroken: &'a Unbroken,
+    /// Whether each so far was made good.
+    are_good: bool,
+    /// After how many changes the run was interrupted that was compared last.
+    compared: Option<u32>,
+}
+
+impl Interruptions<'_> {
+    /// Interrupts runs at this call: before and after it, and where it writes also in the middle.
+    fn interrupt(&mut self, number: u32, reported: &mut Reported) -> Result<(), Failure> {
+        let is_write = self.play(Stop::Before(number), reported)?;
+        if is_write {
+            self.play(Stop::Within(number), reported)?;
+        }
+        self.play(Stop::After(number), reported)?;
+        Ok(())
     }
-    let idle = stage.run(words, None)?;
-    let is_idle = idle.status == 0 && idle.out == unbroken.idle.out;
-    drop(idle);
-    Ok(if is_idle {
-        None
-    } else {
-        Some(Difference::LeftToDo)
-    })
+
+    /// Interrupts a run. Whether the call at which it was interrupted writes.
+    ///
+    /// The clock stands and random bytes are the same each time, so after the same changes the same stands there: the runs after it are
+    /// made once.
+    fn play(&mut self, stop: Stop, reported: &mut Reported) -> Result<bool, Failure> {
+        let stage = ProgramStage::new(self.rt, self.scene)?;
+        let ran = stage.run(self.words, Some(stop))?;
+        if stop.is_within() {
+            self.compare(&stage, stop, reported)?;
+        } else if self.compared != Some(ran.changes) {
+            self.compare(&stage, stop, reported)?;
+            self.compared = Some(ran.changes);
+        }
+        Ok(ran.was_write)
+    }
+
+    /// Makes the runs after an interrupted one, and answers how they differ.
+    fn compare(
+        &mut self,
+        stage: &ProgramStage,
+        stop: Stop,
+        reported: &mut Reported,
+    ) -> Result<(), Failure> {
+        if let Some(difference) = self.difference(stage)? {
+            self.are_good = false;
+            print_difference(reported, stop, difference);
+        }
+        Ok(())
+    }
+
+    /// The first difference of what stands after an interrupted run and another one.
+    fn difference(&self, stage: &ProgramStage) -> Result<Option<Difference>, Failure> {
+        if stage.run(self.words, None)?.status != 0 {
+            return Ok(Some(Difference::Status));
+        }
+        if !stage.found(self.scene)?.are(&self.unbroken.found) {
+            return Ok(Some(Difference::Messages));
+        }
+        let idle = stage.run(self.words, None)?;
+        if idle.status == 0 && idle.out == self.unbroken.idle.out {
+            Ok(None)
+        } else {
+            Ok(Some(Difference::LeftToDo))
+        }
+    }
 }
 
 fn print_difference(reported: &mut Reported, stop: Stop, difference: Difference) {
-    let (moment, number) = match stop {
-        Stop::Before(number) => ("before", number),
-        Stop::After(number) => ("after", number),
+    let moment = match stop {
+        Stop::Before(_) => "before",
+        Stop::Within(_) => "within",
+        Stop::After(_) => "after",
     };
     reported.begin();
     reported.text("interrupted ");
     reported.text(moment);
     reported.text(" call ");
-    reported.number(u64::from(number));
+    reported.number(u64::from(stop.number()));
     reported.text(": ");
     reported.text(difference.text());
     reported.end();

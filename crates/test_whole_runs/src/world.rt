@@ -1,6 +1,7 @@
 //! A world as what stands on a disk and at a server (docs/FORMATS.md, "World").
 
-use crate::ground::Ground;
+use crate::home::at_home;
+use crate::mem_disk::MemDisk;
 use mailcore::flags::Flags;
 use mailcore::keywords::Keywords;
 use mailcore::mailbox::StoredMailbox;
@@ -43,12 +44,12 @@ pub fn config_of(alloc: Global, text: &[u8]) -> Result<Vec<u8>, Failure> {
 }
 
 /// Has the near mailbox of the world of this text stand in its folder, which is empty, and gives the far one.
-pub fn place_world(rt: &HostRuntime, ground: &Ground, text: &[u8]) -> Result<FarOfWorld, Failure> {
-    let world = world_of(rt.alloc(), text)?;
-    write_meta(rt, ground, &world)?;
-    write_state(rt, ground, &world)?;
-    write_messages(rt, ground, &world)?;
-    write_waiting(rt, ground, &world)?;
+pub fn place_world(disk: &MemDisk, text: &[u8]) -> Result<FarOfWorld, Failure> {
+    let world = world_of(disk.alloc(), text)?;
+    write_meta(disk, &world)?;
+    write_state(disk, &world)?;
+    write_messages(disk, &world)?;
+    write_waiting(disk, &world)?;
     let World { options, far, .. } = world;
     Ok(FarOfWorld {
         mailbox: far,
@@ -65,47 +66,47 @@ fn world_of(alloc: Global, text: &[u8]) -> Result<World, Failure> {
     }
 }
 
-fn write_meta(rt: &HostRuntime, ground: &Ground, world: &World) -> Result<(), Failure> {
+fn write_meta(disk: &MemDisk, world: &World) -> Result<(), Failure> {
     let (validity, highest) = (world.near.validity, world.near.next.saturating_sub(1));
-    let text = format!(in rt.alloc(); "{validity}\n{highest}\n")?;
-    write(rt, ground, ".uidvalidity", text.as_bytes())
+    let text = format!(in disk.alloc(); "{validity}\n{highest}\n")?;
+    write(disk, ".uidvalidity", text.as_bytes())
 }
 
-fn write_state(rt: &HostRuntime, ground: &Ground, world: &World) -> Result<(), Failure> {
+fn write_state(disk: &MemDisk, world: &World) -> Result<(), Failure> {
     if world.state.run == 0 {
         return Ok(());
     }
-    match write_state_text(rt.alloc(), &world.state) {
-        Ok(text) => write(rt, ground, ".mbsyncstate", &text),
+    match write_state_text(disk.alloc(), &world.state) {
+        Ok(text) => write(disk, ".mbsyncstate", &text),
         Err(BookFault::NoMemory) => Err(Failure::NoMemory),
         Err(_) => Err(Failure::Script),
     }
 }
 
-fn write_messages(rt: &HostRuntime, ground: &Ground, world: &World) -> Result<(), Failure> {
+fn write_messages(disk: &MemDisk, world: &World) -> Result<(), Failure> {
     for message in world.near.messages.as_slice() {
         let uid = message.uid.get();
-        let letters = letters_of(rt.alloc(), message.flags)?;
-        let name = format!(in rt.alloc(); "cur/{uid},U={uid}:2,{letters}")?;
-        write(rt, ground, name.as_str(), message.bytes.as_slice())?;
+        let letters = letters_of(disk.alloc(), message.flags)?;
+        let name = format!(in disk.alloc(); "cur/{uid},U={uid}:2,{letters}")?;
+        write(disk, name.as_str(), message.bytes.as_slice())?;
     }
     Ok(())
 }
 
-fn write_waiting(rt: &HostRuntime, ground: &Ground, world: &World) -> Result<(), Failure> {
+fn write_waiting(disk: &MemDisk, world: &World) -> Result<(), Failure> {
     for (place, file) in world.waiting.iter().enumerate() {
-        let letters = letters_of(rt.alloc(), file.flags)?;
-        let name = format!(in rt.alloc(); "cur/waiting{place}:2,{letters}")?;
-        write(rt, ground, name.as_str(), file.bytes.as_slice())?;
+        let letters = letters_of(disk.alloc(), file.flags)?;
+        let name = format!(in disk.alloc(); "cur/waiting{place}:2,{letters}")?;
+        write(disk, name.as_str(), file.bytes.as_slice())?;
     }
     Ok(())
 }
 
 /// Writes a file of the near mailbox's folder.
-fn write(rt: &HostRuntime, ground: &Ground, name: &str, bytes: &[u8]) -> Result<(), Failure> {
-    let path = format!(in rt.alloc(); "{FOLDER}/{name}")?;
-    let path = ground.at(path.as_str())?;
-    Ok(fs::write(rt, path.as_str(), bytes)?)
+fn write(disk: &MemDisk, name: &str, bytes: &[u8]) -> Result<(), Failure> {
+    let path = format!(in disk.alloc(); "{FOLDER}/{name}")?;
+    let path = at_home(disk.alloc(), path.as_str())?;
+    Ok(fs::write(disk, path.as_str(), bytes)?)
 }
 
 fn letters_of(alloc: Global, flags: Flags) -> Result<String, Failure> {
