@@ -69,6 +69,13 @@ impl<L: Link, W: Waits> NotedLink<L, W> {
         &self.keywords
     }
 
+    /// The link below.
+    pub fn link(&self) -> &L
+        ensures { result.now ≡ self.now.link }
+    {
+        &self.link
+    }
+
     // Nothing is sent, since no connection stands.
     fn refuse(&mut self) -> LinkFault
         requires { self.old.stands ≡ false }

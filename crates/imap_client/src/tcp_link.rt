@@ -1,6 +1,6 @@
 //! A link over TCP.
 
-ghost use Rattle.std.specs.Prelude.{◌≡◌, ◌<◌, ◌≤◌, ◌++◌, [], length, take, false, is_ok, Ok, None, IfOk, IfSome, OnOk, OnErr, IsErrOf};
+ghost use Rattle.std.specs.Prelude.{◌≡◌, ◌<◌, ◌≤◌, ◌++◌, [], length, take, false, is_ok, Ok, None, IfOk, IfSome, OnOk, OnErr, IsErrOf, string_bytes};
 ghost use Rattle.mailcore.specs.CopyPieces.{text_left};
 ghost use Rattle.wire_reader.specs.Spelling.{crlf};
 ghost use Rattle.imap_client.specs.LineRecords.{Hands, HandsSome, begun, noted};
@@ -39,7 +39,8 @@ impl<R: Net + AllocGlobal + Clone + Drop> TcpLink<R> {
     ///
     /// `AllocError`: memory ran out.
     pub fn new(rt: R, address: &str) -> Result<Self, AllocError>
-        ensures { IfOk result (λ link. link.calls.events ≡ []) }
+        ensures unasked { IfOk result (λ link. link.calls.events ≡ []) }
+        ensures address { IfOk result (λ link. string_bytes link.address ≡ address.now) }
     {
         let unreached = Rc::new(rt.alloc(), Cell::new(None))?;
         TcpLink::noting(rt, address, unreached)
@@ -47,7 +48,8 @@ impl<R: Net + AllocGlobal + Clone + Drop> TcpLink<R> {
 
     /// The same, where what the system says is noted there.
     pub fn noting(rt: R, address: &str, unreached: Unreached) -> Result<Self, AllocError>
-        ensures { IfOk result (λ link. link.calls.events ≡ []) }
+        ensures unasked { IfOk result (λ link. link.calls.events ≡ []) }
+        ensures address { IfOk result (λ link. string_bytes link.address ≡ address.now) }
     {
         let address = String::from_str(rt.alloc(), address)?;
         Ok(TcpLink {
@@ -58,6 +60,13 @@ impl<R: Net + AllocGlobal + Clone + Drop> TcpLink<R> {
             unreached,
             calls: LineRecord::new(),
         })
+    }
+
+    /// The address of the server.
+    pub fn address(&self) -> &str
+        ensures { result.now ≡ string_bytes self.now.address }
+    {
+        self.address.as_str()
     }
 
     // Counts a stop. The connection is given up.

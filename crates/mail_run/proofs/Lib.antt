@@ -1,1 +1,2 @@
+pub mod GrownLemmas
 pub mod ShownLemmas

@@ -7,9 +7,9 @@ use Rattle.config.specs.declared.request.RunRequest.{RunRequest}
 use Rattle.channels.specs.declared.stores.BoxLists.{Ghosts}
 use Rattle.channels.specs.Asked.{Joined}
 use Rattle.channels.specs.Asks.{Ways}
-use Rattle.channels.specs.Lendings.{LentPlace, Lends, LendsNone}
+use Rattle.channels.specs.Lendings.{LendsNone}
 use Rattle.channels.specs.Runs.{RunsAt, RunsListed, RunsOnly, RunsOver}
-use Rattle.channels.specs.Settlings.{SettlesAll, SettlesAt, SettlesLent, SettlesOver, SettlesThrough}
+use Rattle.channels.specs.Settlings.{SettlesAll, SettlesAt, SettlesLent, SettlesOver}
 
 module _ {S T R : Type 0} (b : Ghosts S) (held : T → S) (stream : R → Stream) where
   -- what holds others is asked for what these are asked for, and lends what they lend

@@ -1,2 +1,3 @@
 pub mod NamedBoxes
 pub mod Settled
+pub mod Grown

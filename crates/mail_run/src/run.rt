@@ -1,11 +1,15 @@
 //! What a command line asks for, over servers and folders.
 
-ghost use Rattle.std.specs.Prelude.{◌≡◌, false, [], None, OnOk};
+ghost use Rattle.std.specs.Prelude.{◌≡◌, false, None, OnOk};
 ghost use Rattle.std.specs.List.{find};
 ghost use Rattle.channels.specs.Runs.{RunsOnly};
 ghost use Rattle.channels.specs.Settlings.{SettlesAll};
+ghost use Rattle.mail_run.specs.Grown.{Grows};
 ghost use Rattle.mail_run.specs.NamedBoxes.{names_own_part};
 ghost use Rattle.mail_run.specs.Settled.{HasRunOnly, HasSettled};
+ghost use Rattle.mail_stores.specs.Placed.{HaveStood};
+ghost use Rattle.mail_stores.specs.Records.{none_asked};
+ghost use Rattle.std.specs.Int.NonZero.{non_zero_u32_get};
 
 use crate::boxes::{refused_channel, refused_name};
 use crate::failure::StartFailure;
@@ -17,9 +21,11 @@ use channels::run::run_config;
 use channels::stores::{BoxLists, Stores};
 use config::config::Config;
 use config::request::{Chosen, RunRequest};
+use mail_stores::address::Addressed;
 use mail_stores::mail_stores::MailStores;
 use mail_stores::notes::ServerNotes;
 use mail_stores::openings::Openings;
+use mail_stores::server::RealLink;
 use mailcore::keywords::Keywords;
 use near_places::home::Home;
 use near_places::lock::LockFiles;
@@ -125,7 +131,8 @@ fn say_none<E: Write>(config: &Config, request: &RunRequest, err: &mut E) {
 
 /// Runs the channels over servers and folders, which were asked for nothing before, and gives these beside the exit status. Where that is 0
 /// and nothing was to be listed, each chosen mailbox was lent and is settled, from whatever opening its run is looked at (`C`). Whatever it
-/// is, no mailbox but such a one was lent, and the run over each is settled or underway.
+/// is, no mailbox but such a one was lent, and the run over each is settled or underway; and each that was lent stood at its place: at the
+/// host and port of its store, as the user of that, and in the folder of its name below the home folder.
 fn run_start<
     R: Net + LockFiles + Env + Clock + AllocGlobal + Clone + Drop,
     T: Write + Copy,
@@ -141,8 +148,9 @@ fn run_start<
     err: &mut E,
 ) -> (MailStores<R, ProgressLine<T>, C>, u8)
     ensures settled { result.1 ≡ 0 → request.now.lists ≡ false
-        → HasSettled ⟦<MailStores<R, ProgressLine<T>, C> as BoxLists>⟧ [] ⟦<ChaCha20Rng as Rng>⟧.stream start.config request.now result.0 }
-    ensures runs { HasRunOnly ⟦<MailStores<R, ProgressLine<T>, C> as BoxLists>⟧ [] ⟦<ChaCha20Rng as Rng>⟧.stream start.config request.now result.0 }
+        → HasSettled ⟦<MailStores<R, ProgressLine<T>, C> as BoxLists>⟧ (none_asked start.home (non_zero_u32_get start.fresh)) ⟦<ChaCha20Rng as Rng>⟧.stream start.config request.now result.0 }
+    ensures runs { HasRunOnly ⟦<MailStores<R, ProgressLine<T>, C> as BoxLists>⟧ (none_asked start.home (non_zero_u32_get start.fresh)) ⟦<ChaCha20Rng as Rng>⟧.stream start.config request.now result.0 }
+    ensures stood { HaveStood ⟦<RealLink<R, ProgressLine<T>> as Addressed>⟧.address start.home (non_zero_u32_get start.fresh) result.0.past }
 {
     let Start {
         config,
@@ -181,6 +189,7 @@ fn run_over<S: Stores + Drop, T: Write + Copy, O: Write, E: Write>(
 ) -> (S, u8)
     ensures settled { result.1 ≡ 0 → work.entry.request.now.lists ≡ false
         → SettlesAll S.BoxLists ⟦<ChaCha20Rng as Rng>⟧.stream work.entry.config.now work.entry.request.now stores result.0 }
+    ensures asked { Grows S.noted (S.asked stores) (S.asked result.0) }
     ensures runs { RunsOnly S.BoxLists ⟦<ChaCha20Rng as Rng>⟧.stream work.entry.config.now work.entry.request.now stores result.0 }
 {
     let mut shown = ShownStores::new(stores, screen);

@@ -60,6 +60,7 @@ impl<L: Link + Drop> FarSide<L> {
             ≡ record { stored = box_at keywords account.mailbox.items (L.line link).end.server; is_broken = false; stops = L.stops link } }
         ensures was_honest { honest_of result → L.honest link }
         ensures honest { L.honest link → honest_of result }
+        ensures link { result.far.session.wire.link ≡ link }
         ensures account { result.account ≡ account }
         ensures keywords { result.far.keywords ≡ keywords }
         ensures closed { is_open_at result.stage ≡ false }
@@ -82,6 +83,7 @@ impl<L: Link + Drop> FarSide<L> {
         } }
         ensures was_honest { honest_of result → L.honest session.session.wire.link }
         ensures honest { L.honest session.session.wire.link → honest_of result }
+        ensures session { result.far.session ≡ session.session }
         ensures account { result.account ≡ account }
         ensures keywords { result.far.keywords ≡ keywords }
         ensures closed { is_open_at result.stage ≡ false }

@@ -19,7 +19,7 @@ use Rattle.mail_sides.specs.declared.sides.BothSides.{BothSides}
 use Rattle.mail_sides.specs.FarSides.{seen_of}
 use Rattle.mail_stores.specs.Lent.{LendsAs, Loan}
 use Rattle.mail_stores.specs.Reached.{AreIn, IsAccount}
-use Rattle.mail_stores.specs.Placed.{AllStood, AreOf, StoodOn, shown}
+use Rattle.mail_stores.specs.Placed.{AllStood, AreOf, LeadsTo, StoodOn, shown}
 
 module _ {L F S : Type 0} {links : link.Ghosts L} where
   -- an outside shows what its sides show, where the near one has the map of the far one
@@ -30,25 +30,26 @@ module _ {L F S : Type 0} {links : link.Ghosts L} where
   shown_as folder shelf fresh keywords sides seen map is =
       is ∙ ap (λ (k : List Keyword). seen_with (device_with (seen_of sides.far).stored (near_of fresh k (folder sides.folder).stored) (shelf sides.shelf).stored []) untouched) (sym map)
 
-module _ {L : Type 0} {links : link.Ghosts L} where
+module _ {L : Type 0} {links : link.Ghosts L} (address : L → List ℕ) where
   -- both sides in this folder, which is that of the mailbox, are those of the mailbox
   pub are_of : (home now : Option (List ℕ)) (place : Place) (path : List ℕ) (look : String Global) (sides : BothSides L FolderParts FilesParts links)
-      → IsAccount place.of.far_store place.far sides.far.account → AreIn path sides.folder sides.shelf look
-      → path ≡ folder_of home place.of.near_store place.near → now ≡ home → AreOf now place sides
-  are_of home now place path look sides account near of_name same =
-      subst (λ (home : Option (List ℕ)). AreOf home place sides) (sym same)
-      (record { account = account; messages = near.messages ∙ of_name; state = near.state ∙ of_name })
+      → LeadsTo address place.of.far_store sides.far → IsAccount place.of.far_store place.far sides.far.account
+      → AreIn path sides.folder sides.shelf look
+      → path ≡ folder_of home place.of.near_store place.near → now ≡ home → AreOf address now place sides
+  are_of home now place path look sides server account near of_name same =
+      subst (λ (home : Option (List ℕ)). AreOf address home place sides) (sym same)
+      (record { server = server; account = account; messages = near.messages ∙ of_name; state = near.state ∙ of_name })
 
   -- one more was lent, at its place
   pub stood_more : (home : Option (List ℕ)) (fresh : ℕ) (place : Place) (sides : BothSides L FolderParts FilesParts links) (loans more : List Loan)
       (all as_lent : List (BothSides L FolderParts FilesParts links))
-      → LendsAs place (shown seen_on_disk seen_of_files fresh sides) loans more → as_lent ≡ sides ∷ all → AreOf home place sides
-      → AllStood home fresh loans all → AllStood home fresh more as_lent
+      → LendsAs place (shown seen_on_disk seen_of_files fresh sides) loans more → as_lent ≡ sides ∷ all → AreOf address home place sides
+      → AllStood address home fresh loans all → AllStood address home fresh more as_lent
   stood_more home fresh place sides loans more all as_lent one noted are stood =
-      let this : StoodOn home fresh one.loan sides = record {
-        are = subst (λ (p : Place). AreOf home p sides) (sym one.here) are;
+      let this : StoodOn address home fresh one.loan sides = record {
+        are = subst (λ (p : Place). AreOf address home p sides) (sym one.here) are;
         seen = one.was;
       } in
-      let both : AllStood home fresh (one.loan ∷ loans) (sides ∷ all) = (this, stood) in
-      subst (λ (xs : List (BothSides L FolderParts FilesParts links)). AllStood home fresh more xs) (sym noted)
-      (subst (λ (ls : List Loan). AllStood home fresh ls (sides ∷ all)) (sym one.noted) both)
+      let both : AllStood address home fresh (one.loan ∷ loans) (sides ∷ all) = (this, stood) in
+      subst (λ (xs : List (BothSides L FolderParts FilesParts links)). AllStood address home fresh more xs) (sym noted)
+      (subst (λ (ls : List Loan). AllStood address home fresh ls (sides ∷ all)) (sym one.noted) both)

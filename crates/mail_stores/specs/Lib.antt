@@ -1,3 +1,4 @@
+pub mod Addresses
 pub mod Lent
 pub mod Loans
 pub mod Names
@@ -5,3 +6,4 @@ pub mod Notices
 pub mod Passwords
 pub mod Placed
 pub mod Reached
+pub mod Records

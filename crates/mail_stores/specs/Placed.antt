@@ -13,10 +13,14 @@ use Rattle.book.specs.Shelves.{Files}
 use Rattle.outside.specs.Calls.{Seen}
 use Rattle.run_pair.specs.Parts.{device_with}
 use Rattle.run_pair.specs.Tallies.{seen_with, untouched}
+use Rattle.config.specs.declared.config.ImapStore.{ImapStore}
 use Rattle.channels.specs.Asked.{Place}
+use Rattle.mail_sides.specs.declared.far_side.FarSide.{FarSide}
 use Rattle.mail_sides.specs.declared.sides.BothSides.{BothSides}
 use Rattle.mail_sides.specs.FarSides.{seen_of}
+use Rattle.mail_stores.specs.Addresses.{address_of}
 use Rattle.mail_stores.specs.Lent.{Loan}
+use Rattle.mail_stores.specs.declared.past.Past.{Past}
 use Rattle.mail_stores.specs.Reached.{IsAccount}
 
 module _ {L F S : Type 0} {links : link.Ghosts L} where
@@ -25,10 +29,15 @@ module _ {L F S : Type 0} {links : link.Ghosts L} where
   shown folder shelf fresh sides = seen_with (device_with (seen_of sides.far).stored
       (near_of fresh sides.far.far.keywords (folder sides.folder).stored) (shelf sides.shelf).stored []) untouched
 
-module _ {L : Type 0} {links : link.Ghosts L} where
-  -- Both sides are those of a mailbox by its names: at the server as the user of its store, and near in the folder of its name, with its
+module _ {L : Type 0} {links : link.Ghosts L} (address : L → List ℕ) where
+  -- the link of a far side leads to the server of this store
+  abbrev pub LeadsTo : ImapStore → FarSide L links → Type 0
+  LeadsTo store far = address far.far.session.wire.link ≡ address_of store
+
+  -- Both sides are those of a mailbox by its names: at the server of its store as its user, and near in the folder of its name, with its
   -- state there.
   pub record AreOf (home : Option (List ℕ)) (place : Place) (sides : BothSides L FolderParts FilesParts links) : Type 0 where
+    pub server : LeadsTo place.of.far_store sides.far
     pub account : IsAccount place.of.far_store place.far sides.far.account
     pub messages : sides.folder.disk.path ≡ folder_of home place.of.near_store place.near
     pub state : sides.shelf.disk.path ≡ folder_of home place.of.near_store place.near
@@ -57,3 +66,7 @@ module _ {L : Type 0} {links : link.Ghosts L} where
       let this = StoodOn-prop home fresh loan sides in
       let others = AllStood-prop home fresh loans more in
       Prim.hlevel (this, others, props)
+
+  -- of stores with this past, each mailbox that was lent stood at its place
+  abbrev pub HaveStood : (home : Option (List ℕ)) → (fresh : ℕ) → Past L FolderParts FilesParts links → Type 0
+  HaveStood home fresh past = AllStood home fresh past.loans.lent.loans past.as_lent.items

@@ -1,10 +1,12 @@
 //! The real stores, as channels ask them: what they are asked for is noted for contracts alone.
 
-ghost use Rattle.std.specs.Prelude.{◌≡◌, ◌∷◌, IfOk, List};
+ghost use Rattle.std.specs.Prelude.{◌≡◌, ◌∷◌, IfOk};
 ghost use Rattle.channels.specs.Asked.{Asked, Outcome, outcome_by, place_of};
 ghost use Rattle.channels.specs.Boxes.{Rises};
 ghost use Rattle.channels.specs.Lendings.{LendsFor};
 ghost use Rattle.mail_stores.specs.Loans.{HaveKept, lent_of};
+ghost use Rattle.mail_stores.specs.Records.{StoresRecord, noted};
+ghost use Rattle.std.specs.Int.NonZero.{non_zero_u32_get};
 
 use crate::asked_history::{note, note_at};
 use crate::last_box::LastBox;
@@ -35,6 +37,7 @@ impl<
     fn far_names(&mut self, store: &ImapStore) -> Result<Vec<MailboxName>, ListFault>
         ensures rising { IfOk result (λ names. Rises names.items) }
         ensures past { self.new.past ≡ self.old.past }
+        ensures reach { self.new.reach ≡ self.old.reach }
     {
         self.ask(store);
         match self.names_at(store) {
@@ -51,6 +54,7 @@ impl<
     fn near_names(&mut self, store: &MaildirStore) -> Result<Vec<MailboxName>, ListFault>
         ensures rising { IfOk result (λ names. Rises names.items) }
         ensures past { self.new.past ≡ self.old.past }
+        ensures reach { self.new.reach ≡ self.old.reach }
     {
         let found = self.reach.near_boxes(store).map_err(list_fault)?;
         for name in &found.skipped {
@@ -64,7 +68,8 @@ impl<
 
     /// Makes this side of a mailbox.
     fn make_side(&mut self, side: Side, place: ChannelBox<'_>) -> Result<(), StoreFault>
-        ensures { self.new.past ≡ self.old.past }
+        ensures past { self.new.past ≡ self.old.past }
+        ensures reach { self.new.reach ≡ self.old.reach }
     {
         match side {
             Side::Far => {
@@ -82,6 +87,7 @@ impl<
         work: W,
     ) -> Result<W::Answer, StoreFault>
         ensures asked { self.new.past.asked ≡ self.old.past.asked }
+        ensures reach { self.new.reach ≡ self.old.reach }
         ensures lent { LendsFor HaveKept lent_of (place_of place.entry) (W.did work) self.old.past.loans self.new.past.loans result }
     {
         self.last = LastBox::none(self.reach.rt.alloc());
@@ -100,6 +106,7 @@ impl<
     ) -> Result<W::Answer, StoreFault>
         ghost asking: { Outcome → Asked }
         ensures asked { self.new.past.asked.asked ≡ asking (outcome_by W.ends result) ∷ self.old.past.asked.asked }
+        ensures reach { self.new.reach ≡ self.old.reach }
         ensures lent { LendsFor HaveKept lent_of (place_of place.entry) (W.did work) self.old.past.loans self.new.past.loans result }
     {
         let answer = self.work_at(place, work);
@@ -113,11 +120,11 @@ impl<
     P: Progress + Waits + Copy,
     C: Openings,
 > BoxLists for MailStores<R, P, C> {
-    ghost Record = { List Asked };
+    ghost Record = { StoresRecord };
 
-    ghost noted = { λ asked one. one ∷ asked };
+    ghost noted = { noted };
 
-    ghost asked = { λ stores. stores.past.asked.asked };
+    ghost asked = { λ stores. record { home = stores.reach.home; fresh = non_zero_u32_get stores.reach.fresh; things = stores.past.asked.asked } };
 
     ghost honest = { λ stores. HaveKept stores.past.loans };
 

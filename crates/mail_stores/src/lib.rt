@@ -2,6 +2,7 @@
 #![tactic(auto)]
 
 mod account;
+pub mod address;
 mod as_stores;
 mod asked;
 pub mod asked_history;
@@ -18,6 +19,6 @@ pub mod openings;
 mod past;
 mod reach;
 mod reported;
-mod server;
+pub mod server;
 mod sessions;
 pub mod world;

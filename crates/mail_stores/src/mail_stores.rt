@@ -4,10 +4,12 @@ ghost use Rattle.std.specs.Prelude.{◌≡◌, [], IfOk, OnErr, string_bytes};
 ghost use Rattle.channels.specs.Asked.{place_of};
 ghost use Rattle.channels.specs.Lendings.{IsLent, Lends};
 ghost use Rattle.mail_stores.specs.Loans.{HaveKept, lent_of};
-ghost use Rattle.mail_stores.specs.Placed.{AllStood, AllStood-prop, AreOf};
+ghost use Rattle.mail_stores.specs.Placed.{AllStood, AllStood-prop, AreOf, LeadsTo};
+ghost use Rattle.mail_stores.specs.Records.{none_asked};
 ghost use Rattle.mail_stores.specs.Reached.{AreIn, IsAccount};
 ghost use Rattle.std.specs.Int.NonZero.{non_zero_u32_get};
 
+use crate::address::{Addressed, address_of};
 use crate::asked::Asked;
 use crate::guarded_work::GuardedSides;
 use crate::last_box::{BoxLocation, LastBox, cause_of, path_texts};
@@ -56,7 +58,7 @@ pub struct MailStores<
     R: Net + LockFiles + Clock + AllocGlobal + Clone + Drop,
     P,
     C = Brand,
-    L: Link = RealLink<R, P>,
+    L: Addressed = RealLink<R, P>,
 > {
     pub(crate) reach: Reach<R, P>,
     progress: P,
@@ -73,7 +75,7 @@ pub struct MailStores<
     pub(crate) past: Past<L, DiskFolder<R>, DiskShelf<R>>,
     openings: PhantomData<C>,
     /// Each mailbox that was lent stood at its place.
-    pub ghost placed: { AllStood reach.home (non_zero_u32_get reach.fresh) past.loans.lent.loans past.as_lent.items } by { AllStood-prop reach.home (non_zero_u32_get reach.fresh) past.loans.lent.loans past.as_lent.items },
+    pub ghost placed: { AllStood L.address reach.home (non_zero_u32_get reach.fresh) past.loans.lent.loans past.as_lent.items } by { AllStood-prop L.address reach.home (non_zero_u32_get reach.fresh) past.loans.lent.loans past.as_lent.items },
 }
 
 impl<
@@ -92,7 +94,8 @@ impl<
         seen_by: Keywords,
         progress: P,
     ) -> Self
-        ensures unasked { result.past.asked.asked ≡ [] }
+        ensures unasked { record { home = result.reach.home; fresh = non_zero_u32_get result.reach.fresh; things = result.past.asked.asked }
+            ≡ none_asked home (non_zero_u32_get fresh) }
         ensures unlent { lent_of result.past.loans ≡ [] }
     {
         let alloc = rt.alloc();
@@ -118,6 +121,7 @@ impl<
     /// The server of this store is asked from now on.
     pub(crate) fn ask(&mut self, store: &ImapStore)
         ensures past { self.new.past ≡ self.old.past }
+        ensures reach { self.new.reach ≡ self.old.reach }
     {
         self.hear();
         self.reach.notes.renew();
@@ -127,6 +131,7 @@ impl<
     /// Notes what the server that was asked last has said beside faults.
     pub(crate) fn hear(&mut self)
         ensures past { self.new.past ≡ self.old.past }
+        ensures reach { self.new.reach ≡ self.old.reach }
     {
         if let Some(asked) = &self.asked {
             self.notices.hear(&self.reach.notes.words, asked);
@@ -136,6 +141,7 @@ impl<
     /// A session at the server of this store: the one that stands, or a new one.
     fn session_at(&mut self, store: &ImapStore) -> Result<LoggedIn<RealLink<R, P>>, AskFault>
         ensures past { self.new.past ≡ self.old.past }
+        ensures reach { self.new.reach ≡ self.old.reach }
     {
         match self.sessions.take_at(store.name.as_str()) {
             Some(session) => Ok(session),
@@ -147,6 +153,7 @@ impl<
     /// a new one is asked.
     pub(crate) fn names_at(&mut self, store: &ImapStore) -> Result<Vec<MailboxName>, AskFault>
         ensures past { self.new.past ≡ self.old.past }
+        ensures reach { self.new.reach ≡ self.old.reach }
     {
         if self.sessions.stands_at(store.name.as_str()) {
             match self.names_over(store) {
@@ -160,6 +167,7 @@ impl<
     /// The names that the session at the server of a store lists.
     fn names_over(&mut self, store: &ImapStore) -> Result<Vec<MailboxName>, AskFault>
         ensures past { self.new.past ≡ self.old.past }
+        ensures reach { self.new.reach ≡ self.old.reach }
     {
         let session = self.session_at(store)?;
         let alloc = self.reach.rt.alloc();
@@ -177,6 +185,7 @@ impl<
     fn synchronised(&mut self, store: &ImapStore, names: FarNames) -> Vec<MailboxName>
         ensures names { result ≡ names.synchronised }
         ensures past { self.new.past ≡ self.old.past }
+        ensures reach { self.new.reach ≡ self.old.reach }
     {
         for name in &names.skipped {
             self.notices.skip(store.name.as_str(), name.as_str());
@@ -191,6 +200,7 @@ impl<
         names: Vec<MailboxName>,
     ) -> Result<Vec<MailboxName>, AllocError>
         ensures past { self.new.past ≡ self.old.past }
+        ensures reach { self.new.reach ≡ self.old.reach }
     {
         let alloc = self.reach.rt.alloc();
         let mut servable = Vec::new(alloc);
@@ -212,6 +222,7 @@ impl<
         name: &MailboxName,
     ) -> Result<(), StoreFault>
         ensures past { self.new.past ≡ self.old.past }
+        ensures reach { self.new.reach ≡ self.old.reach }
     {
         let alloc = self.reach.rt.alloc();
         match is_servable(alloc, name) {
@@ -246,6 +257,7 @@ impl<
             (IsLent (place_of place.entry) (λ this. W.did work this answer))) }
         ensures none { OnErr result (self.new.past ≡ self.old.past) }
         ensures asked { self.new.past.asked ≡ self.old.past.asked }
+        ensures reach { self.new.reach ≡ self.old.reach }
     {
         let folder = self.reach.folder_of(place)?;
         let path = folder.as_str();
@@ -267,10 +279,11 @@ impl<
     ) -> W::Answer
         requires lock { string_bytes lock.now.folder ≡ folder.now }
         requires near { AreIn folder.now sides.sides.folder sides.sides.shelf sides.guard.folder }
-        requires placed { AreOf self.old.reach.home (place_of place) sides.sides }
+        requires placed { AreOf ⟦<RealLink<R, P> as Addressed>⟧.address self.old.reach.home (place_of place) sides.sides }
         requires map { sides.sides.far.far.keywords ≡ keywords }
         requires asked { keywords ≡ (W.options work).keywords }
         ensures asked { self.new.past.asked ≡ self.old.past.asked }
+        ensures reach { self.new.reach ≡ self.old.reach }
         ensures lent { Lends HaveKept lent_of self.old.past.loans self.new.past.loans
             (IsLent (place_of place.entry) (λ this. W.did work this result)) }
     {
@@ -299,10 +312,11 @@ impl<
         keywords: &Keywords,
     ) -> Result<RealSides<R, P>, LockFault>
         ensures far { IfOk result (λ sides. IsAccount place.entry.of.far_store.now place.entry.far.now sides.sides.far.account) }
+        ensures host { IfOk result (λ sides. LeadsTo ⟦<RealLink<R, P> as Addressed>⟧.address place.entry.of.far_store.now sides.sides.far) }
         ensures near { IfOk result (λ sides. AreIn folder.now sides.sides.folder sides.sides.shelf sides.guard.folder) }
         ensures map { IfOk result (λ sides. sides.sides.far.far.keywords ≡ keywords.now) }
-        ensures home { self.new.reach.home ≡ self.old.reach.home }
         ensures past { self.new.past ≡ self.old.past }
+        ensures reach { self.new.reach ≡ self.old.reach }
     {
         let near = match self.reach.near_parts(folder) {
             Ok(near) => near,
@@ -322,16 +336,19 @@ impl<
         keywords: &Keywords,
     ) -> Result<FarSide<RealLink<R, P>>, PlaceRefusal>
         ensures account { IfOk result (λ far. IsAccount place.entry.of.far_store.now place.entry.far.now far.account) }
+        ensures host { IfOk result (λ far. LeadsTo ⟦<RealLink<R, P> as Addressed>⟧.address place.entry.of.far_store.now far) }
         ensures map { IfOk result (λ far. far.far.keywords ≡ keywords.now) }
-        ensures home { self.new.reach.home ≡ self.old.reach.home }
         ensures past { self.new.past ≡ self.old.past }
+        ensures reach { self.new.reach ≡ self.old.reach }
     {
         let alloc = self.reach.rt.alloc();
         let store = place.of.far_store;
         let account = self.reach.account(place)?;
         let keywords = keywords.try_clone(alloc)?;
         self.seen_by = keywords.try_clone(alloc)?;
-        match self.sessions.take_by(store.name.as_str(), &keywords) {
+        let address = address_of(alloc, store)?;
+        let (name, address) = (store.name.as_str(), address.as_str());
+        match self.sessions.take_by(name, address, &keywords) {
             Some(session) => Ok(FarSide::over(account, session, keywords)),
             None => {
                 // what a server said to the end of its session is no answer of this one
@@ -345,6 +362,7 @@ impl<
     /// Notes what stopped the run over a mailbox, and which files it left out or alone.
     fn note_end(&mut self, place: ChannelBox<'_>, folder: &str, sides: &RealSides<R, P>)
         ensures past { self.new.past ≡ self.old.past }
+        ensures reach { self.new.reach ≡ self.old.reach }
     {
         let alloc = self.reach.rt.alloc();
         let GuardedSides { sides, guard } = sides;
@@ -364,6 +382,7 @@ impl<
     /// Keeps the session of the far side of a mailbox at this store, if it goes on.
     pub(crate) fn keep_far(&mut self, store: &ImapStore, far: FarSide<RealLink<R, P>>)
         ensures past { self.new.past ≡ self.old.past }
+        ensures reach { self.new.reach ≡ self.old.reach }
     {
         if let Some(session) = far.into_session() {
             let alloc = self.reach.rt.alloc();

@@ -1,6 +1,7 @@
 //! How the mailboxes of a configuration are reached: servers over TCP, and folders of a disk.
 
 ghost use Rattle.std.specs.Prelude.{◌≡◌, IfOk, string_bytes};
+ghost use Rattle.mail_stores.specs.Addresses.{address_of};
 ghost use Rattle.mail_stores.specs.Reached.{AreIn, IsAccount};
 ghost use Rattle.near_places.specs.Paths.{folder_of};
 
@@ -142,7 +143,8 @@ impl<R: Net + LockFiles + Clock + AllocGlobal + Clone + Drop, W: Waits + Copy> R
         store: &ImapStore,
         keywords: &Keywords,
     ) -> Result<RealLink<R, W>, AllocError>
-        ensures { IfOk result (λ link. link.keywords ≡ keywords.now) }
+        ensures keywords { IfOk result (λ link. link.keywords ≡ keywords.now) }
+        ensures address { IfOk result (λ link. string_bytes link.link.link.address ≡ address_of store.now) }
     {
         link_to(&self.rt, store, &self.notes, self.waits, keywords)
     }

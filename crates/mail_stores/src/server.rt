@@ -1,8 +1,10 @@
 //! The server of an IMAP store: how it is reached, and who logs in.
 
-ghost use Rattle.std.specs.Prelude.{◌≡◌, ◌↔◌, IfOk, IsTrue};
+ghost use Rattle.std.specs.Prelude.{◌≡◌, ◌↔◌, IfOk, IsTrue, string_bytes};
 ghost use Rattle.imap_client.specs.Requests.{IsWord};
+ghost use Rattle.mail_stores.specs.Addresses.{address_of};
 
+use crate::address::address_of;
 use crate::notes::ServerNotes;
 use config::config::ImapStore;
 use imap_client::noted_link::NotedLink;
@@ -32,7 +34,7 @@ pub(crate) enum AskFault {
 
 /// A link to a server over TCP, from which a client hears only replies that it reads. How a connection came to its end is noted, and what
 /// mbsync waits for is shown before it waits. Its server is seen by one map of keywords.
-pub(crate) type RealLink<R, W> = NotedLink<FaceLink<TcpLink<R>>, W>;
+pub type RealLink<R, W> = NotedLink<FaceLink<TcpLink<R>>, W>;
 
 /// A link to the server of a store, which is seen by this map of keywords. It is not connected yet.
 pub(crate) fn link_to<R: Net + AllocGlobal + Clone + Drop, W: Waits + Copy>(
@@ -42,7 +44,8 @@ pub(crate) fn link_to<R: Net + AllocGlobal + Clone + Drop, W: Waits + Copy>(
     waits: W,
     keywords: &Keywords,
 ) -> Result<RealLink<R, W>, AllocError>
-    ensures { IfOk result (λ link. link.keywords ≡ keywords.now) }
+    ensures keywords { IfOk result (λ link. link.keywords ≡ keywords.now) }
+    ensures address { IfOk result (λ link. string_bytes link.link.link.address ≡ address_of store.now) }
 {
     let alloc = rt.alloc();
     let address = address_of(alloc, store)?;
@@ -50,16 +53,6 @@ pub(crate) fn link_to<R: Net + AllocGlobal + Clone + Drop, W: Waits + Copy>(
     let link = TcpLink::noting(rt.clone()?, address.as_str(), notes.unreached.clone()?)?;
     let link = FaceLink::new(alloc, link, words);
     Ok(NotedLink::new(link, end, waits, keywords.try_clone(alloc)?))
-}
-
-/// The address of a store's server: its host and its port. An IPv6 address stands in brackets.
-fn address_of(alloc: Global, store: &ImapStore) -> Result<String, AllocError> {
-    let (host, port) = (&store.host, store.port);
-    if host.contains(':') && !host.starts_with('[') {
-        format!(in alloc; "[{host}]:{port}")
-    } else {
-        format!(in alloc; "{host}:{port}")
-    }
 }
 
 /// A session with the server of a store, which is seen by this map of keywords. Its user has logged in.

@@ -1,9 +1,9 @@
 //! The session that stands at a server between the mailboxes of its store.
 
-ghost use Rattle.std.specs.Prelude.{◌≡◌, IfSome};
+ghost use Rattle.std.specs.Prelude.{◌≡◌, IfSome, string_bytes};
 ghost use Rattle.imap_client.specs.Requests.{IsWord};
 
-use imap_client::noted_link::NotedLink;
+use crate::server::RealLink;
 use imap_client::waits::Waits;
 use imap_link::fault::FarFault;
 use imap_link::link::Link;
@@ -11,6 +11,7 @@ use mail_sides::logged_in::LoggedIn;
 use mailcore::keywords::Keywords;
 use mailcore::mailbox_name::MailboxName;
 use std::alloc::Global;
+use std::net::Net;
 
 /// A session at the server of an IMAP store, whose user has logged in.
 #[derive(Drop)]
@@ -98,17 +99,22 @@ impl<L: Link + Drop> Sessions<L> {
     }
 }
 
-impl<L: Link + Drop, W: Waits + Drop> Sessions<NotedLink<L, W>> {
-    /// Takes out the session at the server of this store, if the server is seen by this map of keywords. Any other is ended.
+impl<R: Net + AllocGlobal + Clone + Drop, W: Waits + Drop> Sessions<RealLink<R, W>> {
+    /// Takes out the session at the server of this store, which has this address, if the server is seen by this map of keywords. Any
+    /// other is ended.
     pub(crate) fn take_by(
         &mut self,
         store: &str,
+        address: &str,
         keywords: &Keywords,
-    ) -> Option<LoggedIn<NotedLink<L, W>>>
-        ensures { IfSome result (λ s. s.session.wire.link.keywords ≡ keywords.now) }
+    ) -> Option<LoggedIn<RealLink<R, W>>>
+        ensures keywords { IfSome result (λ s. s.session.wire.link.keywords ≡ keywords.now) }
+        ensures address { IfSome result (λ s. string_bytes s.session.wire.link.link.link.address ≡ address.now) }
     {
         let session = self.take_at(store)?;
-        if session.link().keywords().is_same(keywords) {
+        let link = session.link();
+        let is_there = link.link().link().address() == address;
+        if is_there && link.keywords().is_same(keywords) {
             Some(session)
         } else {
             log_out(session);

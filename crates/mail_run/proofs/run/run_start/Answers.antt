@@ -1,3 +1,4 @@
+use Rattle.mail_run.proofs.GrownLemmas.{fresh_from, home_from}
 use Rattle.mail_run.proofs.run.run_start.Goals as goal
 
 -- the stores are new ones
@@ -15,4 +16,8 @@ returns g c = record {
     unlent = c.new-stores.ensures.unlent;
     runs = c.run_over.ensures.runs;
   };
+  stood =
+      let home = home_from _ _ _ _ c.new-stores.ensures.unasked c.run_over.ensures.asked in
+      let fresh = fresh_from _ _ _ _ c.new-stores.ensures.unasked c.run_over.ensures.asked in
+      rw (home, fresh) c.run_over.result.0.placed;
 }
