@@ -10,6 +10,7 @@ pub mod Openings
 pub mod Lines
 pub mod Steps
 pub mod Founds
+pub mod Listings
 pub mod Asks
 pub mod Outcomes
 pub mod Explanations

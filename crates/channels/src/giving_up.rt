@@ -21,6 +21,7 @@ pub(crate) struct GiveUp<'a> {
 }
 
 impl Work for GiveUp<'_> {
+    ghost use Rattle.std.specs.Prelude.{refl};
     ghost use Rattle.channels.specs.Asked.{GaveUp};
     ghost use Rattle.channels.specs.Lendings.{HasGivenUp};
     ghost use Rattle.channels.specs.Outcomes.{outcome_of_giving_up};
@@ -28,6 +29,8 @@ impl Work for GiveUp<'_> {
     ghost options = { λ work. work.options.now };
 
     ghost asking = { λ _ place outcome. GaveUp place outcome };
+
+    ghost is_no_listing = { λ _ _ _. record { far = refl; near = refl } };
 
     ghost ends = { λ answer. outcome_of_giving_up answer };
 

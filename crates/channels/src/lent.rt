@@ -54,6 +54,7 @@ impl<'a, R: Rng, S: BoxLists> RunOnce<'a, R, S> {
 }
 
 impl<R: Rng, S: BoxLists> Work for RunOnce<'_, R, S> {
+    ghost use Rattle.std.specs.Prelude.{refl};
     ghost use Rattle.channels.specs.Asked.{Ran};
     ghost use Rattle.channels.specs.Lendings.{HasRun, lent_by, run_attempts};
     ghost use Rattle.channels.specs.Outcomes.{outcome_of_run};
@@ -61,6 +62,8 @@ impl<R: Rng, S: BoxLists> Work for RunOnce<'_, R, S> {
     ghost options = { λ run. run.options.now };
 
     ghost asking = { λ run place outcome. Ran place run.options.now run_attempts outcome };
+
+    ghost is_no_listing = { λ _ _ _. record { far = refl; near = refl } };
 
     ghost ends = { λ answer. outcome_of_run answer };
 

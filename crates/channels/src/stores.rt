@@ -6,6 +6,7 @@ ghost use Rattle.channels.specs.Boxes.{Rises};
 ghost use Rattle.rules.specs.declared.options.Options.{Options};
 ghost use Rattle.channels.specs.Answered.{Answered, CauseAnswered, PathsAnswered, with_answer};
 ghost use Rattle.channels.specs.Asked.{Asked, Ended, FarListed, FoundNew, Made, NearListed, Outcome, Place, names_of, outcome_by, outcome_of_making, outcome_of_state, place_of};
+ghost use Rattle.channels.specs.Listings.{IsNoListing};
 ghost use Rattle.channels.specs.Lendings.{Choice, LendsFor, LendsNone, Lent, LentPlace, lent_by};
 ghost use Rattle.channels.specs.Openings.{first_on};
 
@@ -93,6 +94,9 @@ pub trait Work {
 
     /// What is noted of it, by the mailbox and how it ended.
     ghost asking: { Self → Place → Outcome → Asked };
+
+    /// That is no listing.
+    ghost is_no_listing: { (work : Self) (place : Place) (outcome : Outcome) → IsNoListing (asking work place outcome) };
 
     /// How it ended.
     ghost ends: { Self.Answer → Outcome };

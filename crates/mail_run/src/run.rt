@@ -7,6 +7,7 @@ ghost use Rattle.channels.specs.Settlings.{SettlesAll};
 ghost use Rattle.mail_run.specs.Grown.{Grows};
 ghost use Rattle.mail_run.specs.NamedBoxes.{names_own_part};
 ghost use Rattle.mail_run.specs.Settled.{HasRunOnly, HasSettled};
+ghost use Rattle.mail_stores.specs.Listed.{HaveListed};
 ghost use Rattle.mail_stores.specs.Placed.{HaveStood};
 ghost use Rattle.mail_stores.specs.Records.{none_asked};
 ghost use Rattle.std.specs.Int.NonZero.{non_zero_u32_get};
@@ -131,8 +132,9 @@ fn say_none<E: Write>(config: &Config, request: &RunRequest, err: &mut E) {
 
 /// Runs the channels over servers and folders, which were asked for nothing before, and gives these beside the exit status. Where that is 0
 /// and nothing was to be listed, each chosen mailbox was lent and is settled, from whatever opening its run is looked at (`C`). Whatever it
-/// is, no mailbox but such a one was lent, and the run over each is settled or underway; and each that was lent stood at its place: at the
-/// host and port of its store, as the user of that, and in the folder of its name below the home folder.
+/// is, no mailbox but such a one was lent, and the run over each is settled or underway; each that was lent stood at its place: at the
+/// host and port of its store, as the user of that, and in the folder of its name below the home folder; and each list of mailboxes
+/// has the names that the server or the disk of its store said.
 fn run_start<
     R: Net + LockFiles + Env + Clock + AllocGlobal + Clone + Drop,
     T: Write + Copy,
@@ -150,6 +152,7 @@ fn run_start<
     ensures settled { result.1 ≡ 0 → request.now.lists ≡ false
         → HasSettled ⟦<MailStores<R, ProgressLine<T>, C> as BoxLists>⟧ (none_asked start.home (non_zero_u32_get start.fresh)) ⟦<ChaCha20Rng as Rng>⟧.stream start.config request.now result.0 }
     ensures runs { HasRunOnly ⟦<MailStores<R, ProgressLine<T>, C> as BoxLists>⟧ (none_asked start.home (non_zero_u32_get start.fresh)) ⟦<ChaCha20Rng as Rng>⟧.stream start.config request.now result.0 }
+    ensures listed { HaveListed ⟦<RealLink<R, ProgressLine<T>> as Addressed>⟧.address start.home result.0.past }
     ensures stood { HaveStood ⟦<RealLink<R, ProgressLine<T>> as Addressed>⟧.address start.home (non_zero_u32_get start.fresh) result.0.past }
 {
     let Start {

@@ -1,5 +1,6 @@
 pub mod Addresses
 pub mod Lent
+pub mod Listed
 pub mod Loans
 pub mod Names
 pub mod Notices

@@ -4,15 +4,21 @@ ghost use Rattle.std.specs.Prelude.{◌≡◌, ◌∷◌, IfOk};
 ghost use Rattle.channels.specs.Asked.{Asked, Outcome, outcome_by, place_of};
 ghost use Rattle.channels.specs.Boxes.{Rises};
 ghost use Rattle.channels.specs.Lendings.{LendsFor};
+ghost use Rattle.channels.specs.Listings.{IsNoListing};
+ghost use Rattle.mail_stores.specs.Listed.{Finds, Lists, listed_at};
 ghost use Rattle.mail_stores.specs.Loans.{HaveKept, lent_of};
 ghost use Rattle.mail_stores.specs.Records.{StoresRecord, noted};
 ghost use Rattle.std.specs.Int.NonZero.{non_zero_u32_get};
 
+use crate::address::Addressed;
 use crate::asked_history::{note, note_at};
 use crate::last_box::LastBox;
 use crate::mail_stores::MailStores;
+use crate::names::NearNames;
 use crate::openings::Openings;
 use crate::reported::{list_fault, lock_fault, ordered, unlisted};
+use crate::server::RealLink;
+use crate::sessions::FarListing;
 use channels::channel_box::{ChannelBox, ChannelStores};
 use channels::notice::Notice;
 use channels::stop_cause::StopCause;
@@ -22,7 +28,9 @@ use config::config::{ImapStore, MaildirStore};
 use imap_client::waits::Waits;
 use mailcore::mailbox_name::MailboxName;
 use mailcore::side::Side;
+use near_places::boxes::NearBoxes;
 use near_places::lock::LockFiles;
+use near_places::looks::Looks;
 use runner::progress::Progress;
 use std::alloc::AllocError;
 use std::net::Net;
@@ -33,15 +41,16 @@ impl<
     P: Progress + Waits + Copy,
     C,
 > MailStores<R, P, C> {
-    /// The names of the mailboxes of a far store.
-    fn far_names(&mut self, store: &ImapStore) -> Result<Vec<MailboxName>, ListFault>
-        ensures rising { IfOk result (λ names. Rises names.items) }
+    /// The names of the mailboxes of a far store, and the session that has listed them.
+    fn far_names(&mut self, store: &ImapStore) -> Result<FarListing<RealLink<R, P>>, ListFault>
+        ensures rising { IfOk result (λ listed. Rises listed.0.items) }
+        ensures listed { IfOk result (λ listed. Lists ⟦<RealLink<R, P> as Addressed>⟧.address listed_at store.now listed.0.items listed.1.items) }
         ensures past { self.new.past ≡ self.old.past }
         ensures reach { self.new.reach ≡ self.old.reach }
     {
         self.ask(store);
         match self.names_at(store) {
-            Ok(names) => ordered(self.reach.rt.alloc(), &names),
+            Ok((names, over)) => Ok((ordered(self.reach.rt.alloc(), &names)?, over)),
             Err(fault) => Err(unlisted(
                 self.reach.rt.alloc(),
                 store,
@@ -50,18 +59,24 @@ impl<
         }
     }
 
-    /// The names of the mailboxes of a near store.
-    fn near_names(&mut self, store: &MaildirStore) -> Result<Vec<MailboxName>, ListFault>
-        ensures rising { IfOk result (λ names. Rises names.items) }
+    /// The names of the mailboxes of a near store, and what its disk answered.
+    fn near_names(&mut self, store: &MaildirStore) -> Result<(Vec<MailboxName>, Looks), ListFault>
+        ensures rising { IfOk result (λ found. Rises found.0.items) }
+        ensures found { IfOk result (λ found. Finds self.old.reach.home store.now found.0.items found.1) }
         ensures past { self.new.past ≡ self.old.past }
         ensures reach { self.new.reach ≡ self.old.reach }
     {
-        let found = self.reach.near_boxes(store).map_err(list_fault)?;
+        let found = match self.reach.near_boxes(store) {
+            Ok(found) => found,
+            Err(refusal) => return Err(list_fault(refusal)),
+        };
         for name in &found.skipped {
             self.notices.skip(store.name.as_str(), name.as_str());
         }
-        match self.servable(store, found.names) {
-            Ok(names) => ordered(self.reach.rt.alloc(), &names),
+        let alloc = self.reach.rt.alloc();
+        let NearBoxes { names, looks, .. } = found;
+        match NearNames::of(alloc, names) {
+            Ok(names) => Ok((ordered(alloc, &self.servable(store, names))?, looks)),
             Err(AllocError) => Err(ListFault::NoMemory),
         }
     }
@@ -105,6 +120,7 @@ impl<
         work: W,
     ) -> Result<W::Answer, StoreFault>
         ghost asking: { Outcome → Asked }
+        requires asks { (outcome : Outcome) → IsNoListing (asking outcome) }
         ensures asked { self.new.past.asked.asked ≡ asking (outcome_by W.ends result) ∷ self.old.past.asked.asked }
         ensures reach { self.new.reach ≡ self.old.reach }
         ensures lent { LendsFor HaveKept lent_of (place_of place.entry) (W.did work) self.old.past.loans self.new.past.loans result }
@@ -133,15 +149,35 @@ impl<
     ghost opening = { C.opening };
 
     fn far_boxes(&mut self, store: &ImapStore) -> Result<Vec<MailboxName>, ListFault> {
-        let names = self.far_names(store);
-        note(&mut self.past.asked, store, &names);
-        names
+        match self.far_names(store) {
+            Ok((names, over)) => {
+                let listed = Ok(names);
+                self.past.listed = self.past.listed.and(&over);
+                note(&mut self.past.asked, store, &listed);
+                listed
+            }
+            Err(fault) => {
+                let unlisted = Err(fault);
+                note(&mut self.past.asked, store, &unlisted);
+                unlisted
+            }
+        }
     }
 
     fn near_boxes(&mut self, store: &MaildirStore) -> Result<Vec<MailboxName>, ListFault> {
-        let found = self.near_names(store);
-        note(&mut self.past.asked, store, &found);
-        found
+        match self.near_names(store) {
+            Ok((names, looks)) => {
+                let found = Ok(names);
+                self.past.found = self.past.found.and(&looks);
+                note(&mut self.past.asked, store, &found);
+                found
+            }
+            Err(fault) => {
+                let refused = Err(fault);
+                note(&mut self.past.asked, store, &refused);
+                refused
+            }
+        }
     }
 
     fn notices(&mut self, of: ChannelStores<'_>) -> Vec<Notice> {

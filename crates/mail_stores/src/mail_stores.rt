@@ -3,6 +3,9 @@
 ghost use Rattle.std.specs.Prelude.{◌≡◌, [], IfOk, OnErr, string_bytes};
 ghost use Rattle.channels.specs.Asked.{place_of};
 ghost use Rattle.channels.specs.Lendings.{IsLent, Lends};
+ghost use Rattle.channels.specs.Listings.{far_listings, near_listings};
+ghost use Rattle.mail_stores.specs.Addresses.{address_of};
+ghost use Rattle.mail_stores.specs.Listed.{AllFound, AllListed, Lists, synchronised_at};
 ghost use Rattle.mail_stores.specs.Loans.{HaveKept, lent_of};
 ghost use Rattle.mail_stores.specs.Placed.{AllStood, AllStood-prop, AreOf, LeadsTo};
 ghost use Rattle.mail_stores.specs.Records.{none_asked};
@@ -13,14 +16,14 @@ use crate::address::{Addressed, address_of};
 use crate::asked::Asked;
 use crate::guarded_work::GuardedSides;
 use crate::last_box::{BoxLocation, LastBox, cause_of, path_texts};
-use crate::names::{FarNames, is_servable};
+use crate::names::{FarNames, NearNames, is_servable};
 use crate::notes::ServerNotes;
 use crate::notices::Notices;
 use crate::past::Past;
 use crate::reach::{NearParts, Reach, RealSides};
 use crate::reported::{make_fault, unreached};
 use crate::server::{AskFault, RealLink, is_word};
-use crate::sessions::Sessions;
+use crate::sessions::{FarListing, Sessions};
 use book::disk_shelf::DiskShelf;
 use channels::channel_box::ChannelBox;
 use channels::store_fault::StoreFault;
@@ -74,6 +77,10 @@ pub struct MailStores<
     /// What they were asked for, and the mailboxes that were lent.
     pub(crate) past: Past<L, DiskFolder<R>, DiskShelf<R>>,
     openings: PhantomData<C>,
+    /// Each listing of a far store was answered as its server said.
+    pub ghost listed: { ∥ AllListed L.address (far_listings past.asked.asked) past.listed.items ∥₁ },
+    /// Each listing of a near store was answered as its disk said.
+    pub ghost found: { ∥ AllFound reach.home (near_listings past.asked.asked) past.found.items ∥₁ },
     /// Each mailbox that was lent stood at its place.
     pub ghost placed: { AllStood L.address reach.home (non_zero_u32_get reach.fresh) past.loans.lent.loans past.as_lent.items } by { AllStood-prop L.address reach.home (non_zero_u32_get reach.fresh) past.loans.lent.loans past.as_lent.items },
 }
@@ -140,18 +147,33 @@ impl<
 
     /// A session at the server of this store: the one that stands, or a new one.
     fn session_at(&mut self, store: &ImapStore) -> Result<LoggedIn<RealLink<R, P>>, AskFault>
+        ensures server { IfOk result (λ s. ⟦<RealLink<R, P> as Addressed>⟧.address s.session.wire.link ≡ address_of store.now) }
         ensures past { self.new.past ≡ self.old.past }
         ensures reach { self.new.reach ≡ self.old.reach }
     {
-        match self.sessions.take_at(store.name.as_str()) {
+        let alloc = self.reach.rt.alloc();
+        let Ok(address) = address_of(alloc, store) else {
+            return Err(AskFault::Far(FarFault::NoMemory));
+        };
+        let name = store.name.as_str();
+        if let Some(session) = self.sessions.take_at(name, address.as_str()) {
+            return Ok(session);
+        }
+        let session = self.reach.log_in(store, &self.seen_by)?;
+        self.sessions.keep(alloc, name, session);
+        match self.sessions.take_at(name, address.as_str()) {
             Some(session) => Ok(session),
-            None => self.reach.log_in(store, &self.seen_by),
+            None => Err(AskFault::Far(FarFault::NoMemory)),
         }
     }
 
-    /// The names of the mailboxes at the server of a store. A session that stood before may have been ended by the server meanwhile: then
-    /// a new one is asked.
-    pub(crate) fn names_at(&mut self, store: &ImapStore) -> Result<Vec<MailboxName>, AskFault>
+    /// The names of the mailboxes at the server of a store, and the session that has listed them. A session that stood before may have been
+    /// ended by the server meanwhile: then a new one is asked.
+    pub(crate) fn names_at(
+        &mut self,
+        store: &ImapStore,
+    ) -> Result<FarListing<RealLink<R, P>>, AskFault>
+        ensures listed { IfOk result (λ listed. Lists ⟦<RealLink<R, P> as Addressed>⟧.address synchronised_at store.now listed.0.items listed.1.items) }
         ensures past { self.new.past ≡ self.old.past }
         ensures reach { self.new.reach ≡ self.old.reach }
     {
@@ -164,19 +186,20 @@ impl<
         self.names_over(store)
     }
 
-    /// The names that the session at the server of a store lists.
-    fn names_over(&mut self, store: &ImapStore) -> Result<Vec<MailboxName>, AskFault>
+    /// The names that the session at the server of a store lists, and this session.
+    fn names_over(&mut self, store: &ImapStore) -> Result<FarListing<RealLink<R, P>>, AskFault>
+        ensures listed { IfOk result (λ listed. Lists ⟦<RealLink<R, P> as Addressed>⟧.address synchronised_at store.now listed.0.items listed.1.items) }
         ensures past { self.new.past ≡ self.old.past }
         ensures reach { self.new.reach ≡ self.old.reach }
     {
         let session = self.session_at(store)?;
         let alloc = self.reach.rt.alloc();
-        let names = self
-            .sessions
-            .list(alloc, store.name.as_str(), session)
-            .map_err(AskFault::Far)?;
+        let (names, over) = match self.sessions.list(alloc, store.name.as_str(), session) {
+            Ok(listing) => listing,
+            Err(fault) => return Err(AskFault::Far(fault)),
+        };
         match FarNames::of(alloc, names) {
-            Ok(names) => Ok(self.synchronised(store, names)),
+            Ok(names) => Ok((self.synchronised(store, names), over)),
             Err(AllocError) => Err(AskFault::Far(FarFault::NoMemory)),
         }
     }
@@ -194,24 +217,15 @@ impl<
     }
 
     /// Those of these near names that a server can have. The others are noted.
-    pub(crate) fn servable(
-        &mut self,
-        store: &MaildirStore,
-        names: Vec<MailboxName>,
-    ) -> Result<Vec<MailboxName>, AllocError>
+    pub(crate) fn servable(&mut self, store: &MaildirStore, names: NearNames) -> Vec<MailboxName>
+        ensures names { result ≡ names.servable }
         ensures past { self.new.past ≡ self.old.past }
         ensures reach { self.new.reach ≡ self.old.reach }
     {
-        let alloc = self.reach.rt.alloc();
-        let mut servable = Vec::new(alloc);
-        for name in names {
-            if is_servable(alloc, &name)? {
-                servable.push(name)?;
-            } else {
-                self.notices.skip(store.name.as_str(), name.as_str());
-            }
+        for name in &names.skipped {
+            self.notices.skip(store.name.as_str(), name.as_str());
         }
-        Ok(servable)
+        names.servable
     }
 
     /// Makes a mailbox at the server of a store. `Refused`: the server says no, or it cannot have one of this name, and then it is not

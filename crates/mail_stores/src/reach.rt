@@ -4,6 +4,7 @@ ghost use Rattle.std.specs.Prelude.{◌≡◌, IfOk, string_bytes};
 ghost use Rattle.mail_stores.specs.Addresses.{address_of};
 ghost use Rattle.mail_stores.specs.Reached.{AreIn, IsAccount};
 ghost use Rattle.near_places.specs.Paths.{folder_of};
+ghost use Rattle.near_places.specs.Trees.{AreBoxes};
 
 use crate::account::account_of;
 use crate::guarded_work::GuardedSides;
@@ -83,7 +84,9 @@ impl<R: Net + LockFiles + Clock + AllocGlobal + Clone + Drop, W: Waits + Copy> R
     }
 
     /// The mailboxes in the folders of a store.
-    pub(crate) fn near_boxes(&self, store: &MaildirStore) -> Result<NearBoxes, PlaceRefusal> {
+    pub(crate) fn near_boxes(&self, store: &MaildirStore) -> Result<NearBoxes, PlaceRefusal>
+        ensures { IfOk result (λ found. AreBoxes self.now.home store.now found.looks.looks found.names.items) }
+    {
         near_boxes(&self.rt, &self.home, store)
     }
 

@@ -1,7 +1,7 @@
 //! How the faults of places and servers are reported as those of stores.
 
-ghost use Rattle.std.specs.Prelude.{IfOk};
-ghost use Rattle.channels.specs.Boxes.{Rises};
+ghost use Rattle.std.specs.Prelude.{◌≡◌, [], IfOk};
+ghost use Rattle.channels.specs.Boxes.{Rises, put_names};
 
 use channels::boxes::in_order;
 use channels::store_fault::{ConnectFault, ListFault, StoreFault};
@@ -19,7 +19,8 @@ use std::alloc::{AllocError, Global};
 
 /// The names of a store's mailboxes, in their order.
 pub(crate) fn ordered(alloc: Global, names: &[MailboxName]) -> Result<Vec<MailboxName>, ListFault>
-    ensures { IfOk result (λ names. Rises names.items) }
+    ensures rising { IfOk result (λ names. Rises names.items) }
+    ensures names { IfOk result (λ ordered. ordered.items ≡ put_names [] names.now) }
 {
     match in_order(alloc, names) {
         Ok(names) => Ok(names),

@@ -1,9 +1,11 @@
 //! The session that stands at a server between the mailboxes of its store.
 
-ghost use Rattle.std.specs.Prelude.{◌≡◌, IfSome, string_bytes};
+ghost use Rattle.std.specs.Prelude.{◌≡◌, IfOk, IfSome, string_bytes};
 ghost use Rattle.imap_client.specs.Requests.{IsWord};
+ghost use Rattle.mail_stores.specs.Listed.{Hears};
 
 use crate::server::RealLink;
+use device::history::History;
 use imap_client::waits::Waits;
 use imap_link::fault::FarFault;
 use imap_link::link::Link;
@@ -12,6 +14,9 @@ use mailcore::keywords::Keywords;
 use mailcore::mailbox_name::MailboxName;
 use std::alloc::Global;
 use std::net::Net;
+
+/// The names that a session has listed, and the session after that and before, which contracts alone read.
+pub(crate) type FarListing<L> = (Vec<MailboxName>, History<LoggedIn<L>>);
 
 /// A session at the server of an IMAP store, whose user has logged in.
 #[derive(Drop)]
@@ -40,9 +45,8 @@ impl<L: Link + Drop> Sessions<L> {
             .is_some_and(|stands| stands.store.as_str() == store)
     }
 
-    /// Takes out the session at the server of this store, by whichever map of keywords that is seen: to list mailboxes and to make them. One
-    /// at another is ended.
-    pub(crate) fn take_at(&mut self, store: &str) -> Option<LoggedIn<L>> {
+    /// Takes out the session of the store of this name. One of another is ended.
+    fn take_of(&mut self, store: &str) -> Option<LoggedIn<L>> {
         let stands = self.standing.take()?;
         if stands.store.as_str() == store {
             Some(stands.session)
@@ -68,11 +72,18 @@ impl<L: Link + Drop> Sessions<L> {
         alloc: Global,
         store: &str,
         session: LoggedIn<L>,
-    ) -> Result<Vec<MailboxName>, FarFault> {
+    ) -> Result<FarListing<L>, FarFault>
+        ensures { IfOk result (λ listed. Hears session listed.0.items listed.1.items) }
+    {
         let mut session = session;
-        let names = session.list();
+        let before = History::new().and(&session);
+        let answer = session.list();
+        let over = before.and(&session);
         self.keep(alloc, store, session);
-        names
+        match answer {
+            Ok(names) => Ok((names, over)),
+            Err(fault) => Err(fault),
+        }
     }
 
     /// Makes a mailbox at the server of this store, over this session. It stands then, if it goes on.
@@ -100,8 +111,21 @@ impl<L: Link + Drop> Sessions<L> {
 }
 
 impl<R: Net + AllocGlobal + Clone + Drop, W: Waits + Drop> Sessions<RealLink<R, W>> {
-    /// Takes out the session at the server of this store, which has this address, if the server is seen by this map of keywords. Any
-    /// other is ended.
+    /// Takes out the session at the server of this store, which has this address, by whichever map of keywords that is seen: to list
+    /// mailboxes and to make them. Any other is ended.
+    pub(crate) fn take_at(&mut self, store: &str, address: &str) -> Option<LoggedIn<RealLink<R, W>>>
+        ensures { IfSome result (λ s. string_bytes s.session.wire.link.link.link.address ≡ address.now) }
+    {
+        let session = self.take_of(store)?;
+        if session.link().link().link().address() == address {
+            Some(session)
+        } else {
+            log_out(session);
+            None
+        }
+    }
+
+    /// The same, if the server is seen by this map of keywords.
     pub(crate) fn take_by(
         &mut self,
         store: &str,
@@ -111,10 +135,8 @@ impl<R: Net + AllocGlobal + Clone + Drop, W: Waits + Drop> Sessions<RealLink<R, 
         ensures keywords { IfSome result (λ s. s.session.wire.link.keywords ≡ keywords.now) }
         ensures address { IfSome result (λ s. string_bytes s.session.wire.link.link.link.address ≡ address.now) }
     {
-        let session = self.take_at(store)?;
-        let link = session.link();
-        let is_there = link.link().link().address() == address;
-        if is_there && link.keywords().is_same(keywords) {
+        let session = self.take_at(store, address)?;
+        if session.link().keywords().is_same(keywords) {
             Some(session)
         } else {
             log_out(session);

@@ -1,3 +1,5 @@
 pub mod Names
 pub mod Paths
 pub mod Refusals
+pub mod Trees
+pub mod Walks

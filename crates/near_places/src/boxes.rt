@@ -1,15 +1,20 @@
 //! The names of the mailboxes of a Maildir store.
 
-ghost use Rattle.std.specs.Prelude.{◌≡◌, true, IfOk, IsErr, string_bytes};
+ghost use Rattle.std.specs.Prelude.{◌≡◌, ◌++◌, true, filter, map, IfOk, IsErr, OnOk, string_bytes};
+ghost use Rattle.mailcore.specs.MailboxNames.{is_mailbox_name};
 ghost use Rattle.near_places.specs.Names.{has_own_part};
 ghost use Rattle.near_places.specs.Paths.{folder_of};
+ghost use Rattle.near_places.specs.Trees.{AreBoxes};
+ghost use Rattle.near_places.specs.Walks.{first_names};
 
 use crate::home::{Home, INBOX};
+use crate::looks::{Looks, is_same_folder};
 use crate::names::has_own_part;
 use crate::refusal::{OWN_PART, PlaceRefusal};
-use crate::tree::{FolderNames, boxes_under, is_mailbox, is_same_folder};
+use crate::tree::{FolderNames, boxes_under};
 use config::config::MaildirStore;
 use mailcore::mailbox_name::MailboxName;
+use std::alloc::{AllocError, Global};
 use std::rt::Files;
 
 /// The mailboxes of a Maildir store.
@@ -25,6 +30,9 @@ pub struct NearBoxes {
     ///
     /// [`has_own_part`]: crate::names::has_own_part
     pub skipped: Vec<String>,
+    /// What the system was asked for them, with its answers. In each tree of folders where it would answer so, `names` are exactly the
+    /// names of its mailboxes, apart from those that are left out.
+    pub looks: Looks,
 }
 
 /// The mailboxes of a store: INBOX, if a mailbox stands in the folder of Inbox; and those under its path, by the bytes of their names. A
@@ -36,29 +44,54 @@ pub fn near_boxes<R: Files + AllocGlobal + Clone + Drop>(
     rt: &R,
     home: &Home,
     store: &MaildirStore,
-) -> Result<NearBoxes, PlaceRefusal> {
+) -> Result<NearBoxes, PlaceRefusal>
+    ensures names { IfOk result (λ found. AreBoxes home.now store.now found.looks.looks found.names.items) }
+{
     let alloc = rt.alloc();
     let root = home.place(alloc, &store.path)?;
     let inbox = home.place(alloc, &store.inbox)?;
     let FolderNames {
         mut within,
         mut beyond,
-    } = boxes_under(rt, root.as_str(), inbox.as_str())?;
+        mut looks,
+    } = boxes_under(rt, root, inbox.as_str())?;
     within.sort()?;
     beyond.sort()?;
-    let mut names = Vec::with_capacity(alloc, within.len())?;
-    if is_mailbox(rt, inbox.as_str())? {
+    let has_inbox = looks.is_mailbox(rt, inbox.as_str())?;
+    let mut names = first_names(alloc, has_inbox, within.len())?;
+    add_names(&mut names, within)?;
+    Ok(NearBoxes {
+        names,
+        skipped: beyond,
+        looks,
+    })
+}
+
+/// INBOX, if it is there, and room for so many other names.
+fn first_names(
+    alloc: Global,
+    has_inbox: bool,
+    others: usize,
+) -> Result<Vec<MailboxName>, AllocError>
+    ensures { IfOk result (λ names. names.items ≡ first_names has_inbox) }
+{
+    let mut names = Vec::with_capacity(alloc, others)?;
+    if has_inbox {
         names.push(MailboxName::inbox(alloc)?)?;
     }
-    for text in within {
+    Ok(names)
+}
+
+/// Adds the names of these texts, of those that are within the limits of a name.
+fn add_names(names: &mut Vec<MailboxName>, texts: Vec<String>) -> Result<(), PlaceRefusal>
+    ensures { OnOk result (names.new.items ≡ names.old.items ++ filter is_mailbox_name (map string_bytes texts.items)) }
+{
+    for text in texts {
         if let Some(name) = MailboxName::new(text) {
             names.push(name)?;
         }
     }
-    Ok(NearBoxes {
-        names,
-        skipped: beyond,
-    })
+    Ok(())
 }
 
 /// The folder of the near mailbox of this name.

@@ -5,6 +5,7 @@ pub mod boxes;
 pub mod fresh;
 pub mod home;
 pub mod lock;
+pub mod looks;
 pub mod names;
 pub mod refusal;
 mod tree;

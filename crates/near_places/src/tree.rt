@@ -1,48 +1,21 @@
 //! The mailboxes under a folder of a disk.
 
-ghost use Rattle.std.specs.Prelude.{◌≡◌, ◌&&◌, not};
-ghost use Rattle.mailcore.specs.MailboxNames.{is_mailbox_name};
-ghost use Rattle.near_places.specs.Names.{has_own_part};
+ghost use Rattle.std.specs.Prelude.{◌≡◌, ◌++◌, [], ◌∷◌, true, false, Some, length, nat_le, map, IfOk, OnOk, string_bytes};
 ghost use Rattle.near_places.specs.Refusals.{unless_beyond};
+ghost use Rattle.near_places.specs.Trees.{Agrees, AreBoxesUnder, IsLater, Tree, is_mail_folder, is_within};
+ghost use Rattle.near_places.specs.Walks.{Gained, GainedAt, GainedIn, GainedOf, followed, followed_root, is_among, is_at, listed_box, new_folder};
 
+use crate::looks::{Identity, Looks, PARTS};
 use crate::names::has_own_part;
 use crate::refusal::PlaceRefusal;
 use config_words::inbox::is_inbox;
-use device::disk::Disk;
 use mailcore::mailbox_name::is_mailbox_name;
-use std::alloc::AllocError;
-use std::io::ErrorKind;
-use std::os::unix::fs::MetadataExt;
+use std::alloc::{AllocError, Global};
 use std::rt::Files;
-use std::{fs, io};
 use texts::escape::push_escaped;
-
-/// The folders that make a folder a mailbox.
-const PARTS: [&str; 3] = ["cur", "new", "tmp"];
 
 /// How many bytes a name has at most below which folders are looked for.
 const LONGEST: usize = 255;
-
-/// Whether a mailbox stands in this folder. `CannotOpen`: the system does not say so.
-pub(crate) fn is_mailbox<R: Files + AllocGlobal + Clone + Drop>(
-    rt: &R,
-    folder: &str,
-) -> Result<bool, PlaceRefusal> {
-    match has_parts(rt, folder) {
-        Ok(answer) => Ok(answer),
-        Err(error) => Err(PlaceRefusal::at(rt.alloc(), folder, &error)),
-    }
-}
-
-fn has_parts<R: Files + AllocGlobal + Clone + Drop>(rt: &R, folder: &str) -> io::Result<bool> {
-    let disk = Disk::new(rt.clone()?, folder)?;
-    for part in PARTS {
-        if !disk.has_folder(part)? {
-            return Ok(false);
-        }
-    }
-    Ok(true)
-}
 
 /// The names of the mailboxes under a folder: the way from it to theirs.
 #[derive(Drop)]
@@ -51,6 +24,45 @@ pub(crate) struct FolderNames {
     pub(crate) within: Vec<String>,
     /// The others, escaped.
     pub(crate) beyond: Vec<String>,
+    /// What the system was asked for them, with its answers.
+    pub(crate) looks: Looks,
+}
+
+impl FolderNames {
+    fn new(alloc: Global) -> Self
+        ensures { result.within.items ≡ [] }
+    {
+        FolderNames {
+            within: Vec::new(alloc),
+            beyond: Vec::new(alloc),
+            looks: Looks::new(),
+        }
+    }
+
+    /// Adds the name of a folder, if it is a mailbox. Where it means INBOX, it is left out: INBOX stands elsewhere.
+    fn add(
+        &mut self,
+        alloc: Global,
+        name: String,
+        is_within: bool,
+        is_box: bool,
+    ) -> Result<(), PlaceRefusal>
+        ensures same { self.new.looks ≡ self.old.looks }
+        ensures beyond { is_within ≡ false → self.new.within.items ≡ self.old.within.items }
+        ensures within { OnOk result (is_within ≡ true → map string_bytes self.new.within.items ≡ map string_bytes self.old.within.items ++ listed_box (string_bytes name) is_box) }
+    {
+        if !is_box {
+            return Ok(());
+        }
+        if is_within && !is_inbox(name.as_bytes()) {
+            self.within.push(name)?;
+        } else {
+            let mut text = String::new(alloc);
+            push_escaped(&mut text, name.as_bytes())?;
+            self.beyond.push(text)?;
+        }
+        Ok(())
+    }
 }
 
 /// The names of the mailboxes under a folder whose path ends with a slash. None where it is not there.
@@ -58,21 +70,29 @@ pub(crate) struct FolderNames {
 /// The folder of Inbox is no mailbox under the root, whatever way leads to it; mailboxes below it are. What stands below a name of more
 /// than 255 bytes is left out. A symlink is what it leads to; one that leads to a folder above itself is left out. `CannotOpen`: a folder
 /// cannot be read; one whose name is beyond the limits comes to nothing then.
-pub(crate) fn boxes_under<'a, R: Files + AllocGlobal + Clone + Drop>(
-    rt: &'a R,
-    root: &'a str,
+pub(crate) fn boxes_under<R: Files + AllocGlobal + Clone + Drop>(
+    rt: &R,
+    root: String,
     inbox: &str,
-) -> Result<FolderNames, PlaceRefusal> {
-    let mut walk = TreeWalk::new(rt, root);
-    walk.begin()?;
-    walk.inbox = folder_at(rt, inbox)?;
+) -> Result<FolderNames, PlaceRefusal>
+    ensures { IfOk result (λ found. AreBoxesUnder (string_bytes root) inbox.now found.looks.looks (map string_bytes found.within.items)) }
+{
+    let mut walk = TreeWalk::new(rt.alloc());
+    let top = walk.names.looks.folder_at(rt, root.as_str())?;
+    walk.keep_root(rt.alloc(), top)?;
+    let start = WalkStart {
+        inbox: walk.names.looks.folder_at(rt, inbox)?,
+        root,
+    };
     for _ in 0..u64::MAX {
         let Some(folder) = walk.ahead.pop() else {
-            break;
+            return Ok(walk.names);
         };
-        unless_beyond(folder.is_within, walk.read(&folder))?;
+        let answer = walk.read(rt, &start, &folder);
+        unless_beyond(folder.is_within, answer)?;
     }
-    Ok(walk.names)
+    // More folders than can be counted.
+    Err(PlaceRefusal::NoMemory)
 }
 
 /// An answer of the system, but nothing of a folder that is left out because of its name keeps the others from being listed.
@@ -85,11 +105,12 @@ fn unless_beyond(is_within: bool, answer: Result<(), PlaceRefusal>) -> Result<()
     }
 }
 
-/// Which folder of the system it is, by whatever path.
-#[derive(Clone, Copy, PartialEq, Eq)]
-struct Identity {
-    device: u64,
-    number: u64,
+/// Where a walk begins.
+#[derive(Drop)]
+struct WalkStart {
+    root: String,
+    /// The folder of Inbox, if it is there.
+    inbox: Option<Identity>,
 }
 
 /// A folder that is to be read.
@@ -105,37 +126,30 @@ struct TreeFolder {
 
 /// A walk through the folders under a root.
 #[derive(Drop)]
-struct TreeWalk<'a, R: Files + AllocGlobal + Clone + Drop> {
-    rt: &'a R,
-    root: &'a str,
-    /// The folder of Inbox, if it is there.
-    inbox: Option<Identity>,
+struct TreeWalk {
     ahead: Vec<TreeFolder>,
     names: FolderNames,
 }
 
-impl<'a, R: Files + AllocGlobal + Clone + Drop> TreeWalk<'a, R> {
-    fn new(rt: &'a R, root: &'a str) -> Self {
-        let alloc = rt.alloc();
+impl TreeWalk {
+    fn new(alloc: Global) -> Self
+        ensures ahead { result.ahead.items ≡ [] }
+        ensures names { result.names.within.items ≡ [] }
+    {
         TreeWalk {
-            rt,
-            root,
-            inbox: None,
             ahead: Vec::new(alloc),
-            names: FolderNames {
-                within: Vec::new(alloc),
-                beyond: Vec::new(alloc),
-            },
+            names: FolderNames::new(alloc),
         }
     }
 
     /// Keeps the root to be read, if it is there.
-    fn begin(&mut self) -> Result<(), PlaceRefusal> {
-        let alloc = self.rt.alloc();
-        if let Some(identity) = folder_at(self.rt, self.root)? {
-            let mut above = Vec::new(alloc);
-            above.push(identity)?;
+    fn keep_root(&mut self, alloc: Global, found: Option<Identity>) -> Result<(), PlaceRefusal>
+        ensures same { self.new.names ≡ self.old.names }
+        ensures gained { OnOk result (Gained self.old self.new (followed_root found) []) }
+    {
+        if let Some(identity) = found {
             let way = String::new(alloc);
+            let above = with_folder(alloc, &[], identity)?;
             self.ahead.push(TreeFolder {
                 way,
                 above,
@@ -146,135 +160,176 @@ impl<'a, R: Files + AllocGlobal + Clone + Drop> TreeWalk<'a, R> {
     }
 
     /// Looks at what stands in a folder.
-    fn read(&mut self, folder: &TreeFolder) -> Result<(), PlaceRefusal> {
-        let path = self.path_of(folder.way.as_str())?;
-        let entries = match fs::read_dir(self.rt, path.as_str()) {
-            Ok(entries) => entries,
-            // It was just removed.
-            Err(error) if error.kind() == ErrorKind::NotFound => return Ok(()),
-            Err(error) => return Err(PlaceRefusal::at(self.rt.alloc(), path.as_str(), &error)),
-        };
-        for entry in entries {
-            match entry {
-                Ok(entry) => self.look(folder, entry.file_name())?,
-                // A name outside UTF-8 is beyond the limits, and cannot be had.
-                Err(error) if error.kind() == ErrorKind::InvalidFilename => {}
-                Err(error) => return Err(PlaceRefusal::at(self.rt.alloc(), path.as_str(), &error)),
-            }
+    fn read<R: Files + AllocGlobal + Clone + Drop>(
+        &mut self,
+        rt: &R,
+        start: &WalkStart,
+        folder: &TreeFolder,
+    ) -> Result<(), PlaceRefusal>
+        ensures later { IsLater self.old.names.looks.looks self.new.names.looks.looks }
+        ensures beyond { folder.now.is_within ≡ false → Gained self.old self.new [] [] }
+        ensures gained { OnOk result (folder.now.is_within ≡ true → (tree : Tree) → Agrees tree self.new.names.looks.looks
+            → GainedIn tree start.now folder.now (tree.names (string_bytes start.now.root ++ string_bytes folder.now.way)) self.old self.new) }
+    {
+        let path = path_of(rt.alloc(), start, folder.way.as_str())?;
+        let parts = self.names.looks.names_in(rt, path.as_str())?;
+        for part in parts {
+            self.look(rt, start, folder, part.as_str())?;
         }
         Ok(())
     }
 
     /// Looks at a part of a folder: if it is a folder that can be a mailbox or have one in it, it is to be read too.
-    fn look(&mut self, folder: &TreeFolder, part: &str) -> Result<(), PlaceRefusal> {
-        if PARTS.iter().any(|own| *own == part) {
+    fn look<R: Files + AllocGlobal + Clone + Drop>(
+        &mut self,
+        rt: &R,
+        start: &WalkStart,
+        folder: &TreeFolder,
+        part: &str,
+    ) -> Result<(), PlaceRefusal>
+        ensures later { IsLater self.old.names.looks.looks self.new.names.looks.looks }
+        ensures beyond { folder.now.is_within ≡ false → Gained self.old self.new [] [] }
+        ensures gained { OnOk result (folder.now.is_within ≡ true → (tree : Tree) → Agrees tree self.new.names.looks.looks
+            → GainedOf tree start.now folder.now part.now self.old self.new) }
+    {
+        if is_mail_folder(part) {
             return Ok(());
         }
         let mut name = folder.way.clone()?;
         name.push_str(part)?;
-        let is_within = is_within(name.as_str());
-        unless_beyond(is_within, self.visit(folder, name, is_within))
+        let is_within = folder.is_within && is_within(name.as_str());
+        let answer = self.visit(rt, start, folder, name, is_within);
+        unless_beyond(is_within, answer)
     }
 
     /// Looks at what stands at the end of this way, below a folder.
-    fn visit(
+    fn visit<R: Files + AllocGlobal + Clone + Drop>(
         &mut self,
+        rt: &R,
+        start: &WalkStart,
         above: &TreeFolder,
         name: String,
         is_within: bool,
-    ) -> Result<(), PlaceRefusal> {
-        let path = self.path_of(name.as_str())?;
-        match folder_at(self.rt, path.as_str())? {
-            Some(identity) if !above.above.contains(&identity) => {
-                self.keep(above, name.as_str(), identity, is_within)?;
-                if self.inbox == Some(identity) {
-                    return Ok(());
-                }
-                self.note(name, is_within, path.as_str())
-            }
-            _ => Ok(()),
+    ) -> Result<(), PlaceRefusal>
+        ensures later { IsLater self.old.names.looks.looks self.new.names.looks.looks }
+        ensures beyond { is_within ≡ false → Gained self.old self.new [] [] }
+        ensures gained { OnOk result (is_within ≡ true → nat_le (length (string_bytes name)) 255 ≡ true → (tree : Tree) → Agrees tree self.new.names.looks.looks
+            → GainedAt tree start.now (string_bytes name) above.now.above.items self.old self.new) }
+    {
+        let path = path_of(rt.alloc(), start, name.as_str())?;
+        let found = self.names.looks.folder_at(rt, path.as_str())?;
+        let Some(identity) = new_folder(above.above.as_slice(), found) else {
+            return Ok(());
+        };
+        self.keep(rt.alloc(), above, name.as_str(), identity, is_within)?;
+        if is_at(start.inbox, identity) {
+            return Ok(());
         }
+        self.note(rt, name, is_within, path.as_str())
     }
 
     /// Keeps a folder to be read, if its name is not too long: links could make the ways below it too many.
     fn keep(
         &mut self,
+        alloc: Global,
         above: &TreeFolder,
         name: &str,
         identity: Identity,
         is_within: bool,
-    ) -> Result<(), PlaceRefusal> {
+    ) -> Result<(), PlaceRefusal>
+        ensures same { self.new.names ≡ self.old.names }
+        ensures beyond { is_within ≡ false → Gained self.old self.new [] [] }
+        ensures gained { OnOk result (is_within ≡ true → nat_le (length name.now) 255 ≡ true
+            → Gained self.old self.new (followed name.now above.now.above.items (Some identity)) []) }
+    {
         if name.len() > LONGEST {
             return Ok(());
         }
-        let mut way = String::from_str(self.rt.alloc(), name)?;
+        let mut way = String::from_str(alloc, name)?;
         way.push('/')?;
-        let mut all = above.above.clone()?;
-        all.push(identity)?;
+        let above = with_folder(alloc, above.above.as_slice(), identity)?;
         self.ahead.push(TreeFolder {
             way,
-            above: all,
+            above,
             is_within,
         })?;
         Ok(())
     }
 
-    /// Notes the name of a folder, if it is a mailbox. Where its name means INBOX, it is left out: INBOX stands elsewhere.
-    fn note(&mut self, name: String, is_within: bool, path: &str) -> Result<(), PlaceRefusal> {
-        if !is_mailbox(self.rt, path)? {
-            return Ok(());
-        }
-        if is_within && !is_inbox(name.as_bytes()) {
-            self.names.within.push(name)?;
-        } else {
-            let mut text = String::new(self.rt.alloc());
-            push_escaped(&mut text, name.as_bytes())?;
-            self.names.beyond.push(text)?;
-        }
-        Ok(())
+    /// Notes the name of a folder, if it is a mailbox.
+    fn note<R: Files + AllocGlobal + Clone + Drop>(
+        &mut self,
+        rt: &R,
+        name: String,
+        is_within: bool,
+        path: &str,
+    ) -> Result<(), PlaceRefusal>
+        ensures later { IsLater self.old.names.looks.looks self.new.names.looks.looks }
+        ensures beyond { is_within ≡ false → Gained self.old self.new [] [] }
+        ensures gained { OnOk result (is_within ≡ true → (tree : Tree) → Agrees tree self.new.names.looks.looks
+            → Gained self.old self.new [] (listed_box (string_bytes name) (tree.is_box path.now))) }
+    {
+        let is_box = self.names.looks.is_mailbox(rt, path)?;
+        self.names.add(rt.alloc(), name, is_within, is_box)
     }
+}
 
-    /// The path of what stands at the end of this way.
-    fn path_of(&self, way: &str) -> Result<String, AllocError> {
-        let mut path = String::from_str(self.rt.alloc(), self.root)?;
-        path.push_str(way)?;
-        Ok(path)
+/// The path of what stands at the end of this way.
+fn path_of(alloc: Global, start: &WalkStart, way: &str) -> Result<String, AllocError>
+    ensures { IfOk result (λ path. string_bytes path ≡ string_bytes start.now.root ++ way.now) }
+{
+    let mut path = String::from_str(alloc, start.root.as_str())?;
+    path.push_str(way)?;
+    Ok(path)
+}
+
+/// The folders on a way, and one more.
+fn with_folder(
+    alloc: Global,
+    above: &[Identity],
+    folder: Identity,
+) -> Result<Vec<Identity>, AllocError>
+    ensures { IfOk result (λ all. all.items ≡ above.now ++ folder ∷ []) }
+{
+    let mut all = Vec::from_slice(alloc, above)?;
+    all.push(folder)?;
+    Ok(all)
+}
+
+/// A folder that is there, unless it is above itself.
+fn new_folder(above: &[Identity], found: Option<Identity>) -> Option<Identity>
+    ensures { result ≡ new_folder above.now found }
+{
+    match found {
+        Some(folder) if !is_among(above, folder) => Some(folder),
+        _ => None,
     }
+}
+
+/// Whether a folder is one of these.
+fn is_among(folders: &[Identity], folder: Identity) -> bool
+    ensures { result ≡ is_among folders.now folder }
+{
+    folders.contains(&folder)
+}
+
+/// Whether it is this folder that was found.
+fn is_at(found: Option<Identity>, folder: Identity) -> bool
+    ensures { result ≡ is_at found folder }
+{
+    found == Some(folder)
+}
+
+/// Whether a part of a folder is one of the three folders of a mailbox.
+fn is_mail_folder(part: &str) -> bool
+    ensures { result ≡ is_mail_folder part.now }
+{
+    PARTS.iter().any(|own| *own == part)
 }
 
 /// Whether a mailbox below the path of a store can have this name.
 fn is_within(name: &str) -> bool
-    ensures { result ≡ (is_mailbox_name name.now && not (has_own_part name.now)) }
+    ensures { result ≡ is_within name.now }
 {
     is_mailbox_name(name.as_bytes()) && !has_own_part(name)
-}
-
-/// Whether the same folder stands at both paths.
-pub(crate) fn is_same_folder<R: Files + AllocGlobal>(
-    rt: &R,
-    path: &str,
-    other: &str,
-) -> Result<bool, PlaceRefusal> {
-    match folder_at(rt, path)? {
-        Some(identity) => Ok(folder_at(rt, other)? == Some(identity)),
-        None => Ok(false),
-    }
-}
-
-/// Which folder stands there, if it is one.
-fn folder_at<R: Files + AllocGlobal>(rt: &R, path: &str) -> Result<Option<Identity>, PlaceRefusal> {
-    match fs::metadata(rt, path) {
-        Ok(found) if found.is_dir() => Ok(Some(Identity {
-            device: found.dev(),
-            number: found.ino(),
-        })),
-        Ok(_) => Ok(None),
-        Err(error) if is_nothing(error.kind()) => Ok(None),
-        Err(error) => Err(PlaceRefusal::at(rt.alloc(), path, &error)),
-    }
-}
-
-/// Whether an error says that there is nothing: a symlink leads nowhere, or the file was just removed.
-fn is_nothing(kind: ErrorKind) -> bool {
-    kind == ErrorKind::NotFound || kind == ErrorKind::FilesystemLoop
 }

@@ -16,6 +16,9 @@ returns g c = record {
     unlent = c.new-stores.ensures.unlent;
     runs = c.run_over.ensures.runs;
   };
+  listed =
+      let home = home_from _ _ _ _ c.new-stores.ensures.unasked c.run_over.ensures.asked in
+      record { far = c.run_over.result.0.listed; near = rw home c.run_over.result.0.found };
   stood =
       let home = home_from _ _ _ _ c.new-stores.ensures.unasked c.run_over.ensures.asked in
       let fresh = fresh_from _ _ _ _ c.new-stores.ensures.unasked c.run_over.ensures.asked in

@@ -1,6 +1,13 @@
-use Rattle.std.proofs.Common.{refl}
-use Rattle.mail_stores.proofs.LoanLemmas.{lends_none_in}
+use Rattle.mail_stores.proofs.ListedLemmas.{listed_more}
 use Rattle.mail_stores.proofs.as_stores.MailStoresBoxLists.far_boxes.Goals as goal
 
-pub returns-clause-lent : goal.returns-clause-lent
-returns-clause-lent g c = lends_none_in (λ stores. stores.past.loans) _ _ _ _ c.far_names-names.ensures.past refl refl
+-- one far store more was listed
+pub invariant_of-self : goal.invariant_of-self
+invariant_of-self g c =
+    let kept = c.far_names.new.self in
+    record {
+      listed = listed_more _ c.args.store.now c.in-Ok.names.items c.in-Ok.over kept.past.asked.asked c.note.new.history.asked kept.past.listed.items c.and-self.result.items
+          c.note.ensures c.and-self.ensures c.in-Ok.ensures.listed kept.listed;
+      found = rw c.note.ensures kept.found;
+      placed = kept.placed;
+    }

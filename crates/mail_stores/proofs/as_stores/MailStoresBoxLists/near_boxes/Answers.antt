@@ -1,6 +1,13 @@
-use Rattle.std.proofs.Common.{refl}
-use Rattle.mail_stores.proofs.LoanLemmas.{lends_none_in}
+use Rattle.mail_stores.proofs.ListedLemmas.{found_more}
 use Rattle.mail_stores.proofs.as_stores.MailStoresBoxLists.near_boxes.Goals as goal
 
-pub returns-clause-lent : goal.returns-clause-lent
-returns-clause-lent g c = lends_none_in (λ stores. stores.past.loans) _ _ _ _ c.near_names-found.ensures.past refl refl
+-- one near store more was listed
+pub invariant_of-self : goal.invariant_of-self
+invariant_of-self g c =
+    let kept = c.near_names.new.self in
+    record {
+      listed = rw c.note.ensures kept.listed;
+      found = found_more kept.reach.home c.args.store.now c.in-Ok.names.items c.in-Ok.looks kept.past.asked.asked c.note.new.history.asked kept.past.found.items c.and-self.result.items
+          c.note.ensures c.and-self.ensures (rw c.in-Ok.ensures.reach c.in-Ok.ensures.found) kept.found;
+      placed = kept.placed;
+    }

@@ -4,4 +4,3 @@ use Rattle.mail_stores.proofs.mail_stores.MailStores+R+P+C.servable.Given as goa
 -- nothing is asked or lent, and near mailboxes are where they were
 abbrev pub invariant-loop-name : goal.invariant-loop-name
 invariant-loop-name g l = (l.self.past ≡ l.fn.self.past) × (l.self.reach ≡ l.fn.self.reach)
-    × (goal.iterator-loop-name g).can_next l.name-iterator × (goal.iterator-loop-name g).is_finite l.name-iterator

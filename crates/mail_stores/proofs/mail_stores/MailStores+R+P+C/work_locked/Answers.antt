@@ -5,8 +5,11 @@ use Rattle.mail_stores.proofs.mail_stores.MailStores+R+P+C.work_locked.Goals as 
 
 -- the mailbox stood at its place
 pub invariant_of-self : goal.invariant_of-self
-invariant_of-self g c =
-    record { placed = stood_more _ _ _ _ _ _ _ _ _ c.work-sides.ensures.noted c.and-self.ensures c.requires.placed c.args.self.now.placed }
+invariant_of-self g c = record {
+  listed = c.args.self.now.listed;
+  found = c.args.self.now.found;
+  placed = stood_more _ _ _ _ _ _ _ _ _ c.work-sides.ensures.noted c.and-self.ensures c.requires.placed c.args.self.now.placed;
+}
 
 pub returns-clause-lent : goal.returns-clause-lent
 returns-clause-lent g c = lends_kept _ _ _ _ (c.keep_far.ensures.past ∙ c.note_end.ensures.past) c.work-sides.ensures.lent
