@@ -250,13 +250,14 @@ class Person:
 
     # ---- commands of a run at work
 
-    def sees(self, command):
-        """A command of the run comes: where it names a message that was kept near too short a time ago for a look, less is promised."""
+    def sees(self, command, came):
+        """A command of the run came at this time: where it names a message that was kept near since then, or too short a time before for a
+        look, less is promised."""
         if command.verb not in (b"UID STORE", b"UID EXPUNGE"):
             return
         uid = command.uids()
         for message in self.messages.values():
-            if message.uids["far"] == uid and time.monotonic() - message.kept_at < SOON:
+            if message.uids["far"] == uid and came - message.kept_at < SOON:
                 self.log.append(f"{command.verb.decode()} {uid} came soon after {message.name} was kept")
                 message.must["far"] = None
                 now = self.moment(message)

@@ -110,12 +110,13 @@ class Course:
         seen, started, process = [], threading.Event(), []
 
         def script(talk, command):
+            came = time.monotonic()
             seen.append(command.verb)
             started.wait(10)
             if len(seen) in moments:
                 person.act(person.undelete_near, person.undelete_far, person.put_back, person.take, person.mark_near, person.mark_far, person.flag)
                 time.sleep(moments[len(seen)])
-            person.sees(command)
+            person.sees(command, came)
             if len(seen) != end:
                 return False
             if how != "before":
