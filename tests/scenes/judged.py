@@ -38,6 +38,8 @@ def promises(tally):
     for rule, name, cases in ((kept_near, "near", NEAR_CASES), (kept_far, "far", FAR_CASES)):
         for flags, steps, logged, is_there, wanted in cases:
             tally.same(f"kept {name}: recorded {flags}, {logged} of {steps}", rule(moment(flags, steps, logged), is_there, False), wanted)
+    at_work = moment_of(STATE % "-", PLAN % (f"s {EXPUNGE_FAR}\n", "d 1\n"), 5, 6, frozenset(["far"]))
+    tally.same("kept near while a run is at work that has removed the far one", kept_near(at_work, False, False), NOTHING)
     tally.same("a half entry", kept_far(moment_of(STATE.replace("5 6", "5 0") % "-", None, 5, 6), False, False), FAR)
 
 

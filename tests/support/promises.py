@@ -13,7 +13,7 @@ NOTHING = {"far": None, "near": None}
 @dataclass
 class Moment:
     """What is known of a pair: the flags that its entry records, or none where no entry has both sides; the steps of a pending plan that
-    name it, each with whether it is logged; and what Expunge covers in the run at work, if one is and has no plan yet."""
+    name it, each with whether it is logged; and what Expunge covers in the run at work, if one is."""
     recorded: frozenset | None = None
     steps: dict = field(default_factory=dict)
     has_plan: bool = False
@@ -72,8 +72,10 @@ def kept_near(now, is_there, has_own_mark):
     if now.recorded is None:
         return {"far": None, "near": True}
     if not is_there:
-        # What the server lacks is called gone again by the rules, unless the pending plan itself has removed it there, or has called it gone.
-        return {"far": None, "near": True if now.has("expunge far") or now.is_logged("gone pull") else None}
+        # What the server lacks is called gone again by the rules, unless the pending plan itself has removed it there, or has called it gone
+        # already: the run that resumes it looks. A run at work may have looked for the last time.
+        is_looked_for = now.covered is None and (now.has("expunge far") or now.is_logged("gone pull"))
+        return {"far": None, "near": True if is_looked_for else None}
     if has_own_mark and not now.has("mark pull"):
         return dict(NOTHING)
     if now.removes("far"):
