@@ -3,6 +3,7 @@ pub mod DiskCalls
 pub mod DiskCopying
 pub mod DiskListing
 pub mod FileLemmas
+pub mod FrontLemmas
 pub mod GainLemmas
 pub mod IndexLemmas
 pub mod LetterLemmas

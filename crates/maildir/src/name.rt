@@ -1,10 +1,11 @@
 //! The names of files in a Maildir folder.
 
-ghost use Rattle.std.specs.Prelude.{◌≡◌, ◌++◌, IfOk, Some, None, decimal, codes, drop, nat_eq, if◌then◌else◌, ◌&&◌};
+ghost use Rattle.std.specs.Prelude.{◌≡◌, ◌++◌, IfOk, Some, None, decimal, codes, drop, nat_eq, if◌then◌else◌, ◌&&◌, [], unwrap_or};
 ghost use Rattle.std.specs.List.{starts_with, list_all};
 ghost use Rattle.std.specs.Option.{option_map, option_copied};
 ghost use Rattle.maildir.specs.Names.{name_of, name_text, parts_of, uid_of, uid_at_end, letters_at_end, name_before, if_base, is_base};
 ghost use Rattle.maildir.specs.Names.{is_base_byte, is_below, are_letters};
+ghost use Rattle.maildir.specs.FlaggedNames.{letters_by_name};
 
 use mailcore::uid::Uid;
 use std::alloc::{AllocError, Global};
@@ -30,6 +31,27 @@ pub fn read_name(text: &[u8]) -> Option<Name<'_>>
 {
     let (front, letters) = split_letters(text)?;
     name_before(front, letters)
+}
+
+/// The letters of the name that these bytes spell: none where it has none, or they spell no name. Its UID is not read.
+pub fn letters_in(text: &[u8]) -> &[u8]
+    ensures { result.now ≡ letters_by_name text.now }
+{
+    match split_letters(text) {
+        Some((front, letters)) => letters_before(front, letters),
+        None => b"",
+    }
+}
+
+/// These letters, if a base and a UID, or a base alone, stand before them.
+fn letters_before<'a>(front: &'a [u8], letters: Option<&'a [u8]>) -> &'a [u8]
+    ensures { result.now ≡ (if is_base front.now then unwrap_or (option_copied letters.entry) [] else []) }
+{
+    if is_base(front) {
+        letters.unwrap_or(b"")
+    } else {
+        b""
+    }
 }
 
 /// The text of a name, which is its spelling where it has one.

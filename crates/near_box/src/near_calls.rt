@@ -6,7 +6,7 @@ ghost use Rattle.device.specs.Calls.{Nothing};
 ghost use Rattle.mailcore.specs.FlagSet.{DELETED, has};
 ghost use Rattle.near_box.specs.Entries.{AreRising, IsUnmarked};
 ghost use Rattle.maildir.specs.Folders.{text_of, name_at, renamed_file};
-ghost use Rattle.maildir.specs.FlaggedNames.{flags_by_name, letters_by_name};
+ghost use Rattle.maildir.specs.FlaggedNames.{flags_by_name};
 ghost use Rattle.near_box.specs.NearEffects.{name_flagged, copy_name, copy_base, set_name, file_of, admitted, name_admitted, Does};
 ghost use Rattle.near_box.specs.NearCalls.{Part};
 
@@ -17,7 +17,7 @@ use mailcore::keywords::Keywords;
 use mailcore::uid::Uid;
 use maildir::folder::{FileName, Folder, Location, Origin, Place};
 use maildir::letters::{flags_in, letters_with};
-use maildir::name::{read_name, spell};
+use maildir::name::{letters_in, read_name, spell};
 use std::alloc::{AllocError, Global};
 use texts::number::push_number;
 
@@ -76,16 +76,6 @@ pub fn is_deleted(entries: &[SurveyEntry], uid: Uid, keywords: &Keywords) -> boo
     match place_of(entries, uid) {
         Some(i) => flags_of(&entries[i], keywords).has(Flag::Deleted),
         None => false,
-    }
-}
-
-/// The letters in the name of a file.
-fn letters_in(name: &[u8]) -> &[u8]
-    ensures { result.now ≡ letters_by_name name.now }
-{
-    match read_name(name) {
-        Some(name) => name.letters.unwrap_or(b""),
-        None => b"",
     }
 }
 
