@@ -19,7 +19,7 @@ from tests.support import trial_imapd
 from tests.support.imap_side import ImapSide
 from tests.support.measured import instructions, system_calls
 from tests.support.messages import of_3_kb
-from tests.support.places import MBSYNC, must_run, parser_of
+from tests.support.places import parser_of
 from tests.support.tally import Tally
 
 EXPUNGING = CHANNEL + "Expunge Both\n"
@@ -123,18 +123,10 @@ def told(cost):
 
 
 def main():
-    words = parser_of(__doc__)
-    words.add_argument("--program", default=MBSYNC, help="the built mbsync, if it is left out")
-    words.add_argument("--isync", default="/usr/bin/mbsync", help="/usr/bin/mbsync, if it is left out")
-    trial_imapd.take_server(words)
-    words.add_argument("names", nargs="*", help="only works with one of these in their names")
-    words = words.parse_args()
-    must_run(words.program)
-    trial_imapd.use_server(words.server)
     tally = Tally()
-    if not os.access(words.isync, os.X_OK):
-        tally.skip("isync", f"it is not installed at {words.isync}")
-        tally.end()
+    words = parser_of(__doc__)
+    words.add_argument("names", nargs="*", help="only works with one of these in their names")
+    words = trial_imapd.programs_beside(tally, words)
     print("%-24s %-13s %14s %14s %s" % ("", "", "mbsync", "isync", "quotient"))
     for work in [it for it in WORKS + LONG_WORKS if any(name in it.name for name in words.names)] if words.names else WORKS:
         show(work, costs(tally, work, words.program, False), costs(tally, work, words.isync, True))

@@ -19,7 +19,7 @@ from tests.support.go_between import GoBetween
 from tests.support.maildir_side import MaildirSide
 from tests.support.measured import measured, system_calls
 from tests.support.messages import of_3_kb
-from tests.support.places import MBSYNC, must_run, parser_of
+from tests.support.places import parser_of
 from tests.support.tally import Tally
 
 MAILBOXES, MESSAGES, RUNS = 33, 10, 15
@@ -66,17 +66,8 @@ def names():
 
 
 def main():
-    words = parser_of(__doc__)
-    words.add_argument("--program", default=MBSYNC, help="the built mbsync, if it is left out")
-    words.add_argument("--isync", default="/usr/bin/mbsync", help="/usr/bin/mbsync, if it is left out")
-    trial_imapd.take_server(words)
-    words = words.parse_args()
-    must_run(words.program)
-    trial_imapd.use_server(words.server)
     tally = Tally()
-    if not os.access(words.isync, os.X_OK):
-        tally.skip("isync", f"it is not installed at {words.isync}")
-        tally.end()
+    words = trial_imapd.programs_beside(tally, parser_of(__doc__))
     with tempfile.TemporaryDirectory() as ours, tempfile.TemporaryDirectory() as theirs:
         places = [Place(ours, words.program, False), Place(theirs, words.isync, True)]
         try:

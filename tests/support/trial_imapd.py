@@ -1,4 +1,5 @@
 """Starts trial-imapd on a world of its own, for the scripts that talk to it."""
+import os
 import socket
 import subprocess
 import sys
@@ -39,6 +40,21 @@ def program_over(text):
     places.must_run(words.program)
     use_server(words.server)
     return words.program
+
+
+def programs_beside(tally, words):
+    """The words of a script that measures mbsync beside isync over the trial-imapd that it runs, as this parser reads them with its own:
+    `program` and `isync`. Where isync is not installed, that is told and the script ends."""
+    words.add_argument("--program", default=places.MBSYNC, help="the built mbsync, if it is left out")
+    words.add_argument("--isync", default="/usr/bin/mbsync", help="/usr/bin/mbsync, if it is left out")
+    take_server(words)
+    words = words.parse_args()
+    places.must_run(words.program)
+    use_server(words.server)
+    if not os.access(words.isync, os.X_OK):
+        tally.skip("isync", f"it is not installed at {words.isync}")
+        tally.end()
+    return words
 
 
 def world(messages, keywords=()):
