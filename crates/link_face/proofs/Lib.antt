@@ -1,4 +1,4 @@
-pub mod Searching
+pub mod SoughtLemmas
 pub mod Pieces
 pub mod Utf8Names
 pub mod NameLemmas
@@ -7,13 +7,19 @@ pub mod SentLemmas
 pub mod Feeding
 pub mod OneToOne
 pub mod ProfileLemmas
+pub mod SaidLemmas
+pub mod Speaking
 pub mod TakenLemmas
+pub mod FrontLemmas
 pub mod Utf16Back
 pub mod RunsBack
 pub mod NamesBack
 pub mod ChunkLemmas
+pub mod HandingLemmas
 pub mod HeadLemmas
 pub mod Extending
+pub mod FaceLemmas
+pub mod LinkLemmas
 pub mod TurnLemmas
 pub mod RowLemmas
 pub mod FlagLemmas

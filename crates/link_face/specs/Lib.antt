@@ -3,6 +3,8 @@ pub mod Commands
 pub mod Extents
 pub mod Faces
 pub mod FlagWords
+pub mod Fronts
+pub mod Handing
 pub mod Heads
 pub mod Hearing
 pub mod Listing
@@ -11,4 +13,5 @@ pub mod Profile
 pub mod Reading
 pub mod Rooms
 pub mod Rows
+pub mod Said
 pub mod Turning

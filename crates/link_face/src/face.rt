@@ -5,9 +5,10 @@ ghost use Rattle.mailcore.specs.CopyPieces.{text_left};
 ghost use Rattle.wire_reader.specs.Spelling.{crlf};
 ghost use Rattle.wire_reader.specs.Scanning.{start, scanned, owed_in};
 ghost use Rattle.link_face.specs.Commands.{GoesAsItIs, IsRenamed};
+ghost use Rattle.link_face.specs.Extents.{HasPart, IsListed, Looks};
 ghost use Rattle.link_face.specs.Faces.{IsSpelled};
 ghost use Rattle.link_face.specs.Rooms.{whole_room, CountsReply};
-ghost use Rattle.link_face.specs.Turning.{IsTurned, Leaves, Unchanged, held_of};
+ghost use Rattle.link_face.specs.Turning.{IsTurned, Leaves, NotesNames, Unchanged, Untouched, held_of};
 
 use crate::command::with_far_name;
 use crate::extent::Extent;
@@ -38,45 +39,48 @@ pub(crate) struct Face {
     pub(crate) sent: Sent,
     /// How much may still come in answer to what was sent last.
     pub(crate) room: Room,
-    /// Whether a reply was replaced or left out, or a command was sent otherwise, on any connection.
-    pub(crate) changed: bool,
-    /// Whether nothing more is read of this connection.
-    is_lost: bool,
+    /// Whether a LIST reply of the profile was replaced or left out, or a command was sent with another name, on any connection.
+    pub(crate) renamed: bool,
+    /// Whether a connection was made, and no call over it has failed.
+    pub(crate) is_open: bool,
     /// How often the connection was given up.
     pub(crate) stops: StopCount,
     words: Rc<Words>,
 }
 
 impl Face {
-    /// Nothing came. What the server says to people is noted there.
-    pub(crate) fn new(alloc: Global, words: Rc<Words>) -> Face {
+    /// Nothing came, and no connection is open. What the server says to people is noted there.
+    pub(crate) fn new(alloc: Global, words: Rc<Words>) -> Face
+        ensures { result.is_open ≡ false }
+    {
         Face {
             alloc,
             incoming: Incoming::new(alloc),
             ready: Ready::new(alloc),
             sent: Sent::new(),
             room: Room::whole(),
-            changed: false,
-            is_lost: false,
+            renamed: false,
+            is_open: false,
             stops: StopCount::new(),
             words,
         }
     }
 
-    /// What came over an earlier connection is dropped, and nothing was sent over the new one.
+    /// What came over an earlier connection is dropped, and nothing was sent over the new one, which is not open yet.
     pub(crate) fn clear(&mut self)
         ensures incoming { self.new.incoming ≡ [] }
         ensures ready { self.new.ready ≡ [] }
         ensures sent { self.new.sent.scanner ≡ start }
         ensures room { self.new.room ≡ whole_room }
-        ensures changed { self.new.changed ≡ self.old.changed }
+        ensures renamed { self.new.renamed ≡ self.old.renamed }
+        ensures opened { self.new.is_open ≡ false }
         ensures stops { self.new.stops ≡ self.old.stops }
     {
         self.incoming.clear();
         self.ready.clear();
         self.sent = Sent::new();
         self.room = Room::whole();
-        self.is_lost = false;
+        self.is_open = false;
     }
 
     /// What is sent instead of these bytes: a command with the name of its mailbox in UTF-8. None: they are sent as they are, as the octets
@@ -89,9 +93,11 @@ impl Face {
             → IfOk result (λ found. MatchOption found (GoesAsItIs bytes.now) (λ turned. IsRenamed bytes.now turned.items)) }
         ensures sent { self.new.sent.scanner ≡ scanned self.old.sent.scanner bytes.now }
         ensures room { self.new.room ≡ whole_room }
-        ensures changed { IfOk result (λ found. MatchOption found (self.new.changed ≡ self.old.changed) (λ _. self.new.changed ≡ true)) }
-        ensures err { OnErr result (self.new.changed ≡ self.old.changed) }
+        ensures renamed { IfOk result (λ found. MatchOption found (self.new.renamed ≡ self.old.renamed) (λ _. self.new.renamed ≡ true)) }
+        ensures err { OnErr result (self.new.renamed ≡ self.old.renamed) }
         ensures held { held_of self.new ≡ held_of self.old }
+        ensures incoming { self.new.incoming ≡ self.old.incoming }
+        ensures opened { self.new.is_open ≡ self.old.is_open }
         ensures stops { self.new.stops ≡ self.old.stops }
     {
         let is_octets = self.sent.is_within_literal();
@@ -101,7 +107,7 @@ impl Face {
             return Ok(None);
         }
         let turned = with_far_name(self.alloc, bytes)?;
-        self.changed = self.changed || turned.is_some();
+        self.renamed = self.renamed || turned.is_some();
         Ok(turned)
     }
 
@@ -109,8 +115,10 @@ impl Face {
     pub(crate) fn note_copy(&mut self, copy: CopyPieces<'_>)
         ensures sent { self.new.sent.scanner ≡ scanned self.old.sent.scanner (text_left copy.entry ++ crlf) }
         ensures room { self.new.room ≡ whole_room }
-        ensures changed { self.new.changed ≡ self.old.changed }
+        ensures renamed { self.new.renamed ≡ self.old.renamed }
         ensures held { held_of self.new ≡ held_of self.old }
+        ensures incoming { self.new.incoming ≡ self.old.incoming }
+        ensures opened { self.new.is_open ≡ self.old.is_open }
         ensures stops { self.new.stops ≡ self.old.stops }
     {
         self.sent.note_copy(copy);
@@ -119,10 +127,14 @@ impl Face {
 
     /// Turns replies until one is ready. Returns whether one is; if not, more has to come.
     ///
-    /// `Stopped`: a reply is too long or cannot be read, or there is no room for it, and nothing more is read of this connection.
-    /// `NoMemory`.
+    /// `Stopped`: no connection is open, or a reply is too long or cannot be read, or there is no room for it, and nothing more is read of
+    /// this connection. `NoMemory`.
+    #[tactic(auto, using(crate::proofs::FaceLemmas::same_unchanged, crate::proofs::FaceLemmas::same_notes, crate::proofs::FaceLemmas::untouched_unchanged, crate::proofs::FaceLemmas::untouched_notes, crate::proofs::FaceLemmas::unchanged_twice, crate::proofs::FaceLemmas::notes_twice))]
     pub(crate) fn turn(&mut self) -> Result<bool, LinkFault>
         ensures unchanged { Unchanged self.old self.new }
+        ensures names { NotesNames self.old self.new }
+        ensures opened { self.new.is_open ≡ true → self.old.is_open ≡ true }
+        ensures was_open { OnOk result (self.old.is_open ≡ true) }
         ensures some { result ≡ Ok true → 0 < length self.new.ready }
         ensures none { result ≡ Ok false → self.new.ready ≡ [] }
         ensures ready { OnOk result (Leaves self.old.ready self.new.ready) }
@@ -130,20 +142,65 @@ impl Face {
         ensures steady { OnOk result (self.new.stops ≡ self.old.stops) }
         ensures stopped { IsErrOf result LinkFault.Stopped → self.old.stops < self.new.stops }
     {
-        if self.is_lost {
+        if !self.is_open {
             return Err(self.lose());
         }
         for _ in 0..=self.incoming.len() {
             if !self.ready.is_empty() {
                 return Ok(true);
             }
-            match self.incoming.look() {
-                Extent::Begun => return Ok(false),
-                Extent::Whole(len) => self.turn_front(len)?,
-                Extent::TooLong => return Err(self.lose()),
+            let Ok(extent) = self.incoming.look() else {
+                return Err(LinkFault::NoMemory);
+            };
+            if !self.turn_found(extent)? {
+                return Ok(false);
             }
         }
         Ok(!self.ready.is_empty())
+    }
+
+    /// Turns the reply at the front of what came, which goes so far. Returns whether it has come.
+    #[tactic(auto, using(crate::proofs::FaceLemmas::same_unchanged, crate::proofs::FaceLemmas::same_notes, crate::proofs::FaceLemmas::untouched_unchanged, crate::proofs::FaceLemmas::untouched_notes, crate::proofs::FaceLemmas::kept_unchanged, crate::proofs::FaceLemmas::other_unchanged, crate::proofs::FaceLemmas::taken_notes))]
+    fn turn_found(&mut self, extent: Extent) -> Result<bool, LinkFault>
+        requires looks { Looks self.old.incoming extent }
+        requires none { self.old.ready ≡ [] }
+        ensures unchanged { Unchanged self.old self.new }
+        ensures names { NotesNames self.old self.new }
+        ensures ready { OnOk result (IsTurned self.new.ready) }
+        ensures none { result ≡ Ok false → self.new.ready ≡ [] }
+        ensures opened { self.new.is_open ≡ true → self.old.is_open ≡ true }
+        ensures counts { self.old.stops ≤ self.new.stops }
+        ensures steady { OnOk result (self.new.stops ≡ self.old.stops) }
+        ensures stopped { IsErrOf result LinkFault.Stopped → self.old.stops < self.new.stops }
+    {
+        match extent {
+            Extent::Begun => return Ok(false),
+            Extent::Heard(len) => self.keep(len)?,
+            Extent::Listed(len) => self.turn_list(len)?,
+            Extent::Whole(len) => self.turn_front(len)?,
+            Extent::TooLong => return Err(self.lose()),
+        }
+        Ok(true)
+    }
+
+    /// Turns the LIST reply of so many bytes at the front of what came, which is not heard as it came. That another is heard, or none, is
+    /// noted.
+    #[tactic(auto, using(crate::proofs::FaceLemmas::untouched_unchanged, crate::proofs::FaceLemmas::untouched_notes, crate::proofs::FaceLemmas::listed_unchanged, crate::proofs::FaceLemmas::listed_notes))]
+    fn turn_list(&mut self, len: usize) -> Result<(), LinkFault>
+        requires listed { HasPart IsListed self.old.incoming len }
+        requires none { self.old.ready ≡ [] }
+        ensures unchanged { Unchanged self.old self.new }
+        ensures names { NotesNames self.old self.new }
+        ensures ready { OnOk result (IsTurned self.new.ready) }
+        ensures room { OnOk result (CountsReply self.new.ready self.old.room self.new.room true) }
+        ensures opened { self.new.is_open ≡ true → self.old.is_open ≡ true }
+        ensures counts { self.old.stops ≤ self.new.stops }
+        ensures steady { OnOk result (self.new.stops ≡ self.old.stops) }
+        ensures stopped { IsErrOf result LinkFault.Stopped → self.old.stops < self.new.stops }
+    {
+        self.turn_front(len)?;
+        self.renamed = true;
+        Ok(())
     }
 
     /// Turns the reply of so many bytes at the front of what came. Where there is no room for what is handed out, the connection is
@@ -151,9 +208,12 @@ impl Face {
     fn turn_front(&mut self, len: usize) -> Result<(), LinkFault>
         requires within { len ≤ length self.old.incoming }
         requires none { self.old.ready ≡ [] }
-        ensures unchanged { Unchanged self.old self.new }
+        ensures failed { OnErr result (Untouched self.old self.new) }
+        ensures rest { OnOk result (self.old.incoming ≡ take len self.old.incoming ++ self.new.incoming) }
+        ensures renamed { self.new.renamed ≡ self.old.renamed }
         ensures ready { OnOk result (IsTurned self.new.ready) }
         ensures room { OnOk result (CountsReply self.new.ready self.old.room self.new.room true) }
+        ensures opened { self.new.is_open ≡ true → self.old.is_open ≡ true }
         ensures counts { self.old.stops ≤ self.new.stops }
         ensures steady { OnOk result (self.new.stops ≡ self.old.stops) }
         ensures stopped { IsErrOf result LinkFault.Stopped → self.old.stops < self.new.stops }
@@ -172,9 +232,13 @@ impl Face {
         requires within { len ≤ length self.old.incoming }
         requires none { self.old.ready ≡ [] }
         requires spelled { IsSpelled (take len self.old.incoming) }
-        ensures unchanged { Unchanged self.old self.new }
+        ensures failed { OnErr result (Untouched self.old self.new) }
+        ensures rest { OnOk result (self.old.incoming ≡ take len self.old.incoming ++ self.new.incoming) }
+        ensures renamed { self.new.renamed ≡ self.old.renamed }
+        ensures same { OnOk result (self.new.ready ≡ take len self.old.incoming) }
         ensures ready { OnOk result (IsTurned self.new.ready) }
         ensures room { OnOk result (CountsReply self.new.ready self.old.room self.new.room true) }
+        ensures opened { self.new.is_open ≡ true → self.old.is_open ≡ true }
         ensures counts { self.old.stops ≤ self.new.stops }
         ensures steady { OnOk result (self.new.stops ≡ self.old.stops) }
         ensures stopped { IsErrOf result LinkFault.Stopped → self.old.stops < self.new.stops }
@@ -190,10 +254,12 @@ impl Face {
     fn keep_front(&mut self, len: usize) -> Result<(), LinkFault>
         requires within { len ≤ length self.old.incoming }
         requires none { self.old.ready ≡ [] }
-        requires spelled { IsSpelled (take len self.old.incoming) }
-        ensures unchanged { Unchanged self.old self.new }
-        ensures ready { OnOk result (self.new.ready ≡ take len self.old.incoming) }
+        ensures failed { OnErr result (Untouched self.old self.new) }
+        ensures rest { OnOk result (self.old.incoming ≡ take len self.old.incoming ++ self.new.incoming) }
+        ensures renamed { self.new.renamed ≡ self.old.renamed }
+        ensures same { OnOk result (self.new.ready ≡ take len self.old.incoming) }
         ensures room { self.new.room ≡ self.old.room }
+        ensures opened { self.new.is_open ≡ self.old.is_open }
         ensures stops { self.new.stops ≡ self.old.stops }
         ensures err { IsErrOf result LinkFault.Stopped → ⊥ }
     {
@@ -210,9 +276,12 @@ impl Face {
         requires within { len ≤ length self.old.incoming }
         requires none { self.old.ready ≡ [] }
         requires turned { IsTurned bytes.items }
-        ensures unchanged { Unchanged self.old self.new }
+        ensures failed { OnErr result (Untouched self.old self.new) }
+        ensures rest { OnOk result (self.old.incoming ≡ take len self.old.incoming ++ self.new.incoming) }
+        ensures renamed { self.new.renamed ≡ self.old.renamed }
         ensures ready { OnOk result (IsTurned self.new.ready) }
         ensures room { OnOk result (CountsReply self.new.ready self.old.room self.new.room true) }
+        ensures opened { self.new.is_open ≡ true → self.old.is_open ≡ true }
         ensures counts { self.old.stops ≤ self.new.stops }
         ensures steady { OnOk result (self.new.stops ≡ self.old.stops) }
         ensures stopped { IsErrOf result LinkFault.Stopped → self.old.stops < self.new.stops }
@@ -228,16 +297,18 @@ impl Face {
     fn replace_front(&mut self, len: usize, bytes: Vec<u8>) -> Result<(), LinkFault>
         requires within { len ≤ length self.old.incoming }
         requires none { self.old.ready ≡ [] }
-        ensures unchanged { Unchanged self.old self.new }
+        ensures failed { OnErr result (Untouched self.old self.new) }
+        ensures rest { OnOk result (self.old.incoming ≡ take len self.old.incoming ++ self.new.incoming) }
+        ensures renamed { self.new.renamed ≡ self.old.renamed }
         ensures ready { OnOk result (self.new.ready ≡ bytes.items) }
         ensures room { self.new.room ≡ self.old.room }
+        ensures opened { self.new.is_open ≡ self.old.is_open }
         ensures stops { self.new.stops ≡ self.old.stops }
         ensures err { IsErrOf result LinkFault.Stopped → ⊥ }
     {
         let Ok(raw) = self.incoming.take(len) else {
             return Err(LinkFault::NoMemory);
         };
-        self.changed = true;
         self.words.note(&raw);
         self.ready.fill(bytes);
         Ok(())
@@ -247,14 +318,13 @@ impl Face {
     fn lose(&mut self) -> LinkFault
         ensures fault { result ≡ LinkFault.Stopped }
         ensures counted { self.old.stops < self.new.stops }
-        ensures incoming { self.new.incoming ≡ self.old.incoming }
-        ensures ready { self.new.ready ≡ self.old.ready }
-        ensures changed { self.new.changed ≡ self.old.changed }
+        ensures same { Untouched self.old self.new }
+        ensures opened { self.new.is_open ≡ false }
     {
-        if !self.is_lost {
+        if self.is_open {
             self.words.note_unread(self.incoming.first(UNREAD_MAX));
         }
-        self.is_lost = true;
+        self.is_open = false;
         self.stops.push();
         LinkFault::Stopped
     }

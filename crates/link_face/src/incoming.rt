@@ -1,7 +1,7 @@
 //! What came over a link and was not turned yet.
 
 ghost use Rattle.std.specs.Prelude.{◌≡◌, ◌≤◌, ◌++◌, [], drop, length, take, IfOk, OnOk, OnErr};
-ghost use Rattle.link_face.specs.Extents.{IsWithin};
+ghost use Rattle.link_face.specs.Extents.{Looks};
 
 use crate::extent::{Extent, ReplyExtent};
 use std::alloc::{AllocError, Global};
@@ -18,13 +18,14 @@ pub(crate) struct Incoming {
 }
 
 impl Model for Incoming {
-    ghost use Rattle.std.specs.Prelude.{ℕ, List, ◌≤◌, ◌+◌, drop, length};
+    ghost use Rattle.std.specs.Prelude.{ℕ, List, ◌≤◌, drop, length};
+    ghost use Rattle.link_face.specs.Extents.{IsSought};
 
     ghost Value = { List ℕ };
 
     ghost view = { λ i. drop i.taken i.bytes.items };
 
-    ghost invariant = { λ i. i.taken + i.search.scanned ≤ length i.bytes.items };
+    ghost invariant = { λ i. (i.taken ≤ length i.bytes.items) × IsSought i.search (drop i.taken i.bytes.items) };
 }
 
 impl Incoming {
@@ -65,12 +66,13 @@ impl Incoming {
         self.bytes.extend_from_slice(bytes)
     }
 
-    /// How far the reply at the front goes.
-    pub(crate) fn look(&mut self) -> Extent
+    /// How far the reply at the front goes. `AllocError`: memory ran out.
+    pub(crate) fn look(&mut self) -> Result<Extent, AllocError>
         ensures same { self.new ≡ self.old }
-        ensures within { IsWithin self.old result }
+        ensures looks { IfOk result (Looks self.old) }
     {
-        self.search.look(&self.bytes[self.taken..])
+        let alloc = *self.bytes.allocator();
+        self.search.look(alloc, &self.bytes[self.taken..])
     }
 
     /// The first so many bytes.

@@ -8,6 +8,7 @@ mod extent;
 mod face;
 pub mod face_link;
 mod flag_words;
+mod front;
 mod head;
 mod heard;
 mod incoming;

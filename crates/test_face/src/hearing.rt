@@ -46,8 +46,9 @@ impl Hearing {
     }
 }
 
-/// Adds what is handed out up to the end, and returns whether the link gave up.
+/// Adds what is handed out of a new connection up to the end, and returns whether the link gave up.
 fn hear_all(link: &mut FaceLink<BytesLink<'_>>, heard: &mut Vec<u8>) -> Result<bool, Failure> {
+    link.reconnect().map_err(|_| Failure::NoMemory)?;
     let mut piece = [0u8; ASKED];
     for _ in 0..u64::MAX {
         match link.recv(&mut piece) {
