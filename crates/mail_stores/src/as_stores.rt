@@ -1,24 +1,18 @@
 //! The real stores, as channels ask them: what they are asked for is noted for contracts alone.
 
-ghost use Rattle.std.specs.Prelude.{◌≡◌, ◌∷◌, IfOk};
+ghost use Rattle.std.specs.Prelude.{◌≡◌, ◌∷◌};
 ghost use Rattle.channels.specs.Asked.{Asked, Outcome, outcome_by, place_of};
-ghost use Rattle.channels.specs.Boxes.{Rises};
 ghost use Rattle.channels.specs.Lendings.{LendsFor};
 ghost use Rattle.channels.specs.Listings.{IsNoListing};
-ghost use Rattle.mail_stores.specs.Listed.{Finds, Lists, listed_at};
 ghost use Rattle.mail_stores.specs.Loans.{HaveKept, lent_of};
 ghost use Rattle.mail_stores.specs.Records.{StoresRecord, noted};
 ghost use Rattle.std.specs.Int.NonZero.{non_zero_u32_get};
 
-use crate::address::Addressed;
 use crate::asked_history::{note, note_at};
 use crate::last_box::LastBox;
 use crate::mail_stores::MailStores;
-use crate::names::NearNames;
 use crate::openings::Openings;
-use crate::reported::{list_fault, lock_fault, ordered, unlisted};
-use crate::server::RealLink;
-use crate::sessions::FarListing;
+use crate::reported::lock_fault;
 use channels::channel_box::{ChannelBox, ChannelStores};
 use channels::notice::Notice;
 use channels::stop_cause::StopCause;
@@ -28,11 +22,8 @@ use config::config::{ImapStore, MaildirStore};
 use imap_client::waits::Waits;
 use mailcore::mailbox_name::MailboxName;
 use mailcore::side::Side;
-use near_places::boxes::NearBoxes;
 use near_places::lock::LockFiles;
-use near_places::looks::Looks;
 use runner::progress::Progress;
-use std::alloc::AllocError;
 use std::net::Net;
 use std::rt::Clock;
 
@@ -41,60 +32,6 @@ impl<
     P: Progress + Waits + Copy,
     C,
 > MailStores<R, P, C> {
-    /// The names of the mailboxes of a far store, and the session that has listed them.
-    fn far_names(&mut self, store: &ImapStore) -> Result<FarListing<RealLink<R, P>>, ListFault>
-        ensures rising { IfOk result (λ listed. Rises listed.0.items) }
-        ensures listed { IfOk result (λ listed. Lists ⟦<RealLink<R, P> as Addressed>⟧.address listed_at store.now listed.0.items listed.1.items) }
-        ensures past { self.new.past ≡ self.old.past }
-        ensures reach { self.new.reach ≡ self.old.reach }
-    {
-        self.ask(store);
-        match self.names_at(store) {
-            Ok((names, over)) => Ok((ordered(self.reach.rt.alloc(), &names)?, over)),
-            Err(fault) => Err(unlisted(
-                self.reach.rt.alloc(),
-                store,
-                self.reach.notes.server_fault(fault),
-            )),
-        }
-    }
-
-    /// The names of the mailboxes of a near store, and what its disk answered.
-    fn near_names(&mut self, store: &MaildirStore) -> Result<(Vec<MailboxName>, Looks), ListFault>
-        ensures rising { IfOk result (λ found. Rises found.0.items) }
-        ensures found { IfOk result (λ found. Finds self.old.reach.home store.now found.0.items found.1) }
-        ensures past { self.new.past ≡ self.old.past }
-        ensures reach { self.new.reach ≡ self.old.reach }
-    {
-        let found = match self.reach.near_boxes(store) {
-            Ok(found) => found,
-            Err(refusal) => return Err(list_fault(refusal)),
-        };
-        for name in &found.skipped {
-            self.notices.skip(store.name.as_str(), name.as_str());
-        }
-        let alloc = self.reach.rt.alloc();
-        let NearBoxes { names, looks, .. } = found;
-        match NearNames::of(alloc, names) {
-            Ok(names) => Ok((ordered(alloc, &self.servable(store, names))?, looks)),
-            Err(AllocError) => Err(ListFault::NoMemory),
-        }
-    }
-
-    /// Makes this side of a mailbox.
-    fn make_side(&mut self, side: Side, place: ChannelBox<'_>) -> Result<(), StoreFault>
-        ensures past { self.new.past ≡ self.old.past }
-        ensures reach { self.new.reach ≡ self.old.reach }
-    {
-        match side {
-            Side::Far => {
-                self.ask(place.of.far_store);
-                self.make_far(place.of.far_store, place.far)
-            }
-            Side::Near => self.reach.make_near(place).map_err(lock_fault),
-        }
-    }
-
     /// Opens both sides of a mailbox, lends it, and does this over it.
     fn work_at<W: Work + Drop>(
         &mut self,
@@ -102,11 +39,11 @@ impl<
         work: W,
     ) -> Result<W::Answer, StoreFault>
         ensures asked { self.new.past.asked ≡ self.old.past.asked }
-        ensures reach { self.new.reach ≡ self.old.reach }
+        ensures reach { self.new.open.reach ≡ self.old.open.reach }
         ensures lent { LendsFor HaveKept lent_of (place_of place.entry) (W.did work) self.old.past.loans self.new.past.loans result }
     {
-        self.last = LastBox::none(self.reach.rt.alloc());
-        self.ask(place.of.far_store);
+        self.open.last = LastBox::none(self.open.reach.rt.alloc());
+        self.open.ask(place.of.far_store);
         match self.work_in(place, work) {
             Ok(answer) => Ok(answer),
             Err(fault) => Err(lock_fault(fault)),
@@ -122,7 +59,7 @@ impl<
         ghost asking: { Outcome → Asked }
         requires asks { (outcome : Outcome) → IsNoListing (asking outcome) }
         ensures asked { self.new.past.asked.asked ≡ asking (outcome_by W.ends result) ∷ self.old.past.asked.asked }
-        ensures reach { self.new.reach ≡ self.old.reach }
+        ensures reach { self.new.open.reach ≡ self.old.open.reach }
         ensures lent { LendsFor HaveKept lent_of (place_of place.entry) (W.did work) self.old.past.loans self.new.past.loans result }
     {
         let answer = self.work_at(place, work);
@@ -140,7 +77,7 @@ impl<
 
     ghost noted = { noted };
 
-    ghost asked = { λ stores. record { home = stores.reach.home; fresh = non_zero_u32_get stores.reach.fresh; things = stores.past.asked.asked } };
+    ghost asked = { λ stores. record { home = stores.open.reach.home; fresh = non_zero_u32_get stores.open.reach.fresh; things = stores.past.asked.asked } };
 
     ghost honest = { λ stores. HaveKept stores.past.loans };
 
@@ -149,7 +86,7 @@ impl<
     ghost opening = { C.opening };
 
     fn far_boxes(&mut self, store: &ImapStore) -> Result<Vec<MailboxName>, ListFault> {
-        match self.far_names(store) {
+        match self.open.far_names(store) {
             Ok((names, over)) => {
                 let listed = Ok(names);
                 self.past.listed = self.past.listed.and(&over);
@@ -165,7 +102,7 @@ impl<
     }
 
     fn near_boxes(&mut self, store: &MaildirStore) -> Result<Vec<MailboxName>, ListFault> {
-        match self.near_names(store) {
+        match self.open.near_names(store) {
             Ok((names, looks)) => {
                 let found = Ok(names);
                 self.past.found = self.past.found.and(&looks);
@@ -181,13 +118,16 @@ impl<
     }
 
     fn notices(&mut self, of: ChannelStores<'_>) -> Vec<Notice> {
-        self.hear();
-        self.notices.take(of)
+        self.open.hear();
+        self.open.notices.take(of)
     }
 
     fn server_words(&mut self) -> Option<String> {
-        let alloc = self.reach.rt.alloc();
-        self.asked.as_ref()?.words(alloc, &self.reach.notes.words)
+        let alloc = self.open.reach.rt.alloc();
+        self.open
+            .asked
+            .as_ref()?
+            .words(alloc, &self.open.reach.notes.words)
     }
 }
 
@@ -197,13 +137,13 @@ impl<
     C: Openings,
 > Stores for MailStores<R, P, C> {
     fn has_state(&mut self, place: ChannelBox<'_>) -> Result<bool, StoreFault> {
-        let found = self.reach.has_state(place).map_err(lock_fault);
+        let found = self.open.reach.has_state(place).map_err(lock_fault);
         note_at(&mut self.past.asked, place, Side::Near, &found);
         found
     }
 
     fn make(&mut self, side: Side, place: ChannelBox<'_>) -> Result<(), StoreFault> {
-        let made = self.make_side(side, place);
+        let made = self.open.make_side(side, place);
         note_at(&mut self.past.asked, place, side, &made);
         made
     }
@@ -217,16 +157,16 @@ impl<
     }
 
     fn stop_cause(&mut self) -> Option<StopCause> {
-        self.last.cause.take()
+        self.open.last.cause.take()
     }
 
     fn left_out(&mut self) -> Vec<String> {
-        let alloc = self.reach.rt.alloc();
-        std::mem::replace(&mut self.last.left_out, Vec::new(alloc))
+        let alloc = self.open.reach.rt.alloc();
+        std::mem::replace(&mut self.open.last.left_out, Vec::new(alloc))
     }
 
     fn end(&mut self) {
-        self.sessions.end();
+        self.open.sessions.end();
         note(&mut self.past.asked, &(), &());
     }
 }

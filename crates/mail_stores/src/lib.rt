@@ -15,6 +15,7 @@ pub mod mail_stores;
 mod names;
 pub mod notes;
 mod notices;
+mod open_stores;
 pub mod openings;
 mod past;
 mod reach;

@@ -4,56 +4,37 @@ ghost use Rattle.std.specs.Prelude.{◌≡◌, [], IfOk, OnErr, string_bytes};
 ghost use Rattle.channels.specs.Asked.{place_of};
 ghost use Rattle.channels.specs.Lendings.{IsLent, Lends};
 ghost use Rattle.channels.specs.Listings.{far_listings, near_listings};
-ghost use Rattle.mail_stores.specs.Addresses.{address_of};
-ghost use Rattle.mail_stores.specs.Listed.{AllFound, AllListed, Lists, synchronised_at};
+ghost use Rattle.mail_stores.specs.Listed.{AllFound, AllListed};
 ghost use Rattle.mail_stores.specs.Loans.{HaveKept, lent_of};
-ghost use Rattle.mail_stores.specs.Placed.{AllStood, AllStood-prop, AreOf, LeadsTo};
+ghost use Rattle.mail_stores.specs.Placed.{AllStood, AllStood-prop, AreOf};
 ghost use Rattle.mail_stores.specs.Records.{none_asked};
-ghost use Rattle.mail_stores.specs.Reached.{AreIn, IsAccount};
+ghost use Rattle.mail_stores.specs.Reached.{AreIn};
 ghost use Rattle.std.specs.Int.NonZero.{non_zero_u32_get};
 
-use crate::address::{Addressed, address_of};
-use crate::asked::Asked;
-use crate::guarded_work::GuardedSides;
-use crate::last_box::{BoxLocation, LastBox, cause_of, path_texts};
-use crate::names::{FarNames, NearNames, is_servable};
+use crate::address::Addressed;
+use crate::last_box::LastBox;
 use crate::notes::ServerNotes;
 use crate::notices::Notices;
+use crate::open_stores::OpenStores;
 use crate::past::Past;
-use crate::reach::{NearParts, Reach, RealSides};
-use crate::reported::{make_fault, unreached};
-use crate::server::{AskFault, RealLink, is_word};
-use crate::sessions::{FarListing, Sessions};
+use crate::reach::{Reach, RealSides};
+use crate::server::RealLink;
+use crate::sessions::Sessions;
 use book::disk_shelf::DiskShelf;
 use channels::channel_box::ChannelBox;
-use channels::store_fault::StoreFault;
 use channels::stores::Work;
-use config::config::{ImapStore, MaildirStore};
 use imap_client::waits::Waits;
-use imap_link::fault::FarFault;
-use imap_link::link::Link;
-use mail_sides::far_side::FarSide;
-use mail_sides::logged_in::LoggedIn;
-use mail_sides::sides::BothSides;
 use mailcore::keywords::Keywords;
-use mailcore::mailbox_name::MailboxName;
 use maildir::disk_folder::DiskFolder;
 use near_places::home::Home;
 use near_places::lock::{Lock, LockFault, LockFiles};
-use near_places::refusal::PlaceRefusal;
 use runner::progress::Progress;
-use std::alloc::{AllocError, Global};
 use std::marker::{Brand, PhantomData};
 use std::net::Net;
 use std::num::NonZeroU32;
 use std::rt::Clock;
 
 /// The stores of a configuration: mailboxes at IMAP servers, and folders of a disk.
-///
-/// One mailbox at a time is open: a store that is listed and a mailbox that is made or lent close the one before. One session at a time
-/// stands: it goes from the list of a store to its mailboxes, from one to the next, and on to the next list of the same store. It is ended
-/// where another store is asked, or a mailbox by another map of keywords than that by which its server is seen, and at the end. A session
-/// that has failed is opened anew by what is asked next.
 ///
 /// `C` is a choice of openings (`Openings`): it takes no memory, and changes nothing.
 #[derive(Drop)]
@@ -63,26 +44,17 @@ pub struct MailStores<
     C = Brand,
     L: Addressed = RealLink<R, P>,
 > {
-    pub(crate) reach: Reach<R, P>,
+    pub(crate) open: OpenStores<R, P, L>,
     progress: P,
-    /// The store whose server was asked last.
-    pub(crate) asked: Option<Asked>,
-    pub(crate) notices: Notices,
-    pub(crate) sessions: Sessions<L>,
-    /// The map of keywords of the mailbox that was open last, or of the first channel. By it the server is seen of a session that is opened
-    /// to list mailboxes or to make one: the next mailbox most likely has the same.
-    seen_by: Keywords,
-    /// What is known of the mailbox that was open last.
-    pub(crate) last: LastBox,
     /// What they were asked for, and the mailboxes that were lent.
     pub(crate) past: Past<L, DiskFolder<R>, DiskShelf<R>>,
     openings: PhantomData<C>,
     /// Each listing of a far store was answered as its server said.
     pub ghost listed: { ∥ AllListed L.address (far_listings past.asked.asked) past.listed.items ∥₁ },
     /// Each listing of a near store was answered as its disk said.
-    pub ghost found: { ∥ AllFound reach.home (near_listings past.asked.asked) past.found.items ∥₁ },
+    pub ghost found: { ∥ AllFound open.reach.home (near_listings past.asked.asked) past.found.items ∥₁ },
     /// Each mailbox that was lent stood at its place.
-    pub ghost placed: { AllStood L.address reach.home (non_zero_u32_get reach.fresh) past.loans.lent.loans past.as_lent.items } by { AllStood-prop L.address reach.home (non_zero_u32_get reach.fresh) past.loans.lent.loans past.as_lent.items },
+    pub ghost placed: { AllStood L.address open.reach.home (non_zero_u32_get open.reach.fresh) past.loans.lent.loans past.as_lent.items } by { AllStood-prop L.address open.reach.home (non_zero_u32_get open.reach.fresh) past.loans.lent.loans past.as_lent.items },
 }
 
 impl<
@@ -101,162 +73,29 @@ impl<
         seen_by: Keywords,
         progress: P,
     ) -> Self
-        ensures unasked { record { home = result.reach.home; fresh = non_zero_u32_get result.reach.fresh; things = result.past.asked.asked }
+        ensures unasked { record { home = result.open.reach.home; fresh = non_zero_u32_get result.open.reach.fresh; things = result.past.asked.asked }
             ≡ none_asked home (non_zero_u32_get fresh) }
         ensures unlent { lent_of result.past.loans ≡ [] }
     {
         let alloc = rt.alloc();
         MailStores {
-            reach: Reach {
-                rt,
-                home,
-                fresh,
-                notes,
-                waits: progress,
+            open: OpenStores {
+                reach: Reach {
+                    rt,
+                    home,
+                    fresh,
+                    notes,
+                    waits: progress,
+                },
+                asked: None,
+                notices: Notices::new(alloc),
+                sessions: Sessions::new(),
+                seen_by,
+                last: LastBox::none(alloc),
             },
             progress,
-            asked: None,
-            notices: Notices::new(alloc),
-            sessions: Sessions::new(),
-            seen_by,
-            last: LastBox::none(alloc),
             past: Past::new(),
             openings: PhantomData,
-        }
-    }
-
-    /// The server of this store is asked from now on.
-    pub(crate) fn ask(&mut self, store: &ImapStore)
-        ensures past { self.new.past ≡ self.old.past }
-        ensures reach { self.new.reach ≡ self.old.reach }
-    {
-        self.hear();
-        self.reach.notes.renew();
-        self.asked = Asked::new(self.reach.rt.alloc(), store).ok();
-    }
-
-    /// Notes what the server that was asked last has said beside faults.
-    pub(crate) fn hear(&mut self)
-        ensures past { self.new.past ≡ self.old.past }
-        ensures reach { self.new.reach ≡ self.old.reach }
-    {
-        if let Some(asked) = &self.asked {
-            self.notices.hear(&self.reach.notes.words, asked);
-        }
-    }
-
-    /// A session at the server of this store: the one that stands, or a new one.
-    fn session_at(&mut self, store: &ImapStore) -> Result<LoggedIn<RealLink<R, P>>, AskFault>
-        ensures server { IfOk result (λ s. ⟦<RealLink<R, P> as Addressed>⟧.address s.session.wire.link ≡ address_of store.now) }
-        ensures past { self.new.past ≡ self.old.past }
-        ensures reach { self.new.reach ≡ self.old.reach }
-    {
-        let alloc = self.reach.rt.alloc();
-        let Ok(address) = address_of(alloc, store) else {
-            return Err(AskFault::Far(FarFault::NoMemory));
-        };
-        let name = store.name.as_str();
-        if let Some(session) = self.sessions.take_at(name, address.as_str()) {
-            return Ok(session);
-        }
-        let session = self.reach.log_in(store, &self.seen_by)?;
-        self.sessions.keep(alloc, name, session);
-        match self.sessions.take_at(name, address.as_str()) {
-            Some(session) => Ok(session),
-            None => Err(AskFault::Far(FarFault::NoMemory)),
-        }
-    }
-
-    /// The names of the mailboxes at the server of a store, and the session that has listed them. A session that stood before may have been
-    /// ended by the server meanwhile: then a new one is asked.
-    pub(crate) fn names_at(
-        &mut self,
-        store: &ImapStore,
-    ) -> Result<FarListing<RealLink<R, P>>, AskFault>
-        ensures listed { IfOk result (λ listed. Lists ⟦<RealLink<R, P> as Addressed>⟧.address synchronised_at store.now listed.0.items listed.1.items) }
-        ensures past { self.new.past ≡ self.old.past }
-        ensures reach { self.new.reach ≡ self.old.reach }
-    {
-        if self.sessions.stands_at(store.name.as_str()) {
-            match self.names_over(store) {
-                Err(AskFault::Far(FarFault::Stopped)) => self.reach.notes.renew(),
-                names => return names,
-            }
-        }
-        self.names_over(store)
-    }
-
-    /// The names that the session at the server of a store lists, and this session.
-    fn names_over(&mut self, store: &ImapStore) -> Result<FarListing<RealLink<R, P>>, AskFault>
-        ensures listed { IfOk result (λ listed. Lists ⟦<RealLink<R, P> as Addressed>⟧.address synchronised_at store.now listed.0.items listed.1.items) }
-        ensures past { self.new.past ≡ self.old.past }
-        ensures reach { self.new.reach ≡ self.old.reach }
-    {
-        let session = self.session_at(store)?;
-        let alloc = self.reach.rt.alloc();
-        let (names, over) = match self.sessions.list(alloc, store.name.as_str(), session) {
-            Ok(listing) => listing,
-            Err(fault) => return Err(AskFault::Far(fault)),
-        };
-        match FarNames::of(alloc, names) {
-            Ok(names) => Ok((self.synchronised(store, names), over)),
-            Err(AllocError) => Err(AskFault::Far(FarFault::NoMemory)),
-        }
-    }
-
-    /// Those of the names at the server of a store that are synchronised. The others are noted.
-    fn synchronised(&mut self, store: &ImapStore, names: FarNames) -> Vec<MailboxName>
-        ensures names { result ≡ names.synchronised }
-        ensures past { self.new.past ≡ self.old.past }
-        ensures reach { self.new.reach ≡ self.old.reach }
-    {
-        for name in &names.skipped {
-            self.notices.skip(store.name.as_str(), name.as_str());
-        }
-        names.synchronised
-    }
-
-    /// Those of these near names that a server can have. The others are noted.
-    pub(crate) fn servable(&mut self, store: &MaildirStore, names: NearNames) -> Vec<MailboxName>
-        ensures names { result ≡ names.servable }
-        ensures past { self.new.past ≡ self.old.past }
-        ensures reach { self.new.reach ≡ self.old.reach }
-    {
-        for name in &names.skipped {
-            self.notices.skip(store.name.as_str(), name.as_str());
-        }
-        names.servable
-    }
-
-    /// Makes a mailbox at the server of a store. `Refused`: the server says no, or it cannot have one of this name, and then it is not
-    /// asked.
-    pub(crate) fn make_far(
-        &mut self,
-        store: &ImapStore,
-        name: &MailboxName,
-    ) -> Result<(), StoreFault>
-        ensures past { self.new.past ≡ self.old.past }
-        ensures reach { self.new.reach ≡ self.old.reach }
-    {
-        let alloc = self.reach.rt.alloc();
-        match is_servable(alloc, name) {
-            Ok(true) => {}
-            Ok(false) => return Err(make_fault(FarFault::Refused)),
-            Err(AllocError) => return Err(make_fault(FarFault::NoMemory)),
-        }
-        let name = name.as_str().as_bytes();
-        if !is_word(name) {
-            return Err(make_fault(FarFault::Refused));
-        }
-        match self.session_at(store) {
-            Ok(session) => self
-                .sessions
-                .create(alloc, store.name.as_str(), session, name)
-                .map_err(make_fault),
-            Err(fault) => {
-                let why = self.reach.notes.server_fault(fault);
-                Err(unreached(alloc, store, why))
-            }
         }
     }
 
@@ -271,13 +110,13 @@ impl<
             (IsLent (place_of place.entry) (λ this. W.did work this answer))) }
         ensures none { OnErr result (self.new.past ≡ self.old.past) }
         ensures asked { self.new.past.asked ≡ self.old.past.asked }
-        ensures reach { self.new.reach ≡ self.old.reach }
+        ensures reach { self.new.open.reach ≡ self.old.open.reach }
     {
-        let folder = self.reach.folder_of(place)?;
+        let folder = self.open.reach.folder_of(place)?;
         let path = folder.as_str();
-        let lock = Lock::take(&self.reach.rt, path)?;
-        let keywords = work.keywords().try_clone(self.reach.rt.alloc())?;
-        let sides = self.open_sides(place, path, &keywords)?;
+        let lock = Lock::take(&self.open.reach.rt, path)?;
+        let keywords = work.keywords().try_clone(self.open.reach.rt.alloc())?;
+        let sides = self.open.open_sides(place, path, &keywords)?;
         Ok(self.work_locked(place, path, &lock, sides, keywords, work))
     }
 
@@ -293,15 +132,15 @@ impl<
     ) -> W::Answer
         requires lock { string_bytes lock.now.folder ≡ folder.now }
         requires near { AreIn folder.now sides.sides.folder sides.sides.shelf sides.guard.folder }
-        requires placed { AreOf ⟦<RealLink<R, P> as Addressed>⟧.address self.old.reach.home (place_of place) sides.sides }
+        requires placed { AreOf ⟦<RealLink<R, P> as Addressed>⟧.address self.old.open.reach.home (place_of place) sides.sides }
         requires map { sides.sides.far.far.keywords ≡ keywords }
         requires asked { keywords ≡ (W.options work).keywords }
         ensures asked { self.new.past.asked ≡ self.old.past.asked }
-        ensures reach { self.new.reach ≡ self.old.reach }
+        ensures reach { self.new.open.reach ≡ self.old.open.reach }
         ensures lent { Lends HaveKept lent_of self.old.past.loans self.new.past.loans
             (IsLent (place_of place.entry) (λ this. W.did work this result)) }
     {
-        let (alloc, fresh) = (self.reach.rt.alloc(), self.reach.fresh);
+        let (alloc, fresh) = (self.open.reach.rt.alloc(), self.open.reach.fresh);
         self.past.as_lent = self.past.as_lent.and(&sides.sides);
         let (sides, answer) = sides.work(
             place,
@@ -313,115 +152,8 @@ impl<
             &self.progress,
             &mut self.past.loans,
         );
-        self.note_end(place, folder, &sides);
-        self.keep_far(place.of.far_store, sides.into_far());
+        self.open.note_end(place, folder, &sides);
+        self.open.keep_far(place.of.far_store, sides.into_far());
         answer
-    }
-
-    /// Both sides of a mailbox, the near one in this folder, the far one by this map of keywords. Nothing of them is open.
-    fn open_sides(
-        &mut self,
-        place: ChannelBox<'_>,
-        folder: &str,
-        keywords: &Keywords,
-    ) -> Result<RealSides<R, P>, LockFault>
-        ensures far { IfOk result (λ sides. IsAccount place.entry.of.far_store.now place.entry.far.now sides.sides.far.account) }
-        ensures host { IfOk result (λ sides. LeadsTo ⟦<RealLink<R, P> as Addressed>⟧.address place.entry.of.far_store.now sides.sides.far) }
-        ensures near { IfOk result (λ sides. AreIn folder.now sides.sides.folder sides.sides.shelf sides.guard.folder) }
-        ensures map { IfOk result (λ sides. sides.sides.far.far.keywords ≡ keywords.now) }
-        ensures past { self.new.past ≡ self.old.past }
-        ensures reach { self.new.reach ≡ self.old.reach }
-    {
-        let near = match self.reach.near_parts(folder) {
-            Ok(near) => near,
-            Err(refusal) => return Err(LockFault::Refused(refusal)),
-        };
-        match self.far_side(place, keywords) {
-            Ok(far) => Ok(sides_of(far, near)),
-            Err(refusal) => Err(LockFault::Refused(refusal)),
-        }
-    }
-
-    /// The far side of a mailbox, by this map of keywords: over the session that stands, if one does whose server is seen by it, or else over
-    /// a link that is not connected yet.
-    pub(crate) fn far_side(
-        &mut self,
-        place: ChannelBox<'_>,
-        keywords: &Keywords,
-    ) -> Result<FarSide<RealLink<R, P>>, PlaceRefusal>
-        ensures account { IfOk result (λ far. IsAccount place.entry.of.far_store.now place.entry.far.now far.account) }
-        ensures host { IfOk result (λ far. LeadsTo ⟦<RealLink<R, P> as Addressed>⟧.address place.entry.of.far_store.now far) }
-        ensures map { IfOk result (λ far. far.far.keywords ≡ keywords.now) }
-        ensures past { self.new.past ≡ self.old.past }
-        ensures reach { self.new.reach ≡ self.old.reach }
-    {
-        let alloc = self.reach.rt.alloc();
-        let store = place.of.far_store;
-        let account = self.reach.account(place)?;
-        let keywords = keywords.try_clone(alloc)?;
-        self.seen_by = keywords.try_clone(alloc)?;
-        let address = address_of(alloc, store)?;
-        let (name, address) = (store.name.as_str(), address.as_str());
-        match self.sessions.take_by(name, address, &keywords) {
-            Some(session) => Ok(FarSide::over(account, session, keywords)),
-            None => {
-                // what a server said to the end of its session is no answer of this one
-                self.reach.notes.renew();
-                let link = self.reach.link(store, &keywords)?;
-                Ok(FarSide::new(alloc, account, link, keywords))
-            }
-        }
-    }
-
-    /// Notes what stopped the run over a mailbox, and which files it left out or alone.
-    fn note_end(&mut self, place: ChannelBox<'_>, folder: &str, sides: &RealSides<R, P>)
-        ensures past { self.new.past ≡ self.old.past }
-        ensures reach { self.new.reach ≡ self.old.reach }
-    {
-        let alloc = self.reach.rt.alloc();
-        let GuardedSides { sides, guard } = sides;
-        let refused = guard.take_objection();
-        let (near, shelf) = (sides.folder.stop(), sides.shelf.stop());
-        let notes = &self.reach.notes;
-        let store = place.of.far_store.name.as_str();
-        let place = BoxLocation { store, folder };
-        self.last = LastBox {
-            cause: cause_of(alloc, place, refused, near, shelf, notes).ok(),
-            left_out: path_texts(alloc, folder, sides.folder.left_out()),
-        };
-        self.notices
-            .leave_alone(path_texts(alloc, folder, sides.folder.unspelled()));
-    }
-
-    /// Keeps the session of the far side of a mailbox at this store, if it goes on.
-    pub(crate) fn keep_far(&mut self, store: &ImapStore, far: FarSide<RealLink<R, P>>)
-        ensures past { self.new.past ≡ self.old.past }
-        ensures reach { self.new.reach ≡ self.old.reach }
-    {
-        if let Some(session) = far.into_session() {
-            let alloc = self.reach.rt.alloc();
-            self.sessions.keep(alloc, store.name.as_str(), session);
-        }
-    }
-}
-
-/// Both sides of a mailbox.
-fn sides_of<R: Net + LockFiles + Clock + AllocGlobal + Clone + Drop, P: Waits + Copy>(
-    far: FarSide<RealLink<R, P>>,
-    near: NearParts<R>,
-) -> RealSides<R, P>
-    ensures far { result.sides.far ≡ far }
-    ensures folder { result.sides.folder ≡ near.folder }
-    ensures shelf { result.sides.shelf ≡ near.shelf }
-    ensures look { result.guard ≡ near.look }
-{
-    let NearParts {
-        folder,
-        shelf,
-        look,
-    } = near;
-    GuardedSides {
-        sides: BothSides { far, folder, shelf },
-        guard: look,
     }
 }

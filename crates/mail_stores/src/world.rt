@@ -1,7 +1,10 @@
 //! The worlds of mailboxes.
 
+ghost use Rattle.std.specs.Prelude.{◌≡◌};
+
 use crate::last_box::{BoxLocation, LastBox, cause_of, path_texts};
 use crate::mail_stores::MailStores;
+use crate::open_stores::OpenStores;
 use crate::reach::NearParts;
 use crate::reported::lock_fault;
 use book::disk_shelf::DiskShelf;
@@ -35,6 +38,20 @@ impl<
         absent: Sides,
         reader: WorldReader<'_>,
     ) -> Result<Result<String, UnreadWorld>, StoreFault> {
+        self.open.world(place, absent, reader)
+    }
+}
+
+impl<R: Net + LockFiles + Clock + AllocGlobal + Clone + Drop, P: Waits + Copy> OpenStores<R, P> {
+    /// The text of the world of a mailbox that is absent on these sides.
+    fn world(
+        &mut self,
+        place: ChannelBox<'_>,
+        absent: Sides,
+        reader: WorldReader<'_>,
+    ) -> Result<Result<String, UnreadWorld>, StoreFault>
+        ensures reach { self.new.reach ≡ self.old.reach }
+    {
         self.last = LastBox::none(self.reach.rt.alloc());
         self.ask(place.of.far_store);
         let read = match (absent.far, absent.near) {
@@ -54,7 +71,9 @@ impl<
         &mut self,
         place: ChannelBox<'_>,
         reader: WorldReader<'_>,
-    ) -> Result<Result<String, UnreadWorld>, LockFault> {
+    ) -> Result<Result<String, UnreadWorld>, LockFault>
+        ensures reach { self.new.reach ≡ self.old.reach }
+    {
         let folder = self.reach.folder_of(place)?;
         let _lock = Lock::take_made(&self.reach.rt, folder.as_str())?;
         let files = self.near_files(folder.as_str())?;
@@ -71,7 +90,9 @@ impl<
         &mut self,
         place: ChannelBox<'_>,
         reader: WorldReader<'_>,
-    ) -> Result<Result<String, UnreadWorld>, LockFault> {
+    ) -> Result<Result<String, UnreadWorld>, LockFault>
+        ensures reach { self.new.reach ≡ self.old.reach }
+    {
         let keywords = &reader.options.keywords;
         let mut far = self.far_side(place, keywords).map_err(LockFault::Refused)?;
         let read = reader.text_without_near(&mut far, self.reach.fresh);
@@ -85,7 +106,9 @@ impl<
         &mut self,
         place: ChannelBox<'_>,
         reader: WorldReader<'_>,
-    ) -> Result<Result<String, UnreadWorld>, LockFault> {
+    ) -> Result<Result<String, UnreadWorld>, LockFault>
+        ensures reach { self.new.reach ≡ self.old.reach }
+    {
         let folder = self.reach.folder_of(place)?;
         let _lock = Lock::take_made(&self.reach.rt, folder.as_str())?;
         let files = self.near_files(folder.as_str())?;
@@ -103,7 +126,9 @@ impl<
     }
 
     /// Notes what the server said last.
-    fn note_far(&mut self, place: ChannelBox<'_>) {
+    fn note_far(&mut self, place: ChannelBox<'_>)
+        ensures reach { self.new.reach ≡ self.old.reach }
+    {
         let alloc = self.reach.rt.alloc();
         let store = place.of.far_store.name.as_str();
         let at = BoxLocation { store, folder: "" };
@@ -111,7 +136,9 @@ impl<
     }
 
     /// Notes what stopped the reading, and which files were left out or alone.
-    fn note_world(&mut self, place: ChannelBox<'_>, path: &str, files: &DiskFiles<R>) {
+    fn note_world(&mut self, place: ChannelBox<'_>, path: &str, files: &DiskFiles<R>)
+        ensures reach { self.new.reach ≡ self.old.reach }
+    {
         let alloc = self.reach.rt.alloc();
         let NearFiles { folder, shelf } = files;
         let store = place.of.far_store.name.as_str();

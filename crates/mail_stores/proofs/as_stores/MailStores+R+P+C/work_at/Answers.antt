@@ -1,9 +1,8 @@
-use Rattle.std.proofs.Common.{◌∙◌}
-use Rattle.mail_stores.proofs.LoanLemmas.{lends_after, none_kept}
+use Rattle.mail_stores.proofs.LoanLemmas.{none_kept}
 use Rattle.mail_stores.proofs.as_stores.MailStores+R+P+C.work_at.Goals as goal
 
 pub returns-in-Ok-clause-lent : goal.returns-in-Ok-clause-lent
-returns-in-Ok-clause-lent g c = lends_after _ _ _ _ c.ask.ensures.past c.in-Ok.ensures.lent
+returns-in-Ok-clause-lent g c = c.in-Ok.ensures.lent
 
 pub returns-in-Err-clause-lent : goal.returns-in-Err-clause-lent
-returns-in-Err-clause-lent g c = none_kept _ _ (c.in-Err.ensures.none ∙ c.ask.ensures.past)
+returns-in-Err-clause-lent g c = none_kept _ _ c.in-Err.ensures.none

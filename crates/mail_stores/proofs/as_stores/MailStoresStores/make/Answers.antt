@@ -3,4 +3,4 @@ use Rattle.mail_stores.proofs.LoanLemmas.{lends_none_in}
 use Rattle.mail_stores.proofs.as_stores.MailStoresStores.make.Goals as goal
 
 pub returns-clause-lent : goal.returns-clause-lent
-returns-clause-lent g c = lends_none_in (λ stores. stores.past.loans) _ _ _ _ c.make_side-made.ensures.past refl refl
+returns-clause-lent g c = lends_none_in (λ stores. stores.past.loans) _ _ _ _ refl refl refl
