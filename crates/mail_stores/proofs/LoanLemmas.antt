@@ -74,12 +74,6 @@ module _ {X L : Type 0} {links : link.Ghosts L} where
     same = λ h. ap (λ (loans : Loans L FolderParts FilesParts links). lent_of loans) same;
   }
 
-  -- nor has whoever holds those of the same past
-  pub lends_none_in : (held : X → Loans L FolderParts FilesParts links) (old new : X) (before now : Past L FolderParts FilesParts links) → now ≡ before
-      → held old ≡ before.loans → held new ≡ now.loans → LendsNone (λ x. HaveKept (held x)) (λ x. lent_of (held x)) old new
-  lends_none_in held old new before now same was is =
-      lends_none held old new (is ∙ ap (λ (past : Past L FolderParts FilesParts links). past.loans) same ∙ sym was)
-
 module _ {L : Type 0} {links : link.Ghosts L} where
   -- of the same past nothing was lent
   pub none_kept : (old new : Past L FolderParts FilesParts links) → new ≡ old → LendsNone HaveKept lent_of old.loans new.loans
@@ -87,13 +81,3 @@ module _ {L : Type 0} {links : link.Ghosts L} where
     was_honest = λ h. subst (λ (past : Past L FolderParts FilesParts links). HaveKept past.loans) same h;
     same = λ h. ap (λ (past : Past L FolderParts FilesParts links). lent_of past.loans) same;
   }
-
-  -- nothing was lent after that
-  pub lends_kept : (is_such : List LentPlace → Type 0) (old : Loans L FolderParts FilesParts links) (before now : Past L FolderParts FilesParts links) → now ≡ before
-      → Lends HaveKept lent_of old before.loans is_such → Lends HaveKept lent_of old now.loans is_such
-  lends_kept is_such old before now same h = subst (λ (past : Past L FolderParts FilesParts links). Lends HaveKept lent_of old past.loans is_such) (sym same) h
-
-  -- nor before it
-  pub lends_after : (is_such : List LentPlace → Type 0) (old before : Past L FolderParts FilesParts links) (now : Loans L FolderParts FilesParts links) → before ≡ old
-      → Lends HaveKept lent_of before.loans now is_such → Lends HaveKept lent_of old.loans now is_such
-  lends_after is_such old before now same h = subst (λ (past : Past L FolderParts FilesParts links). Lends HaveKept lent_of past.loans now is_such) same h

@@ -5,6 +5,6 @@ use Rattle.mail_stores.proofs.mail_stores.MailStores+R+P+C.work_locked.Goals as 
 pub invariant_of-self : goal.invariant_of-self
 invariant_of-self g c = record {
   listed = c.args.self.now.listed;
-  found = rw (c.keep_far.ensures, c.note_end.ensures) c.args.self.now.found;
-  placed = rw (c.keep_far.ensures, c.note_end.ensures) (stood_more _ _ _ _ _ _ _ _ _ c.work-sides.ensures.noted c.and-self.ensures c.requires.placed c.args.self.now.placed);
+  found = rw (c.keep_far.ensures.reach, c.note_end.ensures.reach) c.args.self.now.found;
+  placed = rw (c.keep_far.ensures.reach, c.note_end.ensures.reach) (stood_more _ _ _ _ _ _ _ _ _ c.work-sides.ensures.noted c.and-self.ensures c.requires.placed c.args.self.now.placed);
 }

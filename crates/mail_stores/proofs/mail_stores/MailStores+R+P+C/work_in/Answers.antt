@@ -1,0 +1,9 @@
+use Rattle.mail_stores.proofs.mail_stores.MailStores+R+P+C.work_in.Goals as goal
+
+-- near mailboxes are where they were
+pub invariant_of-self : goal.invariant_of-self
+invariant_of-self g c = record {
+  listed = c.args.self.now.listed;
+  found = rw c.open_sides.ensures.reach c.args.self.now.found;
+  placed = rw c.open_sides.ensures.reach c.args.self.now.placed;
+}
