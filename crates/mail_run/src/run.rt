@@ -22,11 +22,11 @@ use channels::run::run_config;
 use channels::stores::{BoxLists, Stores};
 use config::config::Config;
 use config::request::{Chosen, RunRequest};
-use mail_stores::address::Addressed;
 use mail_stores::mail_stores::MailStores;
 use mail_stores::notes::ServerNotes;
 use mail_stores::openings::Openings;
 use mail_stores::server::RealLink;
+use mail_stores::store_link::LinkOver;
 use mailcore::keywords::Keywords;
 use near_places::home::Home;
 use near_places::lock::LockFiles;
@@ -110,7 +110,9 @@ pub fn run_mail<
         Ok(start) => {
             say_none(&start.config, request, err);
             let screen = Screen::new(terminal);
-            let (_, status) = run_start::<R, T, O, E, Brand>(rt, request, start, &screen, out, err);
+            let (_, status) = run_start::<R, T, O, E, Brand, RealLink<R, ProgressLine<T>>>(
+                rt, request, start, &screen, out, err,
+            );
             status
         }
         Err(failure) => {
@@ -141,6 +143,7 @@ fn run_start<
     O: Write,
     E: Write,
     C: Openings,
+    L: LinkOver<R, ProgressLine<T>> + Drop,
 >(
     rt: R,
     request: &RunRequest,
@@ -148,12 +151,14 @@ fn run_start<
     screen: &Screen<T>,
     out: &mut O,
     err: &mut E,
-) -> (MailStores<R, ProgressLine<T>, C>, u8)
+) -> (MailStores<R, ProgressLine<T>, C, L>, u8)
     ensures settled { result.1 ≡ 0 → request.now.lists ≡ false
-        → HasSettled ⟦<MailStores<R, ProgressLine<T>, C> as BoxLists>⟧ (none_asked start.home (non_zero_u32_get start.fresh)) ⟦<ChaCha20Rng as Rng>⟧.stream start.config request.now result.0 }
-    ensures runs { HasRunOnly ⟦<MailStores<R, ProgressLine<T>, C> as BoxLists>⟧ (none_asked start.home (non_zero_u32_get start.fresh)) ⟦<ChaCha20Rng as Rng>⟧.stream start.config request.now result.0 }
-    ensures listed { HaveListed ⟦<RealLink<R, ProgressLine<T>> as Addressed>⟧.address start.home result.0.past }
-    ensures stood { HaveStood ⟦<RealLink<R, ProgressLine<T>> as Addressed>⟧.address start.home (non_zero_u32_get start.fresh) result.0.past }
+        → HasSettled ⟦<MailStores<R, ProgressLine<T>, C, L> as BoxLists>⟧ (none_asked start.home (non_zero_u32_get start.fresh))
+        ⟦<ChaCha20Rng as Rng>⟧.stream start.config request.now result.0 }
+    ensures runs { HasRunOnly ⟦<MailStores<R, ProgressLine<T>, C, L> as BoxLists>⟧ (none_asked start.home (non_zero_u32_get start.fresh))
+        ⟦<ChaCha20Rng as Rng>⟧.stream start.config request.now result.0 }
+    ensures listed { HaveListed L.address start.home result.0.past }
+    ensures stood { HaveStood L.address start.home (non_zero_u32_get start.fresh) result.0.past }
 {
     let Start {
         config,

@@ -10,10 +10,12 @@ use box_worlds::reader::WorldReader;
 use channels::scope::options_of;
 use channels::stores::Stores;
 use mail_stores::mail_stores::MailStores;
+use mail_stores::server::RealLink;
 use near_places::lock::LockFiles;
 use std::alloc::Global;
 use std::io;
 use std::io::Write;
+use std::marker::Brand;
 use std::net::Net;
 use std::rt::{Clock, Env};
 
@@ -81,7 +83,14 @@ fn start_world<R: Net + LockFiles + Env + Clock + AllocGlobal + Clone + Drop, O:
         );
         return status_of(reported, 2);
     };
-    let stores = MailStores::<R, ()>::new(rt, home, fresh, notes, seen_by, ());
+    let stores = MailStores::<R, (), Brand, RealLink<R, ()>>::new(
+        rt,
+        home,
+        fresh,
+        notes,
+        seen_by,
+        (),
+    );
     print_world(alloc, named, mailbox, bodies, stores, out, err)
 }
 

@@ -8,6 +8,7 @@ use channels::stores::Stores;
 use imap_client::waits::Waits;
 use mail_stores::mail_stores::MailStores;
 use mail_stores::openings::Openings;
+use mail_stores::store_link::LinkOver;
 use near_places::lock::LockFiles;
 use rules::options::Sides;
 use runner::progress::Progress;
@@ -29,7 +30,8 @@ impl<
     R: Net + LockFiles + Clock + AllocGlobal + Clone + Drop,
     P: Progress + Waits + Copy,
     C: Openings,
-> WorldStores for MailStores<R, P, C> {
+    L: LinkOver<R, P> + Drop,
+> WorldStores for MailStores<R, P, C, L> {
     fn read_world(
         &mut self,
         place: ChannelBox<'_>,

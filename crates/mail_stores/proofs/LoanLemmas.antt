@@ -1,5 +1,5 @@
 -- Mailboxes that were lent, and what they stood on.
-use Rattle.std.proofs.Common.{◌≡◌, ◌∙◌, List, [], ◌∷◌, refl, ap, subst, sym}
+use Rattle.std.proofs.Common.{◌≡◌, List, [], ◌∷◌, refl, ap, subst}
 use Rattle.std.specs.Prelude.{All, map}
 use Rattle.std.proofs.lemmas.List.Elements.{All-head, All-rest}
 use Rattle.book.specs.declared.shelf.Shelf as shelf

@@ -3,26 +3,8 @@
 ghost use Rattle.std.specs.Prelude.{◌≡◌, IfOk, string_bytes};
 ghost use Rattle.mail_stores.specs.Addresses.{address_of, has_colon, is_in_brackets, wants_brackets};
 
-use crate::server::RealLink;
 use config::config::ImapStore;
-use imap_client::waits::Waits;
-use imap_link::link::Link;
 use std::alloc::{AllocError, Global};
-use std::net::Net;
-
-/// A link of which it is known where it leads.
-pub trait Addressed: Link {
-    ghost use Rattle.std.specs.Prelude.{ℕ, List};
-
-    /// The address of the server, a host and a port.
-    ghost address: { Self → List ℕ };
-}
-
-impl<R: Net + AllocGlobal + Clone + Drop, W: Waits> Addressed for RealLink<R, W> {
-    ghost use Rattle.std.specs.Prelude.{string_bytes};
-
-    ghost address = { λ noted. string_bytes noted.link.link.address };
-}
 
 /// The address of a store's server: its host and its port. An IPv6 address stands in brackets.
 pub(crate) fn address_of(alloc: Global, store: &ImapStore) -> Result<String, AllocError>

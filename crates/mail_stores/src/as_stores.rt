@@ -13,6 +13,7 @@ use crate::last_box::LastBox;
 use crate::mail_stores::MailStores;
 use crate::openings::Openings;
 use crate::reported::lock_fault;
+use crate::store_link::LinkOver;
 use channels::channel_box::{ChannelBox, ChannelStores};
 use channels::notice::Notice;
 use channels::stop_cause::StopCause;
@@ -31,7 +32,8 @@ impl<
     R: Net + LockFiles + Clock + AllocGlobal + Clone + Drop,
     P: Progress + Waits + Copy,
     C,
-> MailStores<R, P, C> {
+    L: LinkOver<R, P> + Drop,
+> MailStores<R, P, C, L> {
     /// Opens both sides of a mailbox, lends it, and does this over it.
     fn work_at<W: Work + Drop>(
         &mut self,
@@ -72,7 +74,8 @@ impl<
     R: Net + LockFiles + Clock + AllocGlobal + Clone + Drop,
     P: Progress + Waits + Copy,
     C: Openings,
-> BoxLists for MailStores<R, P, C> {
+    L: LinkOver<R, P> + Drop,
+> BoxLists for MailStores<R, P, C, L> {
     ghost Record = { StoresRecord };
 
     ghost noted = { noted };
@@ -135,7 +138,8 @@ impl<
     R: Net + LockFiles + Clock + AllocGlobal + Clone + Drop,
     P: Progress + Waits + Copy,
     C: Openings,
-> Stores for MailStores<R, P, C> {
+    L: LinkOver<R, P> + Drop,
+> Stores for MailStores<R, P, C, L> {
     fn has_state(&mut self, place: ChannelBox<'_>) -> Result<bool, StoreFault> {
         let found = self.open.reach.has_state(place).map_err(lock_fault);
         note_at(&mut self.past.asked, place, Side::Near, &found);

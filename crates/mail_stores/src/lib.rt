@@ -2,7 +2,7 @@
 #![tactic(auto)]
 
 mod account;
-pub mod address;
+mod address;
 mod as_stores;
 mod asked;
 pub mod asked_history;
@@ -22,4 +22,5 @@ mod reach;
 mod reported;
 pub mod server;
 mod sessions;
+pub mod store_link;
 pub mod world;

@@ -11,7 +11,6 @@ ghost use Rattle.mail_stores.specs.Records.{none_asked};
 ghost use Rattle.mail_stores.specs.Reached.{AreIn};
 ghost use Rattle.std.specs.Int.NonZero.{non_zero_u32_get};
 
-use crate::address::Addressed;
 use crate::last_box::LastBox;
 use crate::notes::ServerNotes;
 use crate::notices::Notices;
@@ -20,6 +19,7 @@ use crate::past::Past;
 use crate::reach::{Reach, RealSides};
 use crate::server::RealLink;
 use crate::sessions::Sessions;
+use crate::store_link::{LinkOver, StoreLink};
 use book::disk_shelf::DiskShelf;
 use channels::channel_box::ChannelBox;
 use channels::stores::Work;
@@ -42,7 +42,7 @@ pub struct MailStores<
     R: Net + LockFiles + Clock + AllocGlobal + Clone + Drop,
     P,
     C = Brand,
-    L: Addressed = RealLink<R, P>,
+    L: StoreLink = RealLink<R, P>,
 > {
     pub(crate) open: OpenStores<R, P, L>,
     progress: P,
@@ -61,7 +61,8 @@ impl<
     R: Net + LockFiles + Clock + AllocGlobal + Clone + Drop,
     P: Progress + Waits + Copy,
     C,
-> MailStores<R, P, C> {
+    L: LinkOver<R, P> + Drop,
+> MailStores<R, P, C, L> {
     /// The stores of a user with this home folder. Near mailboxes that have no UIDVALIDITY yet get this one. The first server is seen by
     /// this map of keywords: where the first mailbox has the same, one login serves its list and the mailbox. `progress` shows how far the
     /// run over a mailbox is, and what mbsync waits for.
@@ -126,13 +127,13 @@ impl<
         place: ChannelBox<'_>,
         folder: &str,
         lock: &Lock<R::File>,
-        sides: RealSides<R, P>,
+        sides: RealSides<R, L>,
         keywords: Keywords,
         work: W,
     ) -> W::Answer
         requires lock { string_bytes lock.now.folder ≡ folder.now }
         requires near { AreIn folder.now sides.sides.folder sides.sides.shelf sides.guard.folder }
-        requires placed { AreOf ⟦<RealLink<R, P> as Addressed>⟧.address self.old.open.reach.home (place_of place) sides.sides }
+        requires placed { AreOf L.address self.old.open.reach.home (place_of place) sides.sides }
         requires map { sides.sides.far.far.keywords ≡ keywords }
         requires asked { keywords ≡ (W.options work).keywords }
         ensures asked { self.new.past.asked ≡ self.old.past.asked }

@@ -7,7 +7,7 @@ ghost use Rattle.mail_stores.specs.Listed.{Finds, Lists, listed_at, synchronised
 ghost use Rattle.mail_stores.specs.Placed.{LeadsTo};
 ghost use Rattle.mail_stores.specs.Reached.{AreIn, IsAccount};
 
-use crate::address::{Addressed, address_of};
+use crate::address::address_of;
 use crate::asked::Asked;
 use crate::guarded_work::GuardedSides;
 use crate::last_box::{BoxLocation, LastBox, cause_of, path_texts};
@@ -15,8 +15,9 @@ use crate::names::{FarNames, NearNames, is_servable};
 use crate::notices::Notices;
 use crate::reach::{NearParts, Reach, RealSides};
 use crate::reported::{list_fault, lock_fault, make_fault, ordered, unlisted, unreached};
-use crate::server::{AskFault, RealLink, is_word};
+use crate::server::{AskFault, is_word};
 use crate::sessions::{FarListing, Sessions};
+use crate::store_link::LinkOver;
 use channels::channel_box::ChannelBox;
 use channels::store_fault::{ListFault, StoreFault};
 use config::config::{ImapStore, MaildirStore};
@@ -45,11 +46,7 @@ use std::rt::Clock;
 /// where another store is asked, or a mailbox by another map of keywords than that by which its server is seen, and at the end. A session
 /// that has failed is opened anew by what is asked next.
 #[derive(Drop)]
-pub(crate) struct OpenStores<
-    R: Net + LockFiles + Clock + AllocGlobal + Clone + Drop,
-    P,
-    L: Link = RealLink<R, P>,
-> {
+pub(crate) struct OpenStores<R: Net + LockFiles + Clock + AllocGlobal + Clone + Drop, P, L: Link> {
     pub(crate) reach: Reach<R, P>,
     /// The store whose server was asked last.
     pub(crate) asked: Option<Asked>,
@@ -62,7 +59,11 @@ pub(crate) struct OpenStores<
     pub(crate) last: LastBox,
 }
 
-impl<R: Net + LockFiles + Clock + AllocGlobal + Clone + Drop, P: Waits + Copy> OpenStores<R, P> {
+impl<
+    R: Net + LockFiles + Clock + AllocGlobal + Clone + Drop,
+    P: Waits + Copy,
+    L: LinkOver<R, P> + Drop,
+> OpenStores<R, P, L> {
     /// The server of this store is asked from now on.
     pub(crate) fn ask(&mut self, store: &ImapStore)
         ensures reach { self.new.reach ≡ self.old.reach }
@@ -82,12 +83,9 @@ impl<R: Net + LockFiles + Clock + AllocGlobal + Clone + Drop, P: Waits + Copy> O
     }
 
     /// The names of the mailboxes of a far store, and the session that has listed them.
-    pub(crate) fn far_names(
-        &mut self,
-        store: &ImapStore,
-    ) -> Result<FarListing<RealLink<R, P>>, ListFault>
+    pub(crate) fn far_names(&mut self, store: &ImapStore) -> Result<FarListing<L>, ListFault>
         ensures rising { IfOk result (λ listed. Rises listed.0.items) }
-        ensures listed { IfOk result (λ listed. Lists ⟦<RealLink<R, P> as Addressed>⟧.address listed_at store.now listed.0.items listed.1.items) }
+        ensures listed { IfOk result (λ listed. Lists L.address listed_at store.now listed.0.items listed.1.items) }
         ensures reach { self.new.reach ≡ self.old.reach }
     {
         self.ask(store);
@@ -103,8 +101,8 @@ impl<R: Net + LockFiles + Clock + AllocGlobal + Clone + Drop, P: Waits + Copy> O
 
     /// The names of the mailboxes at the server of a store, and the session that has listed them. A session that stood before may have been
     /// ended by the server meanwhile: then a new one is asked.
-    fn names_at(&mut self, store: &ImapStore) -> Result<FarListing<RealLink<R, P>>, AskFault>
-        ensures listed { IfOk result (λ listed. Lists ⟦<RealLink<R, P> as Addressed>⟧.address synchronised_at store.now listed.0.items listed.1.items) }
+    fn names_at(&mut self, store: &ImapStore) -> Result<FarListing<L>, AskFault>
+        ensures listed { IfOk result (λ listed. Lists L.address synchronised_at store.now listed.0.items listed.1.items) }
         ensures reach { self.new.reach ≡ self.old.reach }
     {
         if self.sessions.stands_at(store.name.as_str()) {
@@ -117,8 +115,8 @@ impl<R: Net + LockFiles + Clock + AllocGlobal + Clone + Drop, P: Waits + Copy> O
     }
 
     /// The names that the session at the server of a store lists, and this session.
-    fn names_over(&mut self, store: &ImapStore) -> Result<FarListing<RealLink<R, P>>, AskFault>
-        ensures listed { IfOk result (λ listed. Lists ⟦<RealLink<R, P> as Addressed>⟧.address synchronised_at store.now listed.0.items listed.1.items) }
+    fn names_over(&mut self, store: &ImapStore) -> Result<FarListing<L>, AskFault>
+        ensures listed { IfOk result (λ listed. Lists L.address synchronised_at store.now listed.0.items listed.1.items) }
         ensures reach { self.new.reach ≡ self.old.reach }
     {
         let session = self.session_at(store)?;
@@ -134,8 +132,8 @@ impl<R: Net + LockFiles + Clock + AllocGlobal + Clone + Drop, P: Waits + Copy> O
     }
 
     /// A session at the server of this store: the one that stands, or a new one.
-    fn session_at(&mut self, store: &ImapStore) -> Result<LoggedIn<RealLink<R, P>>, AskFault>
-        ensures server { IfOk result (λ s. ⟦<RealLink<R, P> as Addressed>⟧.address s.session.wire.link ≡ address_of store.now) }
+    fn session_at(&mut self, store: &ImapStore) -> Result<LoggedIn<L>, AskFault>
+        ensures server { IfOk result (λ s. L.address s.session.wire.link ≡ address_of store.now) }
         ensures reach { self.new.reach ≡ self.old.reach }
     {
         let alloc = self.reach.rt.alloc();
@@ -246,9 +244,9 @@ impl<R: Net + LockFiles + Clock + AllocGlobal + Clone + Drop, P: Waits + Copy> O
         place: ChannelBox<'_>,
         folder: &str,
         keywords: &Keywords,
-    ) -> Result<RealSides<R, P>, LockFault>
+    ) -> Result<RealSides<R, L>, LockFault>
         ensures far { IfOk result (λ sides. IsAccount place.entry.of.far_store.now place.entry.far.now sides.sides.far.account) }
-        ensures host { IfOk result (λ sides. LeadsTo ⟦<RealLink<R, P> as Addressed>⟧.address place.entry.of.far_store.now sides.sides.far) }
+        ensures host { IfOk result (λ sides. LeadsTo L.address place.entry.of.far_store.now sides.sides.far) }
         ensures near { IfOk result (λ sides. AreIn folder.now sides.sides.folder sides.sides.shelf sides.guard.folder) }
         ensures map { IfOk result (λ sides. sides.sides.far.far.keywords ≡ keywords.now) }
         ensures reach { self.new.reach ≡ self.old.reach }
@@ -269,9 +267,9 @@ impl<R: Net + LockFiles + Clock + AllocGlobal + Clone + Drop, P: Waits + Copy> O
         &mut self,
         place: ChannelBox<'_>,
         keywords: &Keywords,
-    ) -> Result<FarSide<RealLink<R, P>>, PlaceRefusal>
+    ) -> Result<FarSide<L>, PlaceRefusal>
         ensures account { IfOk result (λ far. IsAccount place.entry.of.far_store.now place.entry.far.now far.account) }
-        ensures host { IfOk result (λ far. LeadsTo ⟦<RealLink<R, P> as Addressed>⟧.address place.entry.of.far_store.now far) }
+        ensures host { IfOk result (λ far. LeadsTo L.address place.entry.of.far_store.now far) }
         ensures map { IfOk result (λ far. far.far.keywords ≡ keywords.now) }
         ensures reach { self.new.reach ≡ self.old.reach }
     {
@@ -294,7 +292,7 @@ impl<R: Net + LockFiles + Clock + AllocGlobal + Clone + Drop, P: Waits + Copy> O
     }
 
     /// Notes what stopped the run over a mailbox, and which files it left out or alone.
-    pub(crate) fn note_end(&mut self, place: ChannelBox<'_>, folder: &str, sides: &RealSides<R, P>)
+    pub(crate) fn note_end(&mut self, place: ChannelBox<'_>, folder: &str, sides: &RealSides<R, L>)
         ensures reach { self.new.reach ≡ self.old.reach }
     {
         let alloc = self.reach.rt.alloc();
@@ -313,7 +311,7 @@ impl<R: Net + LockFiles + Clock + AllocGlobal + Clone + Drop, P: Waits + Copy> O
     }
 
     /// Keeps the session of the far side of a mailbox at this store, if it goes on.
-    pub(crate) fn keep_far(&mut self, store: &ImapStore, far: FarSide<RealLink<R, P>>)
+    pub(crate) fn keep_far(&mut self, store: &ImapStore, far: FarSide<L>)
         ensures reach { self.new.reach ≡ self.old.reach }
     {
         if let Some(session) = far.into_session() {
@@ -324,10 +322,10 @@ impl<R: Net + LockFiles + Clock + AllocGlobal + Clone + Drop, P: Waits + Copy> O
 }
 
 /// Both sides of a mailbox.
-fn sides_of<R: Net + LockFiles + Clock + AllocGlobal + Clone + Drop, P: Waits + Copy>(
-    far: FarSide<RealLink<R, P>>,
+fn sides_of<R: Net + LockFiles + Clock + AllocGlobal + Clone + Drop, L: Link>(
+    far: FarSide<L>,
     near: NearParts<R>,
-) -> RealSides<R, P>
+) -> RealSides<R, L>
     ensures far { result.sides.far ≡ far }
     ensures folder { result.sides.folder ≡ near.folder }
     ensures shelf { result.sides.shelf ≡ near.shelf }

@@ -9,7 +9,8 @@ ghost use Rattle.near_places.specs.Trees.{AreBoxes};
 use crate::account::account_of;
 use crate::guarded_work::GuardedSides;
 use crate::notes::ServerNotes;
-use crate::server::{AskFault, RealLink, link_to, log_in};
+use crate::server::{AskFault, link_to, log_in};
+use crate::store_link::LinkOver;
 use book::disk_shelf::{DiskShelf, name_of};
 use book::shelf;
 use channels::channel_box::ChannelBox;
@@ -43,12 +44,7 @@ const UNSENDABLE: &str =
 
 /// What is open of a mailbox at a server and of one in a folder, whose book lies in that folder too. A look into the folder says whether a
 /// run is to go on.
-pub(crate) type RealSides<R, W> = GuardedSides<
-    RealLink<R, W>,
-    DiskFolder<R>,
-    DiskShelf<R>,
-    NearLook<R>,
->;
+pub(crate) type RealSides<R, L> = GuardedSides<L, DiskFolder<R>, DiskShelf<R>, NearLook<R>>;
 
 /// The near side of a mailbox: its folder, its book, and the look into it.
 #[derive(Drop)]
@@ -75,11 +71,11 @@ pub(crate) struct Reach<R: Net + LockFiles + AllocGlobal + Clone + Drop, W> {
 
 impl<R: Net + LockFiles + Clock + AllocGlobal + Clone + Drop, W: Waits + Copy> Reach<R, W> {
     /// A new session at the server of a store, which is seen by this map of keywords.
-    pub(crate) fn log_in(
+    pub(crate) fn log_in<L: LinkOver<R, W> + Drop>(
         &self,
         store: &ImapStore,
         keywords: &Keywords,
-    ) -> Result<LoggedIn<RealLink<R, W>>, AskFault> {
+    ) -> Result<LoggedIn<L>, AskFault> {
         log_in(&self.rt, store, &self.notes, self.waits, keywords)
     }
 
@@ -141,13 +137,13 @@ impl<R: Net + LockFiles + Clock + AllocGlobal + Clone + Drop, W: Waits + Copy> R
     }
 
     /// A link to the server of a store, which is seen by this map of keywords. It is not connected yet.
-    pub(crate) fn link(
+    pub(crate) fn link<L: LinkOver<R, W>>(
         &self,
         store: &ImapStore,
         keywords: &Keywords,
-    ) -> Result<RealLink<R, W>, AllocError>
-        ensures keywords { IfOk result (λ link. link.keywords ≡ keywords.now) }
-        ensures address { IfOk result (λ link. string_bytes link.link.link.address ≡ address_of store.now) }
+    ) -> Result<L, AllocError>
+        ensures keywords { IfOk result (λ link. L.map link ≡ keywords.now) }
+        ensures address { IfOk result (λ link. L.address link ≡ address_of store.now) }
     {
         link_to(&self.rt, store, &self.notes, self.waits, keywords)
     }

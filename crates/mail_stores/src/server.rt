@@ -6,6 +6,7 @@ ghost use Rattle.mail_stores.specs.Addresses.{address_of};
 
 use crate::address::address_of;
 use crate::notes::ServerNotes;
+use crate::store_link::{LinkOver, StoreLink};
 use config::config::ImapStore;
 use imap_client::noted_link::NotedLink;
 use imap_client::tcp_link::TcpLink;
@@ -36,33 +37,63 @@ pub(crate) enum AskFault {
 /// mbsync waits for is shown before it waits. Its server is seen by one map of keywords.
 pub type RealLink<R, W> = NotedLink<FaceLink<TcpLink<R>>, W>;
 
+impl<R: Net + AllocGlobal + Clone + Drop, W: Waits> StoreLink for RealLink<R, W> {
+    ghost use Rattle.std.specs.Prelude.{string_bytes};
+
+    ghost address = { λ noted. string_bytes noted.link.link.address };
+
+    ghost map = { λ noted. noted.keywords };
+
+    ghost seen = { λ noted kept. kept.1 };
+
+    fn address(&self) -> &str {
+        self.link().link().address()
+    }
+
+    fn keywords(&self) -> &Keywords {
+        NotedLink::keywords(self)
+    }
+}
+
+impl<R: Net + AllocGlobal + Clone + Drop, W: Waits + Copy> LinkOver<R, W> for RealLink<R, W> {
+    fn over(
+        rt: &R,
+        address: &str,
+        notes: &ServerNotes,
+        waits: W,
+        keywords: &Keywords,
+    ) -> Result<Self, AllocError> {
+        let alloc = rt.alloc();
+        let (words, end) = (notes.words.clone()?, notes.end.clone()?);
+        let link = TcpLink::noting(rt.clone()?, address, notes.unreached.clone()?)?;
+        let link = FaceLink::new(alloc, link, words);
+        Ok(NotedLink::new(link, end, waits, keywords.try_clone(alloc)?))
+    }
+}
+
 /// A link to the server of a store, which is seen by this map of keywords. It is not connected yet.
-pub(crate) fn link_to<R: Net + AllocGlobal + Clone + Drop, W: Waits + Copy>(
+pub(crate) fn link_to<R: AllocGlobal, W: Copy, L: LinkOver<R, W>>(
     rt: &R,
     store: &ImapStore,
     notes: &ServerNotes,
     waits: W,
     keywords: &Keywords,
-) -> Result<RealLink<R, W>, AllocError>
-    ensures keywords { IfOk result (λ link. link.keywords ≡ keywords.now) }
-    ensures address { IfOk result (λ link. string_bytes link.link.link.address ≡ address_of store.now) }
+) -> Result<L, AllocError>
+    ensures keywords { IfOk result (λ link. L.map link ≡ keywords.now) }
+    ensures address { IfOk result (λ link. L.address link ≡ address_of store.now) }
 {
-    let alloc = rt.alloc();
-    let address = address_of(alloc, store)?;
-    let (words, end) = (notes.words.clone()?, notes.end.clone()?);
-    let link = TcpLink::noting(rt.clone()?, address.as_str(), notes.unreached.clone()?)?;
-    let link = FaceLink::new(alloc, link, words);
-    Ok(NotedLink::new(link, end, waits, keywords.try_clone(alloc)?))
+    let address = address_of(rt.alloc(), store)?;
+    L::over(rt, address.as_str(), notes, waits, keywords)
 }
 
 /// A session with the server of a store, which is seen by this map of keywords. Its user has logged in.
-pub(crate) fn log_in<R: Net + AllocGlobal + Clone + Drop, W: Waits + Copy>(
+pub(crate) fn log_in<R: AllocGlobal, W: Copy, L: LinkOver<R, W> + Drop>(
     rt: &R,
     store: &ImapStore,
     notes: &ServerNotes,
     waits: W,
     keywords: &Keywords,
-) -> Result<LoggedIn<RealLink<R, W>>, AskFault> {
+) -> Result<LoggedIn<L>, AskFault> {
     let (user, password) = (store.user.as_bytes(), store.pass.as_bytes());
     if !is_word(user) || !is_word(password) {
         return Err(AskFault::Unsendable);

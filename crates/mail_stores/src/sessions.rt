@@ -1,19 +1,17 @@
 //! The session that stands at a server between the mailboxes of its store.
 
-ghost use Rattle.std.specs.Prelude.{◌≡◌, IfOk, IfSome, string_bytes};
+ghost use Rattle.std.specs.Prelude.{◌≡◌, IfOk, IfSome};
 ghost use Rattle.imap_client.specs.Requests.{IsWord};
 ghost use Rattle.mail_stores.specs.Listed.{Hears};
 
-use crate::server::RealLink;
+use crate::store_link::StoreLink;
 use device::history::History;
-use imap_client::waits::Waits;
 use imap_link::fault::FarFault;
 use imap_link::link::Link;
 use mail_sides::logged_in::LoggedIn;
 use mailcore::keywords::Keywords;
 use mailcore::mailbox_name::MailboxName;
 use std::alloc::Global;
-use std::net::Net;
 
 /// The names that a session has listed, and the session after that and before, which contracts alone read.
 pub(crate) type FarListing<L> = (Vec<MailboxName>, History<LoggedIn<L>>);
@@ -110,14 +108,14 @@ impl<L: Link + Drop> Sessions<L> {
     }
 }
 
-impl<R: Net + AllocGlobal + Clone + Drop, W: Waits + Drop> Sessions<RealLink<R, W>> {
+impl<L: StoreLink + Drop> Sessions<L> {
     /// Takes out the session at the server of this store, which has this address, by whichever map of keywords that is seen: to list
     /// mailboxes and to make them. Any other is ended.
-    pub(crate) fn take_at(&mut self, store: &str, address: &str) -> Option<LoggedIn<RealLink<R, W>>>
-        ensures { IfSome result (λ s. string_bytes s.session.wire.link.link.link.address ≡ address.now) }
+    pub(crate) fn take_at(&mut self, store: &str, address: &str) -> Option<LoggedIn<L>>
+        ensures { IfSome result (λ s. L.address s.session.wire.link ≡ address.now) }
     {
         let session = self.take_of(store)?;
-        if session.link().link().link().address() == address {
+        if session.link().address() == address {
             Some(session)
         } else {
             log_out(session);
@@ -131,9 +129,9 @@ impl<R: Net + AllocGlobal + Clone + Drop, W: Waits + Drop> Sessions<RealLink<R, 
         store: &str,
         address: &str,
         keywords: &Keywords,
-    ) -> Option<LoggedIn<RealLink<R, W>>>
-        ensures keywords { IfSome result (λ s. s.session.wire.link.keywords ≡ keywords.now) }
-        ensures address { IfSome result (λ s. string_bytes s.session.wire.link.link.link.address ≡ address.now) }
+    ) -> Option<LoggedIn<L>>
+        ensures keywords { IfSome result (λ s. L.map s.session.wire.link ≡ keywords.now) }
+        ensures address { IfSome result (λ s. L.address s.session.wire.link ≡ address.now) }
     {
         let session = self.take_at(store, address)?;
         if session.link().keywords().is_same(keywords) {

@@ -7,6 +7,7 @@ use crate::mail_stores::MailStores;
 use crate::open_stores::OpenStores;
 use crate::reach::NearParts;
 use crate::reported::lock_fault;
+use crate::store_link::LinkOver;
 use book::disk_shelf::DiskShelf;
 use box_worlds::near_files::NearFiles;
 use box_worlds::reader::WorldReader;
@@ -29,7 +30,8 @@ impl<
     R: Net + LockFiles + Clock + AllocGlobal + Clone + Drop,
     P: Progress + Waits + Copy,
     C,
-> MailStores<R, P, C> {
+    L: LinkOver<R, P> + Drop,
+> MailStores<R, P, C, L> {
     /// The text of the world of a mailbox, as the next run finds it: on a side on which it is absent, that run makes it. Its lock is held
     /// as long, if the file of the lock is there, and nothing is changed. `Ok` has in it why the world is not read.
     pub fn world(
@@ -42,7 +44,11 @@ impl<
     }
 }
 
-impl<R: Net + LockFiles + Clock + AllocGlobal + Clone + Drop, P: Waits + Copy> OpenStores<R, P> {
+impl<
+    R: Net + LockFiles + Clock + AllocGlobal + Clone + Drop,
+    P: Waits + Copy,
+    L: LinkOver<R, P> + Drop,
+> OpenStores<R, P, L> {
     /// The text of the world of a mailbox that is absent on these sides.
     fn world(
         &mut self,

@@ -59,7 +59,8 @@ impl Looks {
         path: &str,
     ) -> Result<Option<Identity>, PlaceRefusal>
         ensures later { IsLater self.old.looks self.new.looks }
-        ensures noted { MatchResult result (λ found. self.new.looks ≡ FolderAt path.now found ∷ self.old.looks) (λ _. self.new.looks ≡ self.old.looks) }
+        ensures noted { MatchResult result (λ found. self.new.looks ≡ FolderAt path.now found ∷ self.old.looks)
+            (λ _. self.new.looks ≡ self.old.looks) }
     {
         let found = folder_at(rt, path)?;
         note(self, path.as_bytes(), &found);
@@ -74,7 +75,8 @@ impl Looks {
         path: &str,
     ) -> Result<Vec<String>, PlaceRefusal>
         ensures later { IsLater self.old.looks self.new.looks }
-        ensures noted { MatchResult result (λ names. self.new.looks ≡ NamesIn path.now (map string_bytes names.items) ∷ self.old.looks) (λ _. self.new.looks ≡ self.old.looks) }
+        ensures noted { MatchResult result (λ names. self.new.looks ≡ NamesIn path.now (map string_bytes names.items) ∷ self.old.looks)
+            (λ _. self.new.looks ≡ self.old.looks) }
     {
         let names = names_in(rt, path)?;
         note(self, path.as_bytes(), &names);
@@ -88,7 +90,8 @@ impl Looks {
         path: &str,
     ) -> Result<bool, PlaceRefusal>
         ensures later { IsLater self.old.looks self.new.looks }
-        ensures noted { MatchResult result (λ is_box. self.new.looks ≡ BoxAt path.now is_box ∷ self.old.looks) (λ _. self.new.looks ≡ self.old.looks) }
+        ensures noted { MatchResult result (λ is_box. self.new.looks ≡ BoxAt path.now is_box ∷ self.old.looks)
+            (λ _. self.new.looks ≡ self.old.looks) }
     {
         let is_box = is_mailbox(rt, path)?;
         note(self, path.as_bytes(), &is_box);

@@ -49,7 +49,8 @@ impl FolderNames {
     ) -> Result<(), PlaceRefusal>
         ensures same { self.new.looks ≡ self.old.looks }
         ensures beyond { is_within ≡ false → self.new.within.items ≡ self.old.within.items }
-        ensures within { OnOk result (is_within ≡ true → map string_bytes self.new.within.items ≡ map string_bytes self.old.within.items ++ listed_box (string_bytes name) is_box) }
+        ensures within { OnOk result (is_within ≡ true
+            → map string_bytes self.new.within.items ≡ map string_bytes self.old.within.items ++ listed_box (string_bytes name) is_box) }
     {
         if !is_box {
             return Ok(());
@@ -213,7 +214,8 @@ impl TreeWalk {
     ) -> Result<(), PlaceRefusal>
         ensures later { IsLater self.old.names.looks.looks self.new.names.looks.looks }
         ensures beyond { is_within ≡ false → Gained self.old self.new [] [] }
-        ensures gained { OnOk result (is_within ≡ true → nat_le (length (string_bytes name)) 255 ≡ true → (tree : Tree) → Agrees tree self.new.names.looks.looks
+        ensures gained { OnOk result (is_within ≡ true → nat_le (length (string_bytes name)) 255 ≡ true
+            → (tree : Tree) → Agrees tree self.new.names.looks.looks
             → GainedAt tree start.now (string_bytes name) above.now.above.items self.old self.new) }
     {
         let path = path_of(rt.alloc(), start, name.as_str())?;

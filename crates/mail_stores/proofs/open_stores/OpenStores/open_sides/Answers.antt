@@ -1,4 +1,4 @@
-use Rattle.mail_stores.proofs.open_stores.OpenStores+R+P.open_sides.Goals as goal
+use Rattle.mail_stores.proofs.open_stores.OpenStores.open_sides.Goals as goal
 
 pub returns-in-Ok-far_side-clause-near : goal.returns-in-Ok-far_side-clause-near
 returns-in-Ok-far_side-clause-near g c =

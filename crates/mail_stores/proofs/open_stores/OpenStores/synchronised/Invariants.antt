@@ -1,5 +1,5 @@
 use Rattle.std.proofs.Common.{◌≡◌}
-use Rattle.mail_stores.proofs.open_stores.OpenStores+R+P.servable.Given as goal
+use Rattle.mail_stores.proofs.open_stores.OpenStores.synchronised.Given as goal
 
 -- near mailboxes are where they were
 abbrev pub invariant-loop-name : goal.invariant-loop-name

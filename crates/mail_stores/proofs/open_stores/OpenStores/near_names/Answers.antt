@@ -1,7 +1,7 @@
 use Rattle.std.proofs.Common.{◌∙◌, [], ap}
 use Rattle.channels.specs.Boxes.{put_names}
 use Rattle.mail_stores.proofs.ListedLemmas.{found_in_order}
-use Rattle.mail_stores.proofs.open_stores.OpenStores+R+P.near_names.Goals as goal
+use Rattle.mail_stores.proofs.open_stores.OpenStores.near_names.Goals as goal
 
 -- those that a server can have are found, in their order
 pub returns-in-Ok-of-clause-found : goal.returns-in-Ok-of-clause-found

@@ -1,5 +1,5 @@
 use Rattle.mail_stores.proofs.LoanLemmas.{none_kept}
-use Rattle.mail_stores.proofs.as_stores.MailStores+R+P+C.work_at.Goals as goal
+use Rattle.mail_stores.proofs.mail_stores.MailStores.work_at.Goals as goal
 
 pub returns-in-Ok-clause-lent : goal.returns-in-Ok-clause-lent
 returns-in-Ok-clause-lent g c = c.in-Ok.ensures.lent

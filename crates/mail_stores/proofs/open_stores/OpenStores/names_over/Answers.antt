@@ -1,6 +1,6 @@
 use Rattle.std.proofs.Common.{◌∙◌, ap}
 use Rattle.mail_stores.proofs.ListedLemmas.{heard_names}
-use Rattle.mail_stores.proofs.open_stores.OpenStores+R+P.names_over.Goals as goal
+use Rattle.mail_stores.proofs.open_stores.OpenStores.names_over.Goals as goal
 
 -- what was heard are the names at the server of the store
 pub returns-in-Ok-of-clause-listed : goal.returns-in-Ok-of-clause-listed

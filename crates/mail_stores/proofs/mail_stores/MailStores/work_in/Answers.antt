@@ -1,4 +1,4 @@
-use Rattle.mail_stores.proofs.mail_stores.MailStores+R+P+C.work_in.Goals as goal
+use Rattle.mail_stores.proofs.mail_stores.MailStores.work_in.Goals as goal
 
 -- near mailboxes are where they were
 pub invariant_of-self : goal.invariant_of-self

@@ -1,7 +1,7 @@
 use Rattle.std.proofs.Common.{◌∙◌, [], ap}
 use Rattle.channels.specs.Boxes.{put_names}
 use Rattle.mail_stores.proofs.ListedLemmas.{in_their_order}
-use Rattle.mail_stores.proofs.open_stores.OpenStores+R+P.far_names.Goals as goal
+use Rattle.mail_stores.proofs.open_stores.OpenStores.far_names.Goals as goal
 
 -- they are listed in their order
 pub returns-in_ok-ordered-in-Ok-clause-listed : goal.returns-in_ok-ordered-in-Ok-clause-listed

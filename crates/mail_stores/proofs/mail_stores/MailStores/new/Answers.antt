@@ -1,4 +1,4 @@
-use Rattle.mail_stores.proofs.mail_stores.MailStores+R+P+C.new.Goals as goal
+use Rattle.mail_stores.proofs.mail_stores.MailStores.new.Goals as goal
 
 -- nothing was listed, and no mailbox lent
 pub invariant_of-result : goal.invariant_of-result

@@ -1,5 +1,5 @@
 use Rattle.mail_stores.proofs.PlacedLemmas.{stood_more}
-use Rattle.mail_stores.proofs.mail_stores.MailStores+R+P+C.work_locked.Goals as goal
+use Rattle.mail_stores.proofs.mail_stores.MailStores.work_locked.Goals as goal
 
 -- the mailbox stood at its place
 pub invariant_of-self : goal.invariant_of-self
