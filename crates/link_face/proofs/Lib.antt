@@ -7,7 +7,6 @@ pub mod SentLemmas
 pub mod Feeding
 pub mod OneToOne
 pub mod ProfileLemmas
-pub mod SaidLemmas
 pub mod Speaking
 pub mod TakenLemmas
 pub mod FrontLemmas

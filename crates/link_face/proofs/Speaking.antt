@@ -28,7 +28,7 @@ use Rattle.imap_link.specs.Sending.{SendsThen, visited}
 use Rattle.imap_link.proofs.Text.{replies-join}
 use Rattle.link_face.specs.Hearing.{is_uid, is_flags, is_size, is_octets, is_escaped, is_row}
 use Rattle.link_face.specs.Said.{is_said, AreSaid, IsSpeech, Speaks}
-use Rattle.link_face.proofs.SaidLemmas.{both_said, step_said}
+use Rattle.link_face.proofs.ProfileLemmas.{both_said, step_said}
 
 -- ---- what a server says
 

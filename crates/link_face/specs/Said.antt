@@ -1,5 +1,5 @@
 -- What a server of the profile says, whatever its mailboxes are named.
-use Rattle.std.specs.Prelude.{◌≡◌, ℕ, Bool, true, false, List, [], ◌++◌}
+use Rattle.std.specs.Prelude.{◌≡◌, ℕ, Bool, true, false, not, List, [], ◌++◌}
 use Rattle.std.specs.List.{list_all}
 use Rattle.mailcore.specs.Visitors.{Visitors}
 use Rattle.imap_replies.specs.declared.reply.Reply.{Reply}
@@ -8,16 +8,16 @@ use Rattle.imap_session.specs.Heard.{AreReplies}
 use Rattle.imap_session.specs.Lines.{Line, Receives, Starts}
 use Rattle.imap_session.specs.Serving.{IsUnread}
 use Rattle.imap_link.specs.Sending.{SendsThen}
-use Rattle.link_face.specs.Hearing.{is_row}
+use Rattle.link_face.specs.Hearing.{hides, is_row}
 
--- Such a reply is heard as it came; in place of a LIST reply another may be heard.
+-- Such a reply is heard as it came; in place of a LIST reply whose name is another near, another is heard, or none.
 abbrev pub is_said : Reply → Bool
 is_said (Continue text) = true
 is_said (Tagged tag status text) = true
 is_said (Notice kind text) = true
 is_said (Capability names) = true
 is_said (Enabled names) = true
-is_said (Listed attributes delimiter name) = true
+is_said (Listed attributes delimiter name) = not (hides attributes)
 is_said (Flags flags) = true
 is_said (Exists n) = true
 is_said (Expunge n) = true

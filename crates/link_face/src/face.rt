@@ -39,7 +39,7 @@ pub(crate) struct Face {
     pub(crate) sent: Sent,
     /// How much may still come in answer to what was sent last.
     pub(crate) room: Room,
-    /// Whether a LIST reply of the profile was replaced or left out, or a command was sent with another name, on any connection.
+    /// Whether a command was sent with another mailbox name, or a LIST reply was replaced or left out because of its name, on any connection.
     pub(crate) renamed: bool,
     /// Whether a connection was made, and no call over it has failed.
     pub(crate) is_open: bool,

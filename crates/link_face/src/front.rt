@@ -3,7 +3,7 @@
 ghost use Rattle.std.specs.Prelude.{◌≡◌, IfOk};
 ghost use Rattle.link_face.specs.Fronts.{IsFront, IsKind};
 
-use crate::heard::is_heard;
+use crate::heard::{hides, is_heard};
 use imap_replies::reading::read_reply;
 use imap_replies::reply::Reply;
 use std::alloc::{AllocError, Global};
@@ -14,7 +14,7 @@ use wire_reader::answer::{Read, WireFault};
 pub(crate) enum Front {
     /// A reply of the profile that is heard as it came.
     Heard,
-    /// A LIST reply, in whose place another is heard, or nothing.
+    /// A LIST reply whose name is another near: another reply is heard in its place, or none.
     Listed,
     /// More belongs to the reply.
     Begun,
@@ -52,9 +52,11 @@ fn kind_of(reply: &Reply<'_>) -> Front
 {
     match reply {
         Reply::Other(..) | Reply::OtherNumbered(..) => Front::Other,
-        Reply::List(..) => {
+        Reply::List(attributes, ..) => {
             if is_heard(reply) {
                 Front::Heard
+            } else if hides(attributes) {
+                Front::Other
             } else {
                 Front::Listed
             }

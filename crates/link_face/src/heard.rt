@@ -24,7 +24,7 @@ pub(crate) fn is_heard(reply: &Reply<'_>) -> bool
 }
 
 /// Whether a mailbox with these attributes cannot be selected.
-fn hides(attributes: &FlagNames<'_>) -> bool
+pub(crate) fn hides(attributes: &FlagNames<'_>) -> bool
     ensures { result ≡ hides attributes.now }
 {
     attributes.contains(b"\\Noselect") || attributes.contains(b"\\NonExistent")
