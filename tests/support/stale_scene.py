@@ -88,6 +88,8 @@ class Stale(Edge):
             process[0].wait()
             return True
 
+        # A script that was started in the background ignores SIGINT, and what it starts would, too.
+        signal.signal(signal.SIGINT, signal.default_int_handler)
         self.server.script = script
         process.append(self.start(*words))
         started.set()
