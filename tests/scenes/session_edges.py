@@ -75,6 +75,18 @@ def stores(tally):
         other.stop()
 
 
+def users(tally):
+    """Two stores at one server, which lets the user of one in: the other is not asked over the session of that user."""
+    with Edge(ONE) as scene:
+        scene.server.boxes["work"] = Box([THREE])
+        scene.configure(imap_store(scene.server.port) + imap_store(scene.server.port, "other", user="v") + HOME_STORE + CHANNELS)
+        rejected = ["mbsync: cannot open other", "  the server rejected the login: correct User or Pass of IMAPStore other, and run again",
+                    "  the server said: who"]
+        told = [1, "c:INBOX", "new pull 1 -> 1", "ran", "d:work", "new pull 1 -> 1", "ran", *rejected]
+        tally.same("the user of the other store has to log in", scene.run("c", "e", "d"), told)
+        tally.same("nothing is pulled for it", scene.near_messages("mail/elsewhere"), {})
+
+
 def ended_between(tally):
     """The server ends the session where it is asked next: once, at a list and at a mailbox."""
     for verb, count in ((b"LIST", 2), (b"SELECT", 2)):
@@ -241,4 +253,4 @@ def begun(tally):
         tally.same("and is not made", "a" in scene.server.boxes, False)
 
 
-SCENES = [twenty, labelled, stores, ended_between, failed_box, refused_box, words, unopened, skipped, own_parts, inbox, begun]
+SCENES = [twenty, labelled, stores, users, ended_between, failed_box, refused_box, words, unopened, skipped, own_parts, inbox, begun]
