@@ -10,6 +10,10 @@ CLEAN = [0, "c:INBOX", "ran"]
 TAILS = (":2,SF", ":2,SS", ":2,S,", ":1,S", ":2S", ":", ":2,S~", ":2,S.bak", ":2,S1", ":3,S", ":2,S ", ":2,S:2,S", ":S", ":2,S-", ":2,S.orig")
 # Tails behind which the name is that of a file without a UID: a new message.
 UNNUMBERED = (",S=100:2,S", ".bak:2,S", ".bak", "~", " (1)")
+# What other programs make of a name whose file they hide, or are still writing.
+HIDDEN = (".%s", ".%s.Xy12Ab", ".syncthing.%s.tmp", "._%s")
+# A name with the UID that a message had in another mailbox.
+OF_OFFLINEIMAP = "1387368339_0.9034.host,U=2,FMD5=7e33429f656f1e6e9d79b29c3f82c57e"
 # Names in `cur` that are those of no Maildir message, and in `new`.
 NO_NAMES = ("17.one:1,S", "18.two:2S", "19.three:", "20.four:2,SF")
 
@@ -77,17 +81,36 @@ def tails_without_a_uid(tally):
                        [told[-1], bodies(scene.near_messages()), bodies(scene.far_messages())], [CLEAN, bodies(near(ONE, TWO)), bodies(far(ONE, TWO))])
 
 
-def hidden_name(tally):
-    """A dot is put in front of a name: the file is hidden, and no message."""
-    with Stale(ONE, TWO) as scene:
-        path = scene.path_of(1)
-        hidden = os.path.join(os.path.dirname(path), "." + os.path.basename(path))
-        os.rename(path, hidden)
-        told = scene.run("c")
-        tally.check("a hidden file: the run stops and names it", told[0] == 1 and told_of(told, hidden), told)
-        tally.same("nothing is marked or removed", scene.far_messages(), far(ONE, TWO))
-        os.rename(hidden, path)
-        tally.same("with its old name it is taken", [scene.run("c"), *scene.sides()], [CLEAN, near(ONE, TWO), far(ONE, TWO)])
+def hidden_names(tally):
+    """A name that begins with a dot is nobody's, as that of a file that another program is still writing: it is never said to be there."""
+    for form in HIDDEN:
+        with Stale(ONE, TWO) as scene:
+            path = scene.path_of(1)
+            hidden = os.path.join(os.path.dirname(path), form % os.path.basename(path))
+            scene.write(os.path.relpath(hidden, scene.home), near_text(ONE))
+            tally.same(f"{form}: beside its message it changes nothing", [scene.run("c"), scene.far_messages()], [CLEAN, far(ONE, TWO)])
+            os.remove(path)
+            told = scene.run("c")
+            tally.same("the message can be removed", [told[0], sorted(scene.far_messages())], [0, [2]])
+            tally.check("the hidden file stays", os.path.exists(hidden), told)
+
+
+def uids_of_others(tally):
+    """A file that OfflineIMAP named: its `,U=N` is not this mailbox's, and does not keep message N from being removed, be it pushed before
+    or by the same run."""
+    for together in (False, True):
+        with Stale(ONE, TWO) as scene:
+            scene.write(f"inbox/cur/{OF_OFFLINEIMAP}:2,S", near_text(THREE))
+            if not together:
+                told = scene.run("c")
+                tally.same("it is a new message", [told, scene.sides()],
+                           [[0, "c:INBOX", "new push 3 -> 3", "ran"], [{**near(ONE, TWO), 3: ("S", near_text(THREE))}, {**far(ONE, TWO), 3: ("S", THREE)}]])
+            os.remove(scene.path_of(2))
+            told = scene.run("c")
+            tally.same(f"message 2 can be removed (together: {together})", [told[0], scene.sides()],
+                       [0, [{**near(ONE), 3: ("S", near_text(THREE))}, {**far(ONE), 3: ("S", THREE)}]])
+            tally.check("its file keeps its base", os.path.exists(scene.path(f"inbox/cur/{OF_OFFLINEIMAP},U=3:2,S")), told)
+            tally.same("a further run has nothing to do", scene.run("c"), CLEAN)
 
 
 def moved_to_new(tally):
@@ -139,4 +162,4 @@ def waiting_once(tally):
         tally.same("a hidden file is not told", sum(".hidden" in line for line in told[1:]), 0)
 
 
-SCENES = [odd_tails, odd_tail_of_a_marked_one, tails_without_a_uid, hidden_name, moved_to_new, two_files, waiting_files, waiting_once]
+SCENES = [odd_tails, odd_tail_of_a_marked_one, tails_without_a_uid, hidden_names, uids_of_others, moved_to_new, two_files, waiting_files, waiting_once]

@@ -1,7 +1,7 @@
 -- What the names in a folder say of the messages of a look, one name after the other.
 use Rattle.std.proofs.Common.{cond, get_or, subst, take, ◌+◌, ◌≡◌, ◌∙◌, ℕ, ◌<◌, Bool, false, List, [], ◌∷◌, ◌++◌, Option, None, Some, append_assoc, ap, arith, drop, length, map, refl, sym}
 use Rattle.std.specs.Prelude.{◌==◌, find, not}
-use Rattle.std.specs.List.{cons_option, filter_map, slice_split}
+use Rattle.std.specs.List.{cons_option, filter_map}
 use Rattle.std.specs.Option.{option_map, option_or}
 use Rattle.std.specs.List.Sorted.{IsPermutation}
 use Rattle.std.proofs.lemmas.List.{drop_more, map-append, map-id, take-append-drop}
@@ -11,14 +11,14 @@ use Rattle.maildir.specs.declared.folder.FileName.{FileName}
 use Rattle.maildir.specs.declared.folder.Place.{Place}
 use Rattle.maildir.specs.declared.standing.Stale.{Stale}
 use Rattle.maildir.specs.declared.standing.Stale.TheVariants.{Unmarked}
-use Rattle.maildir.specs.Standings.{COMMA, HasMet, as_marked, files_in, first, first_stale, is_among, odd, odd_shown, reported_among, shown, shown_by, uid_ahead}
+use Rattle.maildir.specs.Standings.{HasMet, as_marked, files_in, first, first_stale, is_among, odd, odd_shown, reported_among, reported_uids, shown, shown_by}
 
 find_never : {X : Type 0} (xs : List X) → find (λ x. false) xs ≡ None
 find_never [] = refl
 find_never (x ∷ xs) = find_never xs
 
 pub none_among : (uids name : List ℕ) → length uids ≡ 0 → reported_among uids name ≡ None
-none_among [] name none = find_never (filter_map uid_ahead (drop 1 (slice_split (λ (b : ℕ). b == COMMA) name)))
+none_among [] name none = find_never (reported_uids name)
 none_among (u ∷ uids) name none = absurd (omega (arith, none))
 
 -- ---- the first of a list

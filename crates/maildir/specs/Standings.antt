@@ -43,9 +43,26 @@ is_marked name = has_mark (cut_first COLON name)
 abbrev pub COMMA : ℕ
 COMMA = 44
 
--- the first UID in a name that is one of these: each stands at the head of a piece that follows a comma
+-- the UIDs that stand in a name, each at the head of a piece that follows a comma
+abbrev pub uids_ahead : List ℕ → List ℕ
+uids_ahead name = filter_map uid_ahead (drop 1 (slice_split (λ b. b == COMMA) name))
+
+-- it begins with a dot
+abbrev pub is_hidden : List ℕ → Bool
+is_hidden name = starts_with nat_eq name (codes ".")
+
+-- its own one alone where it is the whole name of a message; else those that stand in it, but for a hidden name, which is no message's
+abbrev pub uids_beside : (own : Option ℕ) → (name : List ℕ) → List ℕ
+uids_beside (Some uid) name = uid ∷ []
+uids_beside None name = if is_hidden name then [] else uids_ahead name
+
+-- the UIDs that a name reports
+abbrev pub reported_uids : List ℕ → List ℕ
+reported_uids name = uids_beside (uid_in name) name
+
+-- the first UID that a name reports and that is one of these
 abbrev pub reported_among : (uids name : List ℕ) → Option ℕ
-reported_among uids name = find (is_among uids) (filter_map uid_ahead (drop 1 (slice_split (λ b. b == COMMA) name)))
+reported_among uids name = find (is_among uids) (reported_uids name)
 
 -- ---- what names show of messages that count as removed, or as marked as deleted
 

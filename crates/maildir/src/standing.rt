@@ -1,13 +1,16 @@
 //! Which of some messages stand in a Maildir folder of a disk, whatever kind of thing bears their names, and whether these are marked as
 //! deleted.
 //!
-//! What is a message, and which, the whole spelling of a name says. Here a name that only begins as that of a message counts as well, so
-//! that a file which got an odd tail, as `NAME,U=5:2,SF` or `NAME,U=5~`, is not taken for one that was removed.
+//! What is a message, and which, the whole spelling of a name says: such a name is its own UID's alone, also where another `,U=` stands in
+//! its base, as `NAME,U=2,FMD5=HASH,U=5:2,S` after OfflineIMAP. Here a name that only begins as that of a message counts as well, so that a
+//! file which got an odd tail, as `NAME,U=5:2,SF` or `NAME,U=5:2,S~`, is not taken for one that was removed. A name that begins with a dot
+//! is no message's: so other programs name what they are still writing, or hide.
 
-ghost use Rattle.std.specs.Prelude.{◌≡◌, ◌++◌, [], ◌∷◌, None, IfOk, OnErr};
+ghost use Rattle.std.specs.Prelude.{◌≡◌, ◌++◌, [], ◌∷◌, None, IfOk, OnErr, find};
 ghost use Rattle.std.specs.List.Sorted.{IsNonDecreasingBy};
 ghost use Rattle.maildir.specs.Standings.{HasBegun, HasLooked, HasMet, files_in, first, first_stale, is_among, is_marked, is_spelled};
-ghost use Rattle.maildir.specs.Standings.{odd_shown, reported_among, shown, shown_by, uid_ahead};
+ghost use Rattle.maildir.specs.Names.{uid_in};
+ghost use Rattle.maildir.specs.Standings.{is_hidden, odd_shown, reported_among, shown, shown_by, uid_ahead, uids_ahead};
 
 use crate::entries::entries_in;
 use crate::folder::{FileName, Place};
@@ -189,7 +192,8 @@ impl<'a> Look<'a> {
     }
 }
 
-/// The first UID in a name that is one of these, which rise.
+/// The UID that a name reports, if it is one of these, which rise: its own, where it is the whole name of a message, and none, where it begins
+/// with a dot. Otherwise the first that stands in it.
 fn reported_among(name: &[u8], uids: &[Uid]) -> Option<Uid>
     requires { IsNonDecreasingBy (λ uid. uid) uids.now }
     ensures { result ≡ reported_among uids.now name.now }
@@ -197,6 +201,19 @@ fn reported_among(name: &[u8], uids: &[Uid]) -> Option<Uid>
     if uids.is_empty() {
         return None;
     }
+    match uid_in(name) {
+        Some(uid) if is_among(uid, uids) => Some(uid),
+        Some(_) => None,
+        None if is_hidden(name) => None,
+        None => ahead_among(name, uids),
+    }
+}
+
+/// The first UID that stands in a name, after a comma, and is one of these, which rise.
+fn ahead_among(name: &[u8], uids: &[Uid]) -> Option<Uid>
+    requires { IsNonDecreasingBy (λ uid. uid) uids.now }
+    ensures { result ≡ find (is_among uids.now) (uids_ahead name.now) }
+{
     name.split(|byte| *byte == b',')
         .skip(1)
         .filter_map(|piece| reported_uid(piece))
@@ -223,14 +240,28 @@ fn is_among(uid: Uid, uids: &[Uid]) -> bool
         .is_ok()
 }
 
+/// The UID of the message whose whole name this is.
+fn uid_in(name: &[u8]) -> Option<Uid>
+    ensures { result ≡ uid_in name.now }
+{
+    match read_name(name) {
+        Some(name) => name.uid,
+        None => None,
+    }
+}
+
 /// Whether this is the whole name of a message.
 fn is_spelled(name: &[u8]) -> bool
     ensures { result ≡ is_spelled name.now }
 {
-    match read_name(name) {
-        Some(name) => name.uid.is_some(),
-        None => false,
-    }
+    uid_in(name).is_some()
+}
+
+/// Whether a name begins with a dot.
+fn is_hidden(name: &[u8]) -> bool
+    ensures { result ≡ is_hidden name.now }
+{
+    name.starts_with(b".")
 }
 
 /// Whether the letter of a message that is marked as deleted stands among the flags of a name.
