@@ -11,10 +11,12 @@ import sys
 import tempfile
 
 sys.path.insert(0, str(pathlib.Path(__file__).resolve().parents[1]))
+from tests.scenes import isync_accounts
 from tests.support import trial_imapd
 from tests.support.converted import convert
 from tests.support.places import MBSYNC
 from tests.support.scene import ONE, TWO, Scene
+from tests.support.scripted_server import ScriptedServer
 from tests.support.tally import Tally
 
 HEAD = "# Made from isync's configuration by mbsync-from-isync."
@@ -36,6 +38,9 @@ Inbox ~/mail/INBOX
 PLAIN = "IMAPStore far\nHost 127.0.0.1\nPort %d\nUser u\nPass p\nSSLType None\nAuthMechs LOGIN\n\nMaildirStore near\nPath ~/mail/\nInbox ~/inbox\n\n"
 STATE = "FarUidValidity 1\nNearUidValidity 1447\nMaxPulledUid 7\nMaxPushedUid 4\n\n5 3 SF\n1 1 \n7 0 S\n0 9 \n"
 MADE_STATE = "mbsync state 1\nrun 1\nfar 1 7\nnear 1447 4\ne 0 9 -\ne 1 1 -\ne 5 3 FS\ne 7 0 S\nend\n"
+
+
+ACCOUNTS = ("whole_accounts", "excluded", "single_mailboxes", "without_asking", "two_folders", "renamed_before", "run_too_early", "killed_switch")
 
 
 class Home:
@@ -71,6 +76,11 @@ class Home:
 
     def convert(self, *words):
         return convert(self.top, *words)
+
+    def complete(self, port):
+        """Completes the new configuration for a server at this port."""
+        text = self.read(".mbsyncrc.from-isync").replace("Port 1143\nUser me@example.org\n", f"Port {port}\nUser u\nPass p\n")
+        self.write(".mbsyncrc.from-isync", text)
 
 
 # ---- configurations
@@ -120,6 +130,7 @@ def what_cannot_be_carried_over(tally):
 # ---- states
 
 def states(tally):
+    server = ScriptedServer(name="a/b")
     channel = "Channel c\nFar :far:\nNear :near:\nPatterns * !no\n"
     for what, name, more in (
         ("in the state folder", ".mbsync/:far:a!b_:near:a!b", ""),
@@ -134,6 +145,7 @@ def states(tally):
             got = home.convert()
             tally.check(f"a state {what}", got[:3] == [0, "~/.mbsyncrc.from-isync", "~/mail/a/b/.mbsyncstate.from-isync"], got)
             tally.same("what it says", home.read("mail/a/b/.mbsyncstate.from-isync"), MADE_STATE)
+            home.complete(server.port)
             tally.same("it is put in place", home.convert("--switch"), [0, "~/mail/a/b/.mbsyncstate", "~/.mbsyncrc"])
             tally.same("isync's configuration is kept", home.read(".mbsyncrc.isync"), STORES + channel + more)
             tally.same("and its state", home.read(name + (".isync" if more == "SyncState *\n" else "")), STATE)
@@ -192,7 +204,8 @@ def the_next_run(tally):
 
 
 def main():
-    scenes = [a_configuration, a_connection_without_tls, what_cannot_be_carried_over, states, states_that_are_refused]
+    scenes = [a_configuration, a_connection_without_tls, what_cannot_be_carried_over, states, states_that_are_refused,
+              *(getattr(isync_accounts, name) for name in ACCOUNTS)]
     if os.access(MBSYNC, os.X_OK):
         trial_imapd.build()
         Scene.program = MBSYNC

@@ -1,0 +1,1 @@
+"""What mbsync-from-isync and mbsync-start-over know of configurations, names, states and folders."""
