@@ -11,6 +11,7 @@ import sys
 import tempfile
 
 sys.path.insert(0, str(pathlib.Path(__file__).resolve().parents[1]))
+from tests.support.begun import COMMAND
 from tests.support.configuration import configured
 from tests.support.explained import FINISHED, VOID
 from tests.support.imap_side import ImapSide
@@ -169,10 +170,10 @@ def start_over(place):
     place.near.add("1.unsent", b"Subject: unsent\n", frozenset("S"))
     place.serve(2, 3)
     place.fails("a far mailbox that was made anew is told", "validity changed far")
-    old = place.near.path + ".old"
-    os.rename(place.near.path, old)
-    place.works("with the folder out of the way all is pulled anew", "new pull 1 -> 1", "new pull 2 -> 2", "ran")
-    os.rename(os.path.join(old, "cur", "1.unsent:2,S"), place.path("cur/1.unsent:2,S"))
+    with tempfile.TemporaryDirectory() as aside:
+        command = [COMMAND, "-c", os.path.join(place.folder, "mbsyncrc"), "--aside", aside, "--mbsync", place.program, "box"]
+        told = subprocess.run(command, capture_output=True, text=True, check=False, timeout=120)
+        TALLY.check("the page's command starts over", told.returncode == 0 and told.stdout.startswith("box:INBOX\nnew pull 1 -> 1\n"), told)
     place.works("what was not sent is sent", "new push 3 -> 3", "ran")
 
 

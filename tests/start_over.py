@@ -7,79 +7,16 @@ import fcntl
 import os
 import pathlib
 import shutil
-import subprocess
 import sys
 import tempfile
-from collections import Counter
 
 sys.path.insert(0, str(pathlib.Path(__file__).resolve().parents[1]))
 from tests.support import places
-from tests.support.configuration import imap_store, maildir_store
+from tests.support.begun import COMMAND, FAR, Begun, is_once, message
 from tests.support.converted import command_of, killed_at
 from tests.support.edge_scene import Edge
-from tests.support.scripted_server import BODY, Box
+from tests.support.scripted_server import Box
 from tests.support.tally import Tally
-
-COMMAND = os.path.join(places.TOP, "bin", "mbsync-start-over")
-CHANNEL = "Channel c\nFar :far:\nNear :near:\nCreate Near\n"
-PATTERNS = "Channel all\nFar :far:\nNear :near:\nPatterns * INBOX\nCreate Both\n"
-
-
-def message(subject):
-    return f"Subject: {subject}\r\n\r\ntext\r\n".encode()
-
-
-def subject_of(data):
-    return next(line for line in data.decode().splitlines() if line.startswith("Subject: "))[len("Subject: "):]
-
-
-class Begun(Edge):
-    """A mailbox with six far messages, and the command."""
-
-    def __init__(self, count=6, more="", inbox="~/inbox", path="~/mail"):
-        super().__init__(*(message(f"far {number}") for number in range(1, count + 1)))
-        self.configure(imap_store(self.server.port) + maildir_store(path, inbox) + CHANNEL + more + "\n" + PATTERNS + more)
-
-    def start_over(self, *words):
-        known = self.words(words, True)
-        known["args"] = [COMMAND, "--mbsync", self.program, *words]
-        done = subprocess.run(**known, capture_output=True, timeout=300, check=False)
-        return [done.returncode, *(done.stdout + done.stderr).decode().replace(self.home, "~").splitlines()]
-
-    def breaks_at(self, number):
-        """Connections drop before this body is sent, and from then on at once."""
-        def script(talk, command):
-            self.bodies += command.asks(BODY)
-            if self.bodies >= number:
-                talk.hang_up()
-            return self.bodies >= number
-        self.bodies, self.server.script = 0, script
-
-    def make_anew(self, validity=2):
-        """The server has lost its UIDs: the same messages, another UIDVALIDITY."""
-        self.server.script = self.server.added = None
-        box = self.inbox()
-        self.server.boxes["INBOX"] = Box([data for _, data in box.messages.values()], validity)
-
-    def add_near(self, name, subject, box="inbox"):
-        self.write(f"{box}/new/{name}", message(subject).replace(b"\r\n", b"\n"))
-
-    def counts(self, box="inbox"):
-        """How often each subject is on each side."""
-        near = Counter(subject_of(data) for _, data in self.near_messages(box).values())
-        return dict(near), dict(Counter(subject_of(data) for _, data in self.far_messages().values()))
-
-
-def is_once(tally, what, scene, *subjects, box="inbox"):
-    """After the next run each of these is on both sides once, and nothing else."""
-    told = scene.run("c")
-    wanted = {subject: 1 for subject in subjects}
-    tally.check(f"{what}: the next run is whole", told[0] == 0, told)
-    tally.same(f"{what}: each message is on both sides once", scene.counts(box), (wanted, wanted))
-    tally.same(f"{what}: and the run after has nothing to do", scene.run("c"), [0, "c:INBOX", "ran"])
-
-
-FAR = [f"far {number}" for number in range(1, 7)]
 
 
 # ---- unfinished runs
@@ -120,8 +57,8 @@ def a_push_without_its_reply(tally):
         tally.check("the run is cut", told[0] == 1, told)
         scene.make_anew()
         told = scene.start_over("c")
-        tally.same("started over, the one that was not sent is put back", [told[0], [line.rpartition("/")[2] for line in told[1:] if line.startswith("put")]],
-                   [0, ["3.new"]])
+        back = [line.rpartition("/")[2] for line in told[1:] if line.startswith("put back")]
+        tally.same("started over, the one that was not sent is put back", [told[0], back], [0, ["3.new"]])
         is_once(tally, "a push without its reply", scene, *FAR, "one", "two", "three")
 
 
@@ -197,7 +134,8 @@ def mailboxes_below(tally):
                        [before, 1])
             tally.same("and what is of another program", os.path.exists(scene.path(folder + "/dovecot.index")), True)
             told = [scene.run("all") for _ in range(2)]
-            tally.same("nothing comes twice there", [len(scene.near_messages(below)), len(scene.near_messages(folder))], [2, 6 if box == "INBOX" else 1])
+            counts = [len(scene.near_messages(it)) for it in (below, folder)]
+            tally.same("nothing comes twice there", counts, [2, 6 if box == "INBOX" else 1])
 
 
 # ---- kills, refusals
@@ -279,8 +217,8 @@ def main():
     words = words.parse_args()
     places.must_run(words.program)
     Edge.program = words.program
-    Tally().play([copies_in_the_journal, a_push_without_its_reply, bad_states, changes_since, lost_at_the_server, mailboxes_below, killed, given_twice,
-                  a_run_that_fails, refusals], words.names)
+    Tally().play([copies_in_the_journal, a_push_without_its_reply, bad_states, changes_since, lost_at_the_server, mailboxes_below, killed,
+                  given_twice, a_run_that_fails, refusals], words.names)
 
 
 if __name__ == "__main__":

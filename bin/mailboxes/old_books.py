@@ -89,6 +89,6 @@ def check_validity(folder):
     """Refuses a folder whose UIDs are not those of its state: nothing could be said of its messages."""
     meta = whole_lines(os.path.join(folder, META))
     near = [line.split(" ")[1] for line in whole_lines(os.path.join(folder, STATE)) if re.fullmatch(r"near \d+ \d+", line)]
-    if meta and near and meta[0] != near[0]:
+    if meta and near and meta[0].isdigit() and meta[0] != near[0]:
         raise Refused(f"{folder}/{META} is not the one of {folder}/{STATE}: its first line has to be {near[0]} (mbsync(1), How to recover, "
                       "validity changed near)")
