@@ -40,7 +40,8 @@ class Carried:
             try:
                 states.append((box, state_of(box.state)))
             except (Refused, OSError) as why:
-                self.stateless.append(f"{box.folder}: the state {box.state} is not carried over: {why}")
+                if not is_started_over(box.folder, box.state):
+                    self.stateless.append(f"{box.folder}: the state {box.state} is not carried over: {why}")
         return states
 
 
@@ -105,22 +106,36 @@ class Boxes:
         if paths:
             self.carried.boxes.append(Box(self.section.name, *self.names_here(name, far), folders[0], new, paths[0]))
             return True
-        if has_synchronised(folders[0]):
+        if has_synchronised(folders[0]) and not is_started_over(folders[0]):
             self.carried.stateless.append(f"{folders[0]}: isync's state was not found, and without one each message is copied again; start "
                                          "over (mbsync(1))")
         return False
 
 
+def own_state(folder):
+    """The text of mbsync's state of a mailbox, or none."""
+    path = os.path.join(folder, STATE)
+    if not is_own(path):
+        return None
+    with open(path, encoding="ascii", errors="surrogateescape") as file:
+        return file.read()
+
+
+def is_started_over(folder, state=None):
+    """Whether mbsync has synchronised a mailbox, and isync, whose state this is, has not done so since."""
+    text = own_state(folder)
+    if text is None or not is_used(text):
+        return False
+    own = os.path.join(folder, STATE)
+    return state in (None, own) or os.stat(own).st_mtime_ns > os.stat(state).st_mtime_ns
+
+
 def is_in_place(box, text):
     """Whether mbsync's state of a mailbox is there. One with which mbsync has synchronised since isync's last run is never replaced."""
-    path = os.path.join(box.folder, STATE)
-    if not is_own(path):
-        return False
-    with open(path, encoding="ascii", errors="surrogateescape") as file:
-        found = file.read()
-    if is_used(found) and os.stat(path).st_mtime_ns <= os.stat(box.state).st_mtime_ns:
-        raise Refused(f"{path} is of a run of mbsync's, and isync has run since: start over with this mailbox (mbsync(1))")
-    return is_used(found) or found == text
+    found = own_state(box.folder)
+    if found is not None and is_used(found) and not is_started_over(box.folder, box.state):
+        raise Refused(f"{box.folder}/{STATE} is of a run of mbsync's, and isync has run since: start over with this mailbox (mbsync(1))")
+    return found is not None and (is_used(found) or found == text)
 
 
 def told_moves(carried):

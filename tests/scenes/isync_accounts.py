@@ -2,12 +2,16 @@
 whose delimiter is no slash, and all of these at once."""
 import os
 import shutil
+import subprocess
 import tempfile
 
+from tests.support.begun import COMMAND as START_OVER
 from tests.support.converted import CONVERTER, command_of, killed_at
 from tests.support.edge_scene import FOUR
+from tests.support.go_between import GoBetween
 from tests.support.isync_account import Account
 
+ISYNC = "/usr/bin/mbsync"
 BOXES = ("INBOX", "INBOX/sub", "INBOX/sub/deep", "Archive", "Archive/2024", "Entwürfe", "Entwürfe/Ö", "R&D")
 NO_INBOX_BELOW = ("INBOX", "Archive", "Archive/2024", "Entwürfe", "Entwürfe/Ö", "R&D")
 CHANNEL = "Channel all\nFar :far:\nNear :near:\nPatterns %s\nCreate Both\nExpunge Both\n"
@@ -150,3 +154,53 @@ def killed_switch(tally):
                 at += 1
             tally.same(f"{where.strip() or 'states apart'}: killed at each of {at} places and run again, it comes to the same end", ends,
                        {(True, True)})
+
+
+def by_isync_itself(tally):
+    """isync itself has synchronised the account, over a go-between."""
+    if not os.access(ISYNC, os.X_OK):
+        tally.skip("accounts that isync itself has synchronised", f"it is not installed at {ISYNC}")
+        return
+    for delimiter, prefix in SERVERS:
+        for where in ("", "SyncState *\n"):
+            boxes = NO_INBOX_BELOW if prefix else BOXES
+            with Account(boxes, CHANNEL % "*", where, delimiter, prefix, is_utf7=True) as account:
+                for folder in ("mail", "inbox", ".mbsync"):
+                    shutil.rmtree(account.path(folder), ignore_errors=True)
+                os.makedirs(account.path("mail"))
+                between = GoBetween(account.server.port)
+                with open(account.path(".mbsyncrc"), encoding="utf-8") as file:
+                    text = file.read()
+                account.configure(text.replace(f"Port {account.server.port}", f"Port {between.port}"))
+                known = account.words(["all"], True)
+                known["args"] = [ISYNC, "-a"]
+                done = subprocess.run(**known, capture_output=True, timeout=120, check=False)
+                account.configure(text)
+                what = f"isync, delimiter {delimiter}, namespace {prefix or 'none'}, {where.strip() or 'states apart'}"
+                tally.check(f"{what}: it synchronises", done.returncode == 0, done.stderr[-600:])
+                tally.same("it is carried over", account.move(), [0, 0, 0])
+                if account.program:
+                    tally.same("the first run has nothing to do", account.run("all"), lines_of_run(account, {}))
+                between.stop()
+
+
+def without_a_state(tally):
+    """A mailbox whose state cannot be carried over is started over first."""
+    for where in PLACES[:2]:
+        with Account(("INBOX", "a"), CHANNEL % "*", where) as account:
+            if not account.program:
+                tally.skip("a mailbox without a state", "mbsync is not built")
+                return
+            state = account.path("mail/a/.mbsyncstate" if where else ".mbsync/:far:a_:near:a")
+            with open(state, "a", encoding="ascii") as file:
+                file.write("3 0 ~\n")
+            account.write("mail/a/new/1.unsent", FOUR.replace(b"\r\n", b"\n"))
+            account.convert()
+            told = account.convert("--switch")
+            tally.check("a message that has expired", told[0] == 2 and "a message expired" in told[-1], told)
+            known = account.words([], True)
+            known["args"] = [START_OVER, "-c", account.path(".mbsyncrc.from-isync"), "--mbsync", account.program, "all:a"]
+            done = subprocess.run(**known, capture_output=True, timeout=120, check=False)
+            tally.check("it is started over", done.returncode == 0, done)
+            tally.same("then the switch goes on", [account.convert("--switch")[0], account.run("all")],
+                       [0, [0, "all:INBOX", "flags push 2 2 +F", "ran", "all:a", "new push 3 -> 3", "ran"]])

@@ -24,7 +24,7 @@ class Account(Edge):
 
     def __init__(self, boxes, channel, where="", delimiter="/", prefix="", inbox="~/inbox", is_utf7=False):
         self.boxes, self.delimiter, self.prefix, self.inbox_path = boxes, delimiter, prefix, inbox
-        self.where, self.is_utf7 = where, is_utf7
+        self.where, self.is_utf7, self.in_letters = where, is_utf7, set()
         super().__init__()
         self.server.script = self.answer
         self.server.boxes = {self.server_name(box): Box(self.messages(box)) for box in boxes}
@@ -45,11 +45,26 @@ class Account(Edge):
         elif command.verb == b"NAMESPACE":
             talk.send(b'* NAMESPACE ((%s "%s")) NIL NIL' % (quoted(self.prefix.encode()), self.delimiter.encode()))
         elif command.verb == b"LIST":
-            talk.send(*(b'* LIST () "%s" %s' % (self.delimiter.encode(), quoted(name.encode())) for name in self.server.boxes))
+            names = [name if talk in self.in_letters else spelled(name) for name in self.server.boxes]
+            talk.send(*(b'* LIST () "%s" %s' % (self.delimiter.encode(), quoted(name.encode())) for name in names))
+        elif command.verb == b"LOGOUT":
+            # isync waits for the end of the connection.
+            talk.logout(command)
+            talk.hang_up()
+            return True
         else:
+            self.note_names(talk, command)
             return False
         talk.done(command)
         return True
+
+    def note_names(self, talk, command):
+        """Names are in letters where a client asks for IMAP4rev2, and in modified UTF-7 otherwise."""
+        if command.verb == b"ENABLE":
+            self.in_letters.add(talk)
+        elif command.verb in (b"SELECT", b"CREATE", b"APPEND") and talk not in self.in_letters:
+            for name in self.server.boxes:
+                command.words = command.words.replace(quoted(spelled(name).encode()), quoted(name.encode()))
 
     def messages(self, box):
         return [f"Subject: {spelled(box)} {number}\r\n\r\ntext\r\n".encode() for number in (1, 2)]
