@@ -13,6 +13,11 @@ class Refused(Exception):
     """Why something is not done."""
 
 
+def reason(why):
+    """Why something is not done, as it is printed."""
+    return f"{why.filename}: {why.strerror}" if isinstance(why, OSError) and why.filename else str(why)
+
+
 def expanded(path):
     """A path with the home folder in place of a leading ~."""
     return os.path.join(os.path.expanduser("~"), path[2:]) if path.startswith("~/") else path
