@@ -40,8 +40,8 @@ STATE = "FarUidValidity 1\nNearUidValidity 1447\nMaxPulledUid 7\nMaxPushedUid 4\
 MADE_STATE = "mbsync state 1\nrun 1\nfar 1 7\nnear 1447 4\ne 0 9 -\ne 1 1 -\ne 5 3 FS\ne 7 0 S\nend\n"
 
 
-ACCOUNTS = ("whole_accounts", "excluded", "single_mailboxes", "without_asking", "two_folders", "renamed_before", "run_too_early", "killed_switch",
-            "by_isync_itself", "without_a_state")
+ACCOUNTS = ("whole_accounts", "inbox_below_path", "excluded", "single_mailboxes", "without_asking", "two_folders", "renamed_before",
+            "run_too_early", "killed_switch", "by_isync_itself", "without_a_state")
 
 
 class Home:

@@ -56,6 +56,17 @@ def whole_accounts(tally):
                 tally.same("the next run has nothing to do", account.run("all"), lines_of_run(account, {}))
 
 
+def inbox_below_path(tally):
+    """Inbox is below Path, as INBOX or under another name."""
+    for inbox in ("~/mail/INBOX", "~/mail/Inbox", "~/mail/a/b"):
+        for where in PLACES[:2]:
+            with Account(BOXES, CHANNEL % "*", where, inbox=inbox) as account:
+                tally.same(f"Inbox {inbox}: it is carried over", account.move(), [0, 0, 0])
+                if account.program:
+                    tally.same("the first run", account.run("all"), lines_of_run(account, {"INBOX": ["flags push 2 2 +F"]}))
+                    tally.same("no mailbox is made", sorted(account.server.boxes), sorted(map(account.server_name, account.boxes)))
+
+
 def excluded(tally):
     """What isync leaves out by its patterns is left out here, too, and INBOX is taken exactly if isync has synchronised it."""
     for patterns, boxes, wanted in (
