@@ -3,7 +3,9 @@
 
 Each of REPLIES is sent before the answer to the list of mailboxes, to that of the messages, and to one message: the run has to come to its
 end, with each message there once. Each of STOPS may end a run, which has to report that; the next run, without it, has to come to its end.
-Then lines of real servers, each damaged at a few places, are sent in the same places: each run has to end, with little memory. The server
+The rows of the list of messages come in
+two replies each, in many orders: each message is there once; where one stays half told, or is left out, the run stops, and nothing counts
+as removed. Then lines of real servers, each damaged at a few places, are sent in the same places: each run has to end, with little memory. The server
 is scripted_server.py."""
 import os
 import pathlib
@@ -77,6 +79,100 @@ def stops(tally):
                 tally.same("then all is there", [scene.run("c")[0], scene.sides()], [0, [near(ONE, TWO), far(ONE, TWO)]])
 
 
+FLAGS, SIZE, WHOLE = b"FLAGS (\\Seen)", b"RFC822.SIZE %d", b"FLAGS (\\Seen) RFC822.SIZE %d"
+FOUND = ["c:INBOX", "ran"]
+
+
+def row(uid, items, messages=(ONE, TWO)):
+    """A row of the list of messages."""
+    items = items % len(messages[uid - 1]) if b"%" in items else items
+    return b"* %d FETCH (UID %d %s)\r\n" % (uid, uid, items)
+
+
+# Rows that tell messages 1 and 2 between them: in each the later flags of a message are \Seen.
+GATHERED = {
+    "flags, then size": [(1, FLAGS), (1, SIZE), (2, FLAGS), (2, SIZE)],
+    "size, then flags": [(1, SIZE), (1, FLAGS), (2, SIZE), (2, FLAGS)],
+    "all flags, then all sizes": [(1, FLAGS), (2, FLAGS), (1, SIZE), (2, SIZE)],
+    "all sizes, then all flags, from the end": [(2, SIZE), (1, SIZE), (2, FLAGS), (1, FLAGS)],
+    "flags twice": [(1, b"FLAGS ()"), (1, FLAGS), (1, SIZE), (2, WHOLE)],
+    "one whole, one in halves": [(1, WHOLE), (2, FLAGS), (2, SIZE)],
+    "flags of a message that is told whole then": [(1, FLAGS), (1, WHOLE), (2, WHOLE)],
+    "flags of a message that was told whole": [(1, WHOLE), (2, WHOLE), (1, b"FLAGS ()")],
+    "one whole twice": [(1, WHOLE), (1, WHOLE), (2, WHOLE)],
+    "from the end": [(2, WHOLE), (1, WHOLE)],
+}
+# Rows that do not, and what is said of them.
+UNTOLD = {
+    "no row": ([], "lacks 2 of"),
+    "one row": ([(1, WHOLE)], "lacks 1 of"),
+    "one row twice": ([(1, WHOLE), (1, WHOLE)], "lacks 1 of"),
+    "a message without its size": ([(1, WHOLE), (2, FLAGS)], "UID 2"),
+    "a message without its flags": ([(1, WHOLE), (2, SIZE)], "UID 2"),
+    "a UID alone": ([(1, WHOLE), (2, b"MODSEQ (5)")], "UID 2"),
+    "halves of two messages": ([(1, FLAGS), (2, SIZE)], "UID 1"),
+}
+
+
+def listing(rows, end=b"OK done", before=b""):
+    """A script by which the server tells these rows in place of its list of messages."""
+    def script(talk, command):
+        if not command.asks(LISTING):
+            return False
+        talk.stream.sendall(before + b"".join(row(*it) for it in rows) + command.tag + b" " + end + b"\r\n")
+        return True
+    return script
+
+
+def synced():
+    """A scene with two messages on both sides that are seen."""
+    scene = Edge(ONE, TWO)
+    for uid in (1, 2):
+        scene.inbox().flag(uid, "S")
+    scene.run("--expunge", "c")
+    return scene
+
+
+def gathered(tally):
+    """Messages in more rows than one."""
+    for name, rows in GATHERED.items():
+        with synced() as scene:
+            before = scene.sides()
+            scene.server.script = listing(rows)
+            tally.same(f"{name}: nothing is to be done", scene.run("--expunge", "c"), [0, *FOUND])
+            tally.same(f"{name}: each message is there", scene.sides(), before)
+
+
+def untold(tally):
+    """Messages that are told by half, or left out."""
+    for name, (rows, text) in UNTOLD.items():
+        with synced() as scene:
+            before = scene.sides()
+            scene.server.script = listing(rows)
+            told = scene.run("--expunge", "c")
+            tally.same(f"{name}: the run stops", told[0], 1)
+            tally.same(f"{name}: it says why", text in "\n".join(map(str, told)), True)
+            tally.same(f"{name}: nothing counts as removed", scene.sides(), before)
+            scene.server.script = None
+            tally.same(f"{name}: the next run has nothing to do", [scene.run("--expunge", "c"), scene.sides()], [[0, *FOUND], before])
+
+
+def changing(tally):
+    """Others change the mailbox while it is listed, or the server does not list it."""
+    with synced() as scene:
+        before = scene.sides()
+        scene.server.script = listing([(1, WHOLE), (2, WHOLE)], before=b"* 3 EXISTS\r\n")
+        tally.same("a message that arrives meanwhile need not be told", [scene.run("--expunge", "c"), scene.sides()], [[0, *FOUND], before])
+        scene.server.script = listing([(1, WHOLE)], before=b"* 3 EXISTS\r\n* 2 EXPUNGE\r\n")
+        tally.same("a message that is removed before it is told", [scene.run("--expunge", "c")[0], sorted(scene.near_messages())], [0, [1]])
+    with synced() as scene:
+        before = scene.sides()
+        scene.server.script = listing([(1, WHOLE)], end=b"NO busy")
+        tally.same("NO ends a list in its middle", [scene.run("--expunge", "c")[0], scene.sides()], [1, before])
+    with Edge() as scene:
+        tally.same("an empty mailbox", [scene.run("c")[0], scene.sides()], [0, [{}, {}]])
+
+
 def real_lines():
     """What the servers say in real-lines.txt."""
     with open(REAL_LINES, "rb") as lines:
@@ -128,6 +224,9 @@ def main():
     tally = Tally()
     odd(tally)
     stops(tally)
+    gathered(tally)
+    untold(tally)
+    changing(tally)
     broken(tally, words.damaged, words.seed)
     tally.end()
 

@@ -21,5 +21,6 @@ pub mod FaceLemmas
 pub mod LinkLemmas
 pub mod TurnLemmas
 pub mod RowLemmas
+pub mod GatheredRowsLemmas
 pub mod FlagLemmas
 pub mod TokenLemmas

@@ -1,8 +1,10 @@
 -- How a reply begins (RFC 9051, section 7): its words, with a space between.
-use Rattle.std.specs.Prelude.{◌≡◌, ◌≢◌, ◌==◌, ◌⊎◌, ◌&&◌, ℕ, Bool, true, false, not, List, [], ◌∷◌, ◌++◌, codes, length, map, nat_le, Option, Some, Vec, if◌then◌else◌}
+use Rattle.std.specs.Prelude.{◌≡◌, ◌≢◌, ◌==◌, ◌⊎◌, ◌&&◌, ℕ, Bool, true, false, not, List, [], ◌∷◌, ◌++◌, codes, length, map, nat_le, nat_eq, Option, Some, Vec, if◌then◌else◌}
 use Rattle.std.specs.Global.{Global}
 use Rattle.std.specs.Char.{is_ascii_digit, to_ascii_lowercase}
 use Rattle.std.specs.List.{list_all}
+use Rattle.std.specs.Str.{str_eq_ignore_ascii_case}
+use Rattle.std.specs.Cmp.Lexicographic.{pointwise}
 use Rattle.link_face.specs.declared.head.ReplyHead.{ReplyHead}
 use Rattle.link_face.specs.declared.head.ReplyHead.TheVariants.{Continue, Status, Names, List as Listed, Flags, Numbered, Other, NoReply}
 use Rattle.link_face.specs.declared.turning.Turn.{Turn}
@@ -77,6 +79,10 @@ pub record IsTagged (raw : List ℕ) : Type 0 where
   pub no_plus : asks raw ≡ false
   pub no_star : first_word raw ≢ codes "*"
   pub some : first_word raw ≢ []
+
+-- a tag and OK, in any case
+abbrev pub ends_well : (raw : List ℕ) → Bool
+ends_well raw = not (pointwise nat_eq (first_word raw) (codes "*")) && str_eq_ignore_ascii_case (second_word raw) (codes "OK")
 
 -- ---- how it is found
 

@@ -14,4 +14,5 @@ pub mod Reading
 pub mod Rooms
 pub mod Rows
 pub mod Said
+pub mod GatheredRows
 pub mod Turning

@@ -159,6 +159,17 @@ has_values items = has Body items || has Head items || has Flags items && has Si
 abbrev pub has_all_items : List Item → Bool
 has_all_items items = has Uid items && has_values items
 
+-- all that a listing asks for
+abbrev pub has_listing : List Item → Bool
+has_listing items = has Uid items && (has Flags items && has Size items)
+
+-- they name this message
+pub record HasUid (items : List Item) (uid : ℕ) : Type 0 where
+  pub digits : List ℕ
+  pub named : value_of Uid items ≡ Some digits
+  pub number : is_number digits ≡ true
+  pub is : uid ≡ number_in digits
+
 -- ---- what is written for a client
 
 -- the words in brackets that are flags, in their order

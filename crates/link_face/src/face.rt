@@ -8,11 +8,13 @@ ghost use Rattle.link_face.specs.Commands.{GoesAsItIs, IsRenamed};
 ghost use Rattle.link_face.specs.Extents.{HasPart, IsListed, Looks};
 ghost use Rattle.link_face.specs.Faces.{IsSpelled};
 ghost use Rattle.link_face.specs.Rooms.{whole_room, CountsReply};
+ghost use Rattle.link_face.specs.GatheredRows.{EndsWhole, front_in};
 ghost use Rattle.link_face.specs.Turning.{IsTurned, Leaves, NotesNames, Unchanged, Untouched, held_of};
 
 use crate::command::with_far_name;
 use crate::extent::Extent;
 use crate::incoming::Incoming;
+use crate::listed_rows::ListedRows;
 use crate::ready::Ready;
 use crate::room::Room;
 use crate::sent::Sent;
@@ -39,6 +41,8 @@ pub(crate) struct Face {
     pub(crate) sent: Sent,
     /// How much may still come in answer to what was sent last.
     pub(crate) room: Room,
+    /// What was reported of messages in answer to it.
+    pub(crate) rows: ListedRows,
     /// Whether a command was sent with another mailbox name, or a LIST reply was replaced or left out because of its name, on any connection.
     pub(crate) renamed: bool,
     /// Whether a connection was made, and no call over it has failed.
@@ -59,6 +63,7 @@ impl Face {
             ready: Ready::new(alloc),
             sent: Sent::new(),
             room: Room::whole(),
+            rows: ListedRows::new(alloc),
             renamed: false,
             is_open: false,
             stops: StopCount::new(),
@@ -80,6 +85,7 @@ impl Face {
         self.ready.clear();
         self.sent = Sent::new();
         self.room = Room::whole();
+        self.rows = ListedRows::new(self.alloc);
         self.is_open = false;
     }
 
@@ -104,8 +110,10 @@ impl Face {
         self.sent.note(bytes);
         self.room = Room::whole();
         if is_octets {
+            self.rows.pass();
             return Ok(None);
         }
+        self.rows.begin(bytes);
         let turned = with_far_name(self.alloc, bytes)?;
         self.renamed = self.renamed || turned.is_some();
         Ok(turned)
@@ -123,6 +131,7 @@ impl Face {
     {
         self.sent.note_copy(copy);
         self.room = Room::whole();
+        self.rows.pass();
     }
 
     /// Turns replies until one is ready. Returns whether one is; if not, more has to come.
@@ -166,6 +175,7 @@ impl Face {
         requires none { self.old.ready ≡ [] }
         ensures unchanged { Unchanged self.old self.new }
         ensures names { NotesNames self.old self.new }
+        ensures listed { OnOk result (EndsWhole (front_in extent self.old.incoming) self.old.rows) }
         ensures ready { OnOk result (IsTurned self.new.ready) }
         ensures none { result ≡ Ok false → self.new.ready ≡ [] }
         ensures opened { self.new.is_open ≡ true → self.old.is_open ≡ true }
@@ -173,6 +183,11 @@ impl Face {
         ensures steady { OnOk result (self.new.stops ≡ self.old.stops) }
         ensures stopped { IsErrOf result LinkFault.Stopped → self.old.stops < self.new.stops }
     {
+        match note_front(&mut self.rows, &self.incoming, extent) {
+            Ok(true) => {}
+            Ok(false) => return Err(self.lose()),
+            Err(AllocError) => return Err(LinkFault::NoMemory),
+        }
         match extent {
             Extent::Begun => return Ok(false),
             Extent::Heard(len) => self.keep(len)?,
@@ -221,10 +236,35 @@ impl Face {
         match turned(self.alloc, self.incoming.front(len)) {
             Ok(Turn::Keep) => self.keep(len),
             Ok(Turn::Replace(bytes)) => self.replace(len, bytes),
-            Ok(Turn::Omit) => self.replace(len, Vec::new(self.alloc)),
+            Ok(Turn::Omit) => self.join(len),
             Ok(Turn::Stop) => Err(self.lose()),
             Err(AllocError) => Err(LinkFault::NoMemory),
         }
+    }
+
+    /// Makes nothing ready instead of the reply of so many bytes at the front, or the row of a message that it says whole with an
+    /// earlier one. After an error nothing more is read of this connection.
+    fn join(&mut self, len: usize) -> Result<(), LinkFault>
+        requires within { len ≤ length self.old.incoming }
+        requires none { self.old.ready ≡ [] }
+        ensures failed { OnErr result (Untouched self.old self.new) }
+        ensures rest { OnOk result (self.old.incoming ≡ take len self.old.incoming ++ self.new.incoming) }
+        ensures renamed { self.new.renamed ≡ self.old.renamed }
+        ensures ready { OnOk result (IsTurned self.new.ready) }
+        ensures room { OnOk result (CountsReply self.new.ready self.old.room self.new.room true) }
+        ensures opened { self.new.is_open ≡ true → self.old.is_open ≡ true }
+        ensures counts { self.old.stops ≤ self.new.stops }
+        ensures steady { OnOk result (self.new.stops ≡ self.old.stops) }
+        ensures stopped { IsErrOf result LinkFault.Stopped → self.old.stops < self.new.stops }
+    {
+        let answer = match self.rows.joined(self.incoming.front(len)) {
+            Ok(Turn::Replace(bytes)) => self.replace(len, bytes),
+            Ok(Turn::Stop) => Err(self.lose()),
+            Ok(_) => self.replace(len, Vec::new(self.alloc)),
+            Err(AllocError) => Err(LinkFault::NoMemory),
+        };
+        self.is_open = self.is_open && answer.is_ok();
+        answer
     }
 
     /// The reply of so many bytes at the front is ready, as it came, if there is room for it.
@@ -322,10 +362,37 @@ impl Face {
         ensures opened { self.new.is_open ≡ false }
     {
         if self.is_open {
-            self.words.note_unread(self.incoming.first(UNREAD_MAX));
+            self.note_why();
         }
         self.is_open = false;
         self.stops.push();
         LinkFault::Stopped
+    }
+
+    /// Notes over what the connection is given up. If memory runs out, it is not noted.
+    fn note_why(&self) {
+        let unread = self.incoming.first(UNREAD_MAX);
+        match self.rows.complaint(unread) {
+            Ok(Some(text)) => self.words.note_lacking(&text),
+            Ok(None) => self.words.note_unread(unread),
+            Err(AllocError) => {}
+        }
+    }
+}
+
+/// Notes what the reply at the front says of messages, if it has come. False: it must not be heard.
+fn note_front(
+    rows: &mut ListedRows,
+    incoming: &Incoming,
+    extent: Extent,
+) -> Result<bool, AllocError>
+    requires { Looks incoming.now extent }
+    ensures { IfOk result (λ is_heard. is_heard ≡ true → EndsWhole (front_in extent incoming.now) rows.old) }
+{
+    match extent {
+        Extent::Heard(len) | Extent::Listed(len) | Extent::Whole(len) => {
+            rows.note(incoming.front(len))
+        }
+        Extent::Begun | Extent::TooLong => Ok(true),
     }
 }

@@ -29,6 +29,9 @@ const PIECE_BYTES: usize = 16_384;
 /// them is a stop, too: 16777216 of LIST replies, 33685548 of FETCH replies with a whole message, and 1048576 of others without a number, as
 /// CAPABILITY and status responses. Other replies with a number, as the rows of a listing, are not counted.
 ///
+/// In the answer to the list of messages (`UID FETCH .. (UID FLAGS RFC822.SIZE)`) the rows of one UID are joined. Where a message is reported by
+/// half when the tagged OK comes, or one is left out of those that the mailbox had when the list was asked for, that is a stop, too.
+///
 /// The names of mailboxes are in modified UTF-7 for the client, and in UTF-8 for the server (RFC 9051, section 5.1): a LIST reply
 /// whose name is another in modified UTF-7 is replaced, and a command that names a mailbox so is sent with the name in UTF-8.
 ///

@@ -3,7 +3,7 @@
 ghost use Rattle.std.specs.Prelude.{◌≡◌, ◌<◌, ℕ, List, length, codes, IfSome, false};
 ghost use Rattle.std.specs.Char.{is_ascii_digit};
 ghost use Rattle.std.specs.List.{list_all, position_from};
-ghost use Rattle.link_face.specs.Heads.{after_space, after_word, first_word, following, is_gap, is_number, second_word, HeadIs};
+ghost use Rattle.link_face.specs.Heads.{after_space, after_word, ends_well, first_word, following, is_gap, is_number, second_word, HeadIs};
 
 /// What a reply is, by its first words. What follows them is lent, with the space and the line end.
 #[derive(Clone, Copy)]
@@ -68,6 +68,15 @@ pub(crate) fn head_of(raw: &[u8]) -> ReplyHead<'_>
 /// Whether no literal stands in the reply that begins so: it ends with its first line.
 pub(crate) fn is_line(raw: &[u8]) -> bool {
     matches!(head_of(raw), ReplyHead::Continue | ReplyHead::Status(_))
+}
+
+/// Whether the reply is the OK that ends a command.
+pub(crate) fn is_tagged_ok(raw: &[u8]) -> bool
+    ensures { result ≡ ends_well raw.now }
+{
+    let (tag, rest) = split_word(raw);
+    let (word, _) = split_word(after_space(rest));
+    tag != b"*".as_slice() && word.eq_ignore_ascii_case(b"OK")
 }
 
 /// What an untagged reply is that is no status response and has no number.

@@ -14,6 +14,8 @@ mod heard;
 mod incoming;
 pub mod laws;
 mod listed;
+mod listed_rows;
+mod message_count;
 mod modified_utf7;
 pub mod names;
 mod plain;

@@ -4,7 +4,7 @@ ghost use Rattle.std.specs.Prelude.{◌≡◌, ◌==◌, ◌&&◌, not, if◌the
 ghost use Rattle.wire_tokens.specs.Writing.{Appended, Extended};
 ghost use Rattle.std.specs.Str.{str_eq_ignore_ascii_case};
 ghost use Rattle.link_face.specs.Heads.{is_number};
-ghost use Rattle.link_face.specs.Rows.{IsRowOf, IsRowWritten, IsUidOf, Item, ItemsWritten, ListingWritten, LiteralWritten, OctetsWritten, ReadsRow, TokenWritten, has_values, is_name, has_all_items, name_of};
+ghost use Rattle.link_face.specs.Rows.{IsRowOf, IsRowWritten, IsUidOf, Item, HasUid, ItemsWritten, ListingWritten, LiteralWritten, OctetsWritten, ReadsRow, TokenWritten, has_listing, has_values, is_name, has_all_items, name_of};
 
 use crate::flag_words::append_flags;
 use crate::head::{after_space, is_number};
@@ -35,11 +35,11 @@ pub(crate) enum ItemName {
 /// The values of the items of a FETCH reply that commands ask for. Of two of a name the first counts.
 #[derive(Clone, Copy)]
 pub(crate) struct FetchRow<'a> {
-    uid: Option<&'a [u8]>,
-    flags: Option<&'a [u8]>,
-    size: Option<&'a [u8]>,
-    body: Option<&'a [u8]>,
-    head: Option<&'a [u8]>,
+    pub(crate) uid: Option<&'a [u8]>,
+    pub(crate) flags: Option<&'a [u8]>,
+    pub(crate) size: Option<&'a [u8]>,
+    pub(crate) body: Option<&'a [u8]>,
+    pub(crate) head: Option<&'a [u8]>,
 }
 
 impl<'a> FetchRow<'a> {
@@ -80,6 +80,36 @@ impl<'a> FetchRow<'a> {
             ItemName::Head => self.head = self.head.or(Some(value)),
             ItemName::OtherName => {}
         }
+    }
+
+    /// These items, and those of an earlier row of the message that are not among them.
+    #[tactic(auto, using(crate::proofs::RowLemmas::holds_after))]
+    pub(crate) fn after(&self, earlier: &FetchRow<'a>) -> FetchRow<'a>
+        ensures { (old new : List Item) → IsRowOf old earlier.now → IsRowOf new self.now → IsRowOf (old ++ new) result }
+    {
+        FetchRow {
+            uid: self.uid.or(earlier.uid),
+            flags: self.flags.or(earlier.flags),
+            size: self.size.or(earlier.size),
+            body: self.body.or(earlier.body),
+            head: self.head.or(earlier.head),
+        }
+    }
+
+    /// The UID, or 4294967295 if it is greater. None: there is none, or it cannot be read.
+    #[tactic(auto, using(crate::proofs::GatheredRowsLemmas::has_uid))]
+    pub(crate) fn uid_number(&self) -> Option<u32>
+        ensures { (items : List Item) → IsRowOf items self.now → IfSome result (HasUid items) }
+    {
+        number_of(self.uid?)
+    }
+
+    /// Whether these are all items of a listing.
+    #[tactic(auto, using(crate::proofs::RowLemmas::holds_has))]
+    pub(crate) fn has_listing(&self) -> bool
+        ensures { (items : List Item) → IsRowOf items self.now → result ≡ has_listing items }
+    {
+        self.uid.is_some() && self.flags.is_some() && self.size.is_some()
     }
 
     /// Whether the octets of a whole message are among them.

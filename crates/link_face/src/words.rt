@@ -23,6 +23,7 @@ pub struct Words {
     alerts: Cell<Vec<Vec<u8>>>,
     skipped: Cell<Vec<Vec<u8>>>,
     unread: Cell<Option<Vec<u8>>>,
+    lacks: Cell<bool>,
 }
 
 impl Words {
@@ -34,6 +35,7 @@ impl Words {
             alerts: Cell::new(Vec::new(alloc)),
             skipped: Cell::new(Vec::new(alloc)),
             unread: Cell::new(None),
+            lacks: Cell::new(false),
         }
     }
 
@@ -63,6 +65,12 @@ impl Words {
         self.unread.take()
     }
 
+    /// Whether the reply over which a connection was given up last is the end of a list of messages that lacks some. What is missing is
+    /// said in place of its front.
+    pub fn lacks_messages(&self) -> bool {
+        self.lacks.get()
+    }
+
     /// Whether a connection was given up over a reply since that was taken out last.
     pub fn is_unread(&self) -> bool {
         let unread = self.unread.take();
@@ -85,10 +93,17 @@ impl Words {
 
     /// Notes the front of a reply over which the connection is given up. If memory runs out, it is not noted.
     pub(crate) fn note_unread(&self, raw: &[u8]) {
+        self.lacks.set(false);
         let line = raw.split(|b| *b == b'\n').next().unwrap_or(raw);
         if let Ok(text) = Vec::from_slice(self.alloc, front(line.trim_ascii_end())) {
             self.unread.set(Some(text));
         }
+    }
+
+    /// Notes what is missing in a list of messages over which the connection is given up. If memory runs out, it is not noted.
+    pub(crate) fn note_lacking(&self, text: &[u8]) {
+        self.note_unread(text);
+        self.lacks.set(true);
     }
 
     fn note_listed(&self, rest: &[u8]) -> Result<(), AllocError> {
