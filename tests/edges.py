@@ -15,7 +15,7 @@ import sys
 
 sys.path.insert(0, str(pathlib.Path(__file__).resolve().parents[1]))
 from oracle.mail import escaped
-from tests.scenes import server_edges, session_edges
+from tests.scenes import server_edges, session_edges, two_accounts
 from tests.support.edge_scene import EARLIER, FOUR, PAGE, QUICK, THREE, Edge, can_mount, disk, far, near, nobody_can_run, stopped
 from tests.support.explained import FINISHED
 from tests.support.places import MBSYNC, must_run, parser_of
@@ -192,7 +192,7 @@ def things_for_our_files(tally):
                 if name in own:
                     os.remove(path)
                 make(path)
-                told = ["mbsync: cannot open " + path, "  " + NO_FILE] if name.endswith("lock") else stopped(f"{path}: {NO_FILE}")[2:]
+                told = ["mbsync: c:INBOX: cannot open " + path, "  " + NO_FILE] if name.endswith("lock") else stopped(f"{path}: {NO_FILE}")[2:]
                 tally.same(f"a {kind} at {name} is named at once", scene.run("c", most=QUICK), [1, "c:INBOX", *told])
                 tally.same("nothing is made or changed", [os.path.lexists(scene.path("elsewhere")), scene.sides()],
                            [False, [near(ONE, TWO), far(ONE, TWO)]])
@@ -406,7 +406,7 @@ def read_only_disk(tally):
         before = scene.own()
         subprocess.run(["mount", "-o", "remount,ro", scene.path("inbox")], check=True)
         tally.same("a mailbox that can be read only is told", scene.run("c"),
-                   [1, "c:INBOX", "mbsync: cannot open " + scene.path("inbox/.mbsyncstate.lock"), "  " + READ_ONLY])
+                   [1, "c:INBOX", "mbsync: c:INBOX: cannot open " + scene.path("inbox/.mbsyncstate.lock"), "  " + READ_ONLY])
         tally.same("nothing has changed", [scene.own(), scene.sides()], [before, [near(ONE), far(ONE, TWO)]])
     with Edge(ONE) as scene:
         scene.near()
@@ -446,7 +446,7 @@ def closed_streams(tally):
 
 SCENES = [odd_names, odd_name_with_uid, things_without_uid, things_with_unknown_uid, things_with_known_uid, flags_for_a_thing, in_the_way,
           things_for_our_files, removed_far, removed_near, earlier_server, no_look, no_permission, full_disk, read_only_disk, closed_streams,
-          *server_edges.SCENES, *session_edges.SCENES]
+          *server_edges.SCENES, *session_edges.SCENES, *two_accounts.SCENES]
 
 
 def main():

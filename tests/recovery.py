@@ -13,7 +13,7 @@ import tempfile
 sys.path.insert(0, str(pathlib.Path(__file__).resolve().parents[1]))
 from tests.support.begun import COMMAND
 from tests.support.configuration import configured
-from tests.support.explained import FINISHED, VOID
+from tests.support.explained import FINISHED, VOID, VOID_NEAR
 from tests.support.imap_side import ImapSide
 from tests.support.maildir_side import MaildirSide
 from tests.support.tally import Tally
@@ -70,7 +70,8 @@ class Place:
     def works(self, name, *lines):
         """A run that comes to its end with these lines. One with a void step has status 1."""
         told, status = self.run(), int(any(line.startswith("void ") for line in lines))
-        first = VOID if status else FINISHED if "finished" in lines else ""
+        void = VOID if any(line.startswith("void pull ") for line in lines) else VOID_NEAR
+        first = void if status else FINISHED if "finished" in lines else ""
         TALLY.check(name, told == (status, "".join(line + "\n" for line in ("box:INBOX", *lines)), first), told)
 
     def path(self, name):

@@ -14,14 +14,14 @@ GONE, MARK, EXPUNGE_FAR, EXPUNGE_NEAR = "gone push 5 6", "flags push 5 6 +T", "e
 # Of a near message that is undeleted or put back: the recorded flags, the steps of the plan, how many are logged, whether the far one is
 # there, and where it has to stay.
 NEAR_CASES = [
-    ("T", None, 0, True, BOTH), ("-", None, 0, True, BOTH), ("-", [GONE, EXPUNGE_FAR], 0, True, BOTH), ("-", [GONE, EXPUNGE_FAR], 1, True, BOTH),
+    ("T", None, 0, False, NEAR), ("T", None, 0, True, BOTH), ("-", None, 0, True, BOTH), ("-", [GONE, EXPUNGE_FAR], 0, True, BOTH), ("-", [GONE, EXPUNGE_FAR], 1, True, BOTH),
     ("-", [GONE, EXPUNGE_FAR], 2, False, NEAR), ("-", [GONE], 0, True, BOTH), ("-", [GONE], 1, True, NEAR),
     ("-", [MARK, EXPUNGE_FAR, EXPUNGE_NEAR], 1, True, BOTH), ("-", [MARK, EXPUNGE_FAR, EXPUNGE_NEAR], 2, False, NEAR),
     ("-", ["gone pull 5 6", EXPUNGE_NEAR], 0, False, NOTHING), ("-", ["gone pull 5 6", EXPUNGE_NEAR], 1, False, NEAR), ("-", None, 0, False, NOTHING),
     ("-", ["flags pull 5 6 +T", EXPUNGE_NEAR], 0, True, NOTHING),
 ]
 FAR_CASES = [
-    ("T", None, 0, True, BOTH), ("-", [MARK, EXPUNGE_FAR, EXPUNGE_NEAR], 1, True, BOTH), ("-", [MARK, EXPUNGE_NEAR], 1, True, NOTHING),
+    ("T", None, 0, False, FAR), ("T", None, 0, True, BOTH), ("-", [MARK, EXPUNGE_FAR, EXPUNGE_NEAR], 1, True, BOTH), ("-", [MARK, EXPUNGE_NEAR], 1, True, NOTHING),
     ("-", [MARK], 0, True, NOTHING), ("-", [GONE, EXPUNGE_FAR], 1, False, FAR), ("-", [GONE, EXPUNGE_FAR], 0, False, NOTHING), ("-", None, 0, False, NOTHING),
     ("-", [MARK, EXPUNGE_FAR], 1, True, BOTH),
 ]

@@ -74,7 +74,8 @@ def kept_near(now, is_there, has_own_mark):
     if not is_there:
         # What the server lacks is called gone again by the rules, unless the pending plan itself has removed it there, or has called it gone
         # already: the run that resumes it looks. A run at work may have looked for the last time.
-        is_looked_for = now.covered is None and (now.has("expunge far") or now.is_logged("gone pull"))
+        # It is asked after, too, where the pair is recorded as deleted: then the person has taken that removal back.
+        is_looked_for = now.covered is None and (now.has("expunge far") or now.is_logged("gone pull") or "T" in now.recorded)
         return {"far": None, "near": True if is_looked_for else None}
     if has_own_mark and not now.has("mark pull"):
         return dict(NOTHING)
@@ -95,7 +96,8 @@ def kept_far(now, is_there, has_own_mark):
         return {"far": True, "near": None}
     if not is_there:
         # What the folder lacks is called gone by the rules, unless the pending plan has called it gone already.
-        return {"far": True if now.is_logged("gone push") else None, "near": None}
+        is_looked_for = now.is_logged("gone push") or now.covered is None and "T" in now.recorded
+        return {"far": True if is_looked_for else None, "near": None}
     if has_own_mark and not now.has("mark push"):
         return dict(NOTHING)
     if now.removes("near"):

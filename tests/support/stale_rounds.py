@@ -19,7 +19,6 @@ FIRST_COMMAND, MOST_COMMANDS = 5, 17
 MOST_RUNS = 9
 MESSAGES = 12
 MOST_SECONDS = 600
-CLEAN = [0, "c:INBOX", "ran"]
 
 
 class Judge:
@@ -83,10 +82,11 @@ def ended(process):
 class Course:
     """A scene, its person and its judge, over many rounds."""
 
-    def __init__(self, seed):
+    def __init__(self, seed, scene=None, channel="c"):
         self.rng = random.Random(seed)
-        self.scene = Stale()
+        self.scene = scene or Stale()
         self.scene.near()
+        self.channel, self.clean = channel, [0, f"{channel}:INBOX", "ran"]
         self.person = Person(self.scene, self.rng)
         self.judge = Judge(self.person)
         self.told = Counter()
@@ -101,8 +101,9 @@ class Course:
         self.person.log.append(f"-- Expunge {expunge}")
         return COVERED[expunge]
 
-    def run(self, covered, is_killed, acts):
-        """A run, during which a person acts at so many commands, and which may be killed at one; what it prints, or `killed`."""
+    def run(self, covered, is_killed, acts, words=()):
+        """A run, during which a person acts at so many commands, and which may be killed at one; what it prints, or `killed`. It is given
+        these words, or the channel's name."""
         person, scene = self.person, self.scene
         moments = {self.rng.randrange(FIRST_COMMAND, MOST_COMMANDS): self.rng.choice([0.0, 0.0, 0.0, SOON]) for _ in range(acts)}
         end = self.rng.randrange(FIRST_COMMAND, MOST_COMMANDS) if is_killed else 0
@@ -131,7 +132,7 @@ class Course:
 
         person.covered = covered
         scene.server.script = script
-        process.append(scene.start("c"))
+        process.append(scene.start(*(words or (self.channel,))))
         started.set()
         told = ended(process[0])
         # A command may have come just before the client was killed.
@@ -182,9 +183,9 @@ class Course:
             self.scene.set_up(expunge)
         told = []
         for _ in range(MOST_RUNS):
-            told = self.scene.run("c")
+            told = self.scene.run(self.channel)
             self.person.log.append(f"run: {told}")
-            if told == CLEAN:
+            if told == self.clean:
                 return self.judge.look(new)
         return [f"after {MOST_RUNS} runs there is something to do: {told}", *self.judge.look(new)]
 

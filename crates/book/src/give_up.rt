@@ -16,7 +16,8 @@ impl<S: Shelf> Book<S> {
     ghost use Rattle.book.specs.Standings.{files_in, standing};
 
     /// Puts the state that is left of the pending plan in place of the old one, in the second version, and then removes the journal: one
-    /// `replace` and one `remove`. An entry that loses a side keeps the other one alone. A fault leaves the old state and the journal, the new state and the journal, which is useless then, or the new state alone.
+    /// `replace` and one `remove`. An entry that loses a side keeps the other one alone, and marks that are not to be recorded are not.
+    /// A fault leaves the old state and the journal, the new state and the journal, which is useless then, or the new state alone.
     pub fn give_up(&mut self, lost: &LostSides) -> Result<(), BookFault>
         requires planned { IsPlanned self.old.pending }
         requires rising { AreRising lost.now }

@@ -30,7 +30,7 @@ use Rattle.channels.proofs.OrderLemmas.{Possible, SoFar-all, SoFar-following}
 
 IsBoxAsked-possible : (options : Options) (place : Place) (absent : Sides) → Possible (IsBoxAsked options place absent)
 IsBoxAsked-possible options place absent =
-    let ends : BoxEnds = record { found_new = Done; made_far = Done; made_near = Done; ran = Done; gave_up = None } in
+    let ends : BoxEnds = record { found_new = Done; made_far = Done; made_near = Done; ran = Done; gave_up = None; again = None } in
     record {
       verdict = verdict_of (box_course options place absent ends).outcome;
       asked = (box_course options place absent ends).asked;

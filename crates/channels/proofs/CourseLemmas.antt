@@ -100,7 +100,7 @@ Follows-ends noted old new Unopened first next n h =
 
 abbrev making_by : Place → (far near : Bool) → (found_new made_far made_near ran : Outcome) → Course
 making_by place far near found_new made_far made_near ran =
-    making_course place (record { far = far; near = near }) (record { found_new = found_new; made_far = made_far; made_near = made_near; ran = ran; gave_up = None })
+    making_course place (record { far = far; near = near }) (record { found_new = found_new; made_far = made_far; made_near = made_near; ran = ran; gave_up = None; again = None })
 
 -- what was made is so by how it ended
 made_by : (place : Place) (far near : Bool) (found_new made_far made_near ran : Outcome)
@@ -125,7 +125,7 @@ pub Makes-uncovered : {L : Type 0} (noted : L → Asked → L) (place : Place) (
     → is_some (uncovered absent place.of.channel.create) ≡ true → (found : Outcome) → new ≡ fold noted old (FoundNew place found ∷ [])
     → Makes noted place absent Failed old new
 Makes-uncovered noted place absent old new e found h =
-    let ends : BoxEnds = record { found_new = found; made_far = Done; made_near = Done; ran = Done; gave_up = None } in
+    let ends : BoxEnds = record { found_new = found; made_far = Done; made_near = Done; ran = Done; gave_up = None; again = None } in
     record {
       ends = ends;
       follows = subst (λ b. Follows noted old new Failed (if b then record { asked = FoundNew place found ∷ []; outcome = Failed } else making_course place absent ends)) (sym e) (record { grown = h; ended = refl });
@@ -153,7 +153,7 @@ pub Makes-old : {L : Type 0} (noted : L → Asked → L) (place : Place) (absent
     → Makes noted place absent (outcome_of_box_fault fault) old new
 Makes-old noted place absent fault old new e h =
     let o : Outcome = outcome_of_box_fault fault in
-    let ends : BoxEnds = record { found_new = o; made_far = Done; made_near = Done; ran = Done; gave_up = None } in
+    let ends : BoxEnds = record { found_new = o; made_far = Done; made_near = Done; ran = Done; gave_up = None; again = None } in
     Makes-covered noted place absent ends o old new e
     (Follows-ends noted old new o (found_course place absent o) (onward (asking_if absent.far (Made Far place) Done) (asking_if absent.near (Made Near place) Done)) (fault_is_fault fault) h)
 
@@ -165,7 +165,7 @@ pub Makes-no_far : {L : Type 0} (noted : L → Asked → L) (place : Place) (abs
     → Makes noted place absent (outcome_of_box_fault fault) old new
 Makes-no_far noted place absent fault old middle new e h k =
     let o : Outcome = outcome_of_box_fault fault in
-    let ends : BoxEnds = record { found_new = Done; made_far = o; made_near = Done; ran = Done; gave_up = None } in
+    let ends : BoxEnds = record { found_new = Done; made_far = o; made_near = Done; ran = Done; gave_up = None; again = None } in
     let far : Course = asking_if absent.far (Made Far place) o in
     let near : Course = asking_if absent.near (Made Near place) Done in
     Makes-covered noted place absent ends o old new e
@@ -180,7 +180,7 @@ pub Makes-near : {L : Type 0} (noted : L → Asked → L) (place : Place) (absen
     → Follows noted following new outcome (asking_if absent.near (Made Near place) outcome)
     → Makes noted place absent outcome old new
 Makes-near noted place absent o old middle following new e h k l =
-    let ends : BoxEnds = record { found_new = Done; made_far = Done; made_near = o; ran = Done; gave_up = None } in
+    let ends : BoxEnds = record { found_new = Done; made_far = Done; made_near = o; ran = Done; gave_up = None; again = None } in
     let far : Course = asking_if absent.far (Made Far place) Done in
     let near : Course = asking_if absent.near (Made Near place) o in
     Makes-covered noted place absent ends o old new e

@@ -9,3 +9,4 @@ pub mod SearchLemmas
 pub mod LendingLemmas
 pub mod LendLemmas
 pub mod RunLemmas
+pub mod AnewLemmas

@@ -1,17 +1,22 @@
 -- What was asked of several, one after another, and how far it came.
-use Rattle.std.proofs.Common.{◌≡◌, ℕ, suc, ◌+◌, ◌<◌, Bool, true, false, List, [], ◌∷◌, ◌++◌, length, get_or, drop, Option, None, Result, Ok, Err, IfOk, refl, ap, sym, ◌∙◌, subst, append_assoc, append-nil, drop-cons, arith}
+use Rattle.std.proofs.Common.{◌≡◌, ℕ, suc, ◌+◌, ◌<◌, Bool, true, false, List, [], ◌∷◌, ◌++◌, ◌&&◌, length, get_or, drop, Option, None, Some, Result, Ok, Err, IfOk, refl, ap, sym, ◌∙◌, subst, append_assoc, append-nil, drop-cons, arith}
 use Rattle.std.specs.List.{fold}
 use Rattle.rules.specs.declared.options.Options.{Options}
 use Rattle.rules.specs.declared.options.Sides.{Sides}
-use Rattle.channels.specs.Asked.{Asked, Outcome, Done, Place, Ran}
+use Rattle.runner.specs.declared.pass.Settled.{Settled}
+use Rattle.channels.specs.Asked.{Asked, Outcome, Done, Failed, Unopened, Place, Ran}
 use Rattle.channels.specs.declared.fault.BoxFailure.{BoxFailure}
+use Rattle.channels.specs.declared.fault.BoxFailure.TheVariants.{Absent, Removed, CannotOpen, Server, Locked, Refused, Stopped, GivenAgain, LeftOut, AtStep, Run}
+use Rattle.channels.specs.declared.fault.GivingUp.{GivingUp}
+use Rattle.channels.specs.declared.fault.GivingUp.TheVariants as giving
+use Rattle.channels.specs.declared.fault.RunFailure.{RunFailure}
 use Rattle.channels.specs.declared.verdict.Verdict.{Verdict}
 use Rattle.channels.specs.declared.verdict.Verdict.TheVariants.{Clean, Faulty, Over}
 use Rattle.channels.specs.Asks.{run_attempts}
-use Rattle.channels.specs.Courses.{Begun, Following, Course, Follows, Goes, InOrder, IsBoxAsked, IsRunAsked, Makes, NextOf, SoFar, is_over, covered_course, onward, onward_by, run_course}
-use Rattle.channels.specs.Outcomes.{IsReportedOf, outcome_of_box_fault, verdict_of}
+use Rattle.channels.specs.Courses.{Begun, Following, Course, Follows, Goes, InOrder, IsBoxAsked, IsRunAsked, Makes, NextOf, RunEnds, SoFar, after_failed, again_after, is_over, covered_course, onward, onward_by, run_course, run_courses, settled_asked}
+use Rattle.channels.specs.Outcomes.{IsReportedOf, gave_up_of, has_void, is_restored, outcome_of_box_fault, outcome_of_settled, plans_anew, verdict_of, was_given_up}
 use Rattle.channels.specs.Verdicts.{both}
-use Rattle.channels.proofs.CourseLemmas.{Follows-ends, IsReportedOf-verdict, fold_after, fault_is_fault, is_not_over}
+use Rattle.channels.proofs.CourseLemmas.{Follows-ends, IsFault, IsReportedOf-verdict, fold_after, fault_is_fault, is_not_over, was_done}
 
 -- ---- so far
 
@@ -58,10 +63,10 @@ IsBoxAsked-ran : {L : Type 0} (noted : L → Asked → L) (options : Options) (p
     → IsRunAsked options place verdict asked → IsBoxAsked options place absent verdict ((covered_course place absent made.ends).asked ++ asked)
 IsBoxAsked-ran noted options place absent old middle made verdict asked run =
     let first : Course = covered_course place absent made.ends in
-    let next : Course = run_course options place run.ran run.gave_up in
+    let next : Course = run_courses options place run.ran run.gave_up run.again in
     let e : onward first next ≡ record { asked = first.asked ++ next.asked; outcome = next.outcome } = is_onward first next made.follows.ended in
     record {
-      ends = record { found_new = made.ends.found_new; made_far = made.ends.made_far; made_near = made.ends.made_near; ran = run.ran; gave_up = run.gave_up };
+      ends = record { found_new = made.ends.found_new; made_far = made.ends.made_far; made_near = made.ends.made_near; ran = run.ran; gave_up = run.gave_up; again = run.again };
       all = ap (λ a. first.asked ++ a) run.all ∙ sym (ap (λ c. c.asked) e);
       reported = subst (λ o. IsReportedOf o verdict) (sym (ap (λ c. c.outcome) e)) run.reported;
     }
@@ -81,7 +86,7 @@ pub SoFar-unmade : {L E : Type 0} (noted : L → Asked → L) (options : Options
 SoFar-unmade noted options place absent old new fault result made e =
     let o : Outcome = outcome_of_box_fault fault in
     let first : Course = covered_course place absent made.ends in
-    let next : Course = run_course options place made.ends.ran made.ends.gave_up in
+    let next : Course = run_courses options place made.ends.ran made.ends.gave_up made.ends.again in
     let whole : Follows noted old new o (onward first next) = Follows-ends noted old new o first next (fault_is_fault fault) made.follows in
     SoFar-all noted old new (IsBoxAsked options place absent) (verdict_of o) result (onward first next).asked
     (record { ends = made.ends; all = refl; reported = subst (λ x. IsReportedOf x (verdict_of o)) whole.ended (IsReportedOf-verdict o) }) whole.grown e
@@ -279,39 +284,197 @@ Begun-unrun noted options place old new e = record {
   is = record {
     verdict = Clean;
     rest = Ran place options run_attempts Done ∷ [];
-    is = record { ran = Done; gave_up = None; all = refl; reported = is_not_over Clean tt };
+    is = record { ran = Done; gave_up = None; again = None; all = refl; reported = is_not_over Clean tt };
   };
   grown = e;
 }
 
-pub Begun-run : {L : Type 0} (noted : L → Asked → L) (options : Options) (place : Place) (ran : Outcome) (gave_up : Option Outcome) (old new : L)
-    → new ≡ fold noted old (run_course options place ran gave_up).asked → Goes noted old new (Begun (IsRunAsked options place))
-Begun-run noted options place ran gave_up old new e = record {
-  more = (run_course options place ran gave_up).asked;
+-- how a run ended, and giving its plan up
+abbrev ends_of : Result Settled RunFailure → RunEnds
+ends_of result = record { ran = outcome_of_settled result; gave_up = gave_up_of result }
+
+-- nothing was asked before the run, nor after it
+pub run_grown : {L : Type 0} (noted : L → Asked → L) (options : Options) (place : Place) (first : Result Settled RunFailure) (old begun settled new : L)
+    → begun ≡ old → settled ≡ fold noted begun (settled_asked options place first) → new ≡ settled → new ≡ fold noted old (settled_asked options place first)
+run_grown noted options place first old begun settled new e h k = k ∙ h ∙ ap (λ l. fold noted l (settled_asked options place first)) e
+
+pub Begun-run : {L : Type 0} (noted : L → Asked → L) (options : Options) (place : Place) (first : Result Settled RunFailure) (old new : L)
+    → new ≡ fold noted old (settled_asked options place first) → Goes noted old new (Begun (IsRunAsked options place))
+Begun-run noted options place first old new e = record {
+  more = settled_asked options place first;
   is = record {
-    verdict = verdict_of ran;
+    verdict = verdict_of (outcome_of_settled first);
     rest = [];
-    is = record { ran = ran; gave_up = gave_up; all = append-nil (run_course options place ran gave_up).asked; reported = IsReportedOf-verdict ran };
+    is = record {
+      ran = outcome_of_settled first;
+      gave_up = gave_up_of first;
+      again = None;
+      all = append-nil (settled_asked options place first);
+      reported = IsReportedOf-verdict (outcome_of_settled first);
+    };
   };
   grown = e;
 }
 
-pub Goes-run : {L : Type 0} (noted : L → Asked → L) (options : Options) (place : Place) (ran : Outcome) (gave_up : Option Outcome) (verdict : Verdict) (old new : L)
-    → new ≡ fold noted old (run_course options place ran gave_up).asked → IsReportedOf ran verdict → Goes noted old new (IsRunAsked options place verdict)
-Goes-run noted options place ran gave_up verdict old new e h = record {
-  more = (run_course options place ran gave_up).asked;
-  is = record { ran = ran; gave_up = gave_up; all = refl; reported = h };
+pub Goes-run : {L : Type 0} (noted : L → Asked → L) (options : Options) (place : Place) (first : Result Settled RunFailure) (verdict : Verdict) (old new : L)
+    → new ≡ fold noted old (settled_asked options place first) → IsReportedOf (outcome_of_settled first) verdict → Goes noted old new (IsRunAsked options place verdict)
+Goes-run noted options place first verdict old new e h = record {
+  more = settled_asked options place first;
+  is = record { ran = outcome_of_settled first; gave_up = gave_up_of first; again = None; all = refl; reported = h };
   grown = e;
 }
 
--- its fault was reported
-pub SoFar-fault : {L E : Type 0} (noted : L → Asked → L) (options : Options) (place : Place) (fault : BoxFailure) (gave_up : Option Outcome) (result : Result Verdict E) (old new : L)
-    → new ≡ fold noted old (run_course options place (outcome_of_box_fault fault) gave_up).asked
-    → IfOk result (λ verdict. verdict ≡ verdict_of (outcome_of_box_fault fault)) → Goes noted old new (SoFar result (IsRunAsked options place))
-SoFar-fault noted options place fault gave_up (Ok verdict) old new e h =
-    let o : Outcome = outcome_of_box_fault fault in
-    Goes-run noted options place o gave_up verdict old new e (subst (λ v. IsReportedOf o v) (sym h) (IsReportedOf-verdict o))
-SoFar-fault noted options place fault gave_up (Err why) old new e h = Begun-run noted options place (outcome_of_box_fault fault) gave_up old new e
+-- ---- of a run after which another one is made
+
+-- it failed, and its plan was given up
+pub record GaveWay (first : Result Settled RunFailure) : Type 0 where
+  pub ran : outcome_of_settled first ≡ Failed
+  pub gave_up : gave_up_of first ≡ Some Done
+
+abbrev IsYes : Bool → Type 0
+IsYes true = Unit {0}
+IsYes false = ⊥
+
+restored_failed : (fault : BoxFailure) → IsYes (is_restored fault) → outcome_of_box_fault fault ≡ Failed
+restored_failed (Absent side) h = refl
+restored_failed (Removed side) h = refl
+restored_failed (CannotOpen path reason) h = refl
+restored_failed (Server store why) h = absurd h
+restored_failed Locked h = refl
+restored_failed (Refused number step) h = refl
+restored_failed (Stopped cause) h = refl
+restored_failed (GivenAgain uid side) h = refl
+restored_failed (LeftOut path) h = refl
+restored_failed (AtStep fault number step) h = refl
+restored_failed (Run fault) h = refl
+
+given_up_done : (fault : BoxFailure) (giving_up : Option GivingUp) → IsYes (was_given_up giving_up)
+    → gave_up_of (Err (record { fault = fault; giving_up = giving_up })) ≡ Some Done
+given_up_done fault None h = absurd h
+given_up_done fault (Some giving.GivenUp) h = refl
+given_up_done fault (Some giving.NothingPending) h = absurd h
+given_up_done fault (Some (giving.Failed why)) h = absurd h
+
+both_yes : (a b : Bool) → (a && b) ≡ true → IsYes a × IsYes b
+both_yes true true e = (tt, tt)
+both_yes true false e = absurd (subst IsYes (sym e) tt)
+both_yes false b e = absurd (subst IsYes (sym e) tt)
+
+pub plans_anew-gave_way : (first : Result Settled RunFailure) → plans_anew first ≡ true → GaveWay first
+plans_anew-gave_way (Ok settled) e = absurd (subst IsYes (sym e) tt)
+plans_anew-gave_way (Err failure) e =
+    let h = both_yes (is_restored failure.fault) (was_given_up failure.giving_up) e in
+    record { ran = restored_failed failure.fault h.0; gave_up = given_up_done failure.fault failure.giving_up h.1 }
+
+-- one course after what was asked
+abbrev after_first : List Asked → Course → Course
+after_first asked next = record { asked = asked ++ next.asked; outcome = next.outcome }
+
+-- so both were asked
+both_asked : (options : Options) (place : Place) (first again : Result Settled RunFailure) → GaveWay first
+    → run_courses options place (outcome_of_settled first) (gave_up_of first) (Some (ends_of again))
+    ≡ record { asked = settled_asked options place first ++ settled_asked options place again; outcome = after_failed (outcome_of_settled again) }
+both_asked options place first again h =
+    let next : Course = run_course options place (outcome_of_settled again) (gave_up_of again) in
+    let one : again_after (outcome_of_settled first) (gave_up_of first) next ≡ again_after Failed (gave_up_of first) next =
+    ap (λ (o : Outcome). again_after o (gave_up_of first) next) h.ran in
+    let two : again_after Failed (gave_up_of first) next ≡ record { asked = next.asked; outcome = after_failed next.outcome } =
+    ap (λ (g : Option Outcome). again_after Failed g next) h.gave_up in
+    ap (after_first (settled_asked options place first)) (one ∙ two)
+
+-- what was reported of the first stays reported
+both_reported : (ran : Outcome) (verdict later all : Verdict) → all ≡ both verdict later → verdict ≡ Faulty → IsReportedOf ran later → IsReportedOf (after_failed ran) all
+both_reported Done verdict Clean all e f h = e ∙ f
+both_reported Done verdict Faulty all e f h = e
+both_reported Done verdict Over all e f h = absurd (h refl)
+both_reported Failed verdict later all e f h = e ∙ ap (both verdict) h
+both_reported Unopened verdict later all e f h = e ∙ ap (both verdict) h
+
+first_reported : (first : Result Settled RunFailure) (verdict : Verdict) → GaveWay first → IsReportedOf (outcome_of_settled first) verdict → verdict ≡ Faulty
+first_reported first verdict way h = subst (λ o. IsReportedOf o verdict) way.ran h
+
+runs_grown : {L : Type 0} (noted : L → Asked → L) (options : Options) (place : Place) (first again : Result Settled RunFailure) (old middle new : L) → GaveWay first
+    → middle ≡ fold noted old (settled_asked options place first) → new ≡ fold noted middle (settled_asked options place again)
+    → new ≡ fold noted old (run_courses options place (outcome_of_settled first) (gave_up_of first) (Some (ends_of again))).asked
+runs_grown noted options place first again old middle new way h k =
+    fold_after noted old middle new (settled_asked options place first) (settled_asked options place again) h k
+    ∙ sym (ap (λ (c : Course). fold noted old c.asked) (both_asked options place first again way))
+
+pub Goes-runs : {L : Type 0} (noted : L → Asked → L) (options : Options) (place : Place) (first again : Result Settled RunFailure) (verdict later all : Verdict) (old middle new : L)
+    → plans_anew first ≡ true → middle ≡ fold noted old (settled_asked options place first) → new ≡ fold noted middle (settled_asked options place again)
+    → IsReportedOf (outcome_of_settled first) verdict → IsReportedOf (outcome_of_settled again) later → all ≡ both verdict later
+    → Goes noted old new (IsRunAsked options place all)
+Goes-runs noted options place first again verdict later all old middle new anew h k r s e =
+    let way : GaveWay first = plans_anew-gave_way first anew in
+    let whole : Course = run_courses options place (outcome_of_settled first) (gave_up_of first) (Some (ends_of again)) in
+    record {
+      more = whole.asked;
+      is = record {
+        ran = outcome_of_settled first;
+        gave_up = gave_up_of first;
+        again = Some (ends_of again);
+        all = refl;
+        reported = subst (λ (c : Course). IsReportedOf c.outcome all) (sym (both_asked options place first again way))
+            (both_reported (outcome_of_settled again) verdict later all e (first_reported first verdict way r) s);
+      };
+      grown = runs_grown noted options place first again old middle new way h k;
+    }
+
+pub Begun-runs : {L : Type 0} (noted : L → Asked → L) (options : Options) (place : Place) (first again : Result Settled RunFailure) (old middle new : L)
+    → plans_anew first ≡ true → middle ≡ fold noted old (settled_asked options place first) → new ≡ fold noted middle (settled_asked options place again)
+    → Goes noted old new (Begun (IsRunAsked options place))
+Begun-runs noted options place first again old middle new anew h k =
+    let way : GaveWay first = plans_anew-gave_way first anew in
+    let whole : Course = run_courses options place (outcome_of_settled first) (gave_up_of first) (Some (ends_of again)) in
+    record {
+      more = whole.asked;
+      is = record {
+        verdict = verdict_of whole.outcome;
+        rest = [];
+        is = record {
+          ran = outcome_of_settled first;
+          gave_up = gave_up_of first;
+          again = Some (ends_of again);
+          all = append-nil whole.asked;
+          reported = IsReportedOf-verdict whole.outcome;
+        };
+      };
+      grown = runs_grown noted options place first again old middle new way h k;
+    }
+
+-- ---- of a run of which no fault was reported
+
+abbrev IsNoFault : Verdict → Type 0
+IsNoFault Clean = Unit {0}
+IsNoFault Faulty = ⊥
+IsNoFault Over = ⊥
+
+-- what was reported of a fault is a fault
+pub fault_is_reported : (fault : BoxFailure) (verdict : Verdict) → IsReportedOf (outcome_of_box_fault fault) verdict → verdict ≡ Clean → ⊥
+fault_is_reported fault verdict h clean = by (outcome_of_box_fault fault) (fault_is_fault fault) h
+  where
+    by : (o : Outcome) → IsFault o → IsReportedOf o verdict → ⊥
+    by Done n r = n
+    by Failed n r = subst IsNoFault (sym clean ∙ r) tt
+    by Unopened n r = subst IsNoFault (sym clean ∙ r) tt
+
+-- it was made once, and was done
+pub settled_done : (options : Options) (place : Place) (first : Result Settled RunFailure) (verdict : Verdict) → IsReportedOf (outcome_of_settled first) verdict → verdict ≡ Clean
+    → settled_asked options place first ≡ Ran place options run_attempts Done ∷ []
+settled_done options place (Ok settled) verdict h clean =
+    ap (λ (o : Outcome). Ran place options run_attempts o ∷ []) (was_done (has_void settled.last) verdict h clean)
+settled_done options place (Err failure) verdict h clean = absurd (fault_is_reported failure.fault verdict h clean)
+
+-- after one that gave way a fault is reported
+pub never_clean-anew : (first : Result Settled RunFailure) (verdict later all : Verdict) → plans_anew first ≡ true → IsReportedOf (outcome_of_settled first) verdict
+    → all ≡ both verdict later → all ≡ Clean → ⊥
+never_clean-anew first verdict later all anew h e clean =
+    by later (first_reported first verdict (plans_anew-gave_way first anew) h) (sym clean ∙ e)
+  where
+    by : (v : Verdict) → verdict ≡ Faulty → Clean ≡ both verdict v → ⊥
+    by Clean f c = subst IsNoFault (c ∙ f) tt
+    by Faulty f c = subst IsNoFault c tt
+    by Over f c = subst IsNoFault c tt
 
 -- of numbers, of a list that is another one by name
 pub places_next : (places items : List ℕ) (i : ℕ) → items ≡ places → i < length items → drop i places ≡ get_or items i 0 ∷ drop (i + 1) places

@@ -1,5 +1,5 @@
 -- What becomes of the mailboxes that are lent, one thing after another, whatever is reported.
-use Rattle.std.proofs.Common.{◌≡◌, ℕ, zero, suc, ◌+◌, ◌<◌, Bool, false, List, [], ◌∷◌, ◌++◌, Option, Result, Ok, Err, get_or, take, length, refl, ap, sym, subst, ◌∙◌, inl, inr, append_assoc}
+use Rattle.std.proofs.Common.{◌≡◌, ℕ, zero, suc, ◌+◌, ◌<◌, Bool, true, false, List, [], ◌∷◌, ◌++◌, Option, Result, Ok, Err, get_or, take, length, refl, ap, sym, subst, ◌∙◌, inl, inr, append_assoc, append-nil}
 use Rattle.std.specs.List.{fold}
 use Rattle.std.proofs.lemmas.List.{take_more}
 use Rattle.rand_core.specs.Stream.{Stream}
@@ -10,7 +10,7 @@ use Rattle.config.specs.declared.config.Boxes.TheVariants.{Pair, Matching}
 use Rattle.config.specs.declared.config.Config.{Config}
 use Rattle.config.specs.declared.request.RunRequest.{RunRequest}
 use Rattle.config.specs.Cells.{line_cells}
-use Rattle.runner.specs.declared.pass.Pass.{Pass}
+use Rattle.runner.specs.declared.pass.Settled.{Settled}
 use Rattle.channels.specs.declared.fault.BoxFailure.{BoxFailure}
 use Rattle.channels.specs.declared.fault.RunFailure.{RunFailure}
 use Rattle.channels.specs.declared.stores.BoxLists.{Ghosts}
@@ -19,10 +19,15 @@ use Rattle.channels.specs.Asks.{Ways, lists_asked, ways_of}
 use Rattle.channels.specs.Boxes.{Reports, boxes_among}
 use Rattle.channels.specs.Chosen.{chosen_among}
 use Rattle.channels.specs.Courses.{Goes}
-use Rattle.channels.specs.Lendings.{Choice, HasRun, IsLent, Lends, LendsNone, LentPlace}
-use Rattle.channels.specs.Runs.{IsRunBy, IsRunToEnd, MayRun, MayRunFound, MayRunNamed, RunsAt, RunsChannel, RunsListed, RunsOnly, RunsOver, RunsThrough}
+use Rattle.channels.specs.declared.verdict.Verdict.{Verdict}
+use Rattle.channels.specs.declared.verdict.Verdict.TheVariants.{Clean}
+use Rattle.channels.specs.Lendings.{Choice, HasRun, HasRunFrom, IsLent, Lends, LendsNone, LentPlace}
+use Rattle.channels.specs.Outcomes.{IsReportedOf, has_void, outcome_of_settled, plans_anew}
+use Rattle.channels.specs.Runs.{IsRunBefore, IsRunBy, IsRunOnce, IsRunToEnd, OrNone, MayRun, MayRunFound, MayRunNamed, RunsAt, RunsChannel, RunsListed, RunsOnly, RunsOver, RunsThrough}
 use Rattle.channels.specs.Scope.{options_of}
-use Rattle.channels.specs.Settlings.{InTurn, Later}
+use Rattle.channels.specs.Settlings.{InTurn, IsBoxSettled, Later}
+use Rattle.channels.proofs.CourseLemmas.{was_done}
+use Rattle.channels.proofs.OrderLemmas.{fault_is_reported}
 use Rattle.channels.proofs.LendLemmas.{Lends-after, Lends-as, Lends-then, LendsNone-same}
 
 -- ---- from one moment to another
@@ -65,7 +70,7 @@ InTurn-front is_such none (suc i) (x ∷ xs) more h =
 
 -- it was lent for a run with these options and this stream
 pub Lends-run : {S : Type 0} {honest : S → Type 0} {lent : S → List LentPlace} {old new : S} (opening : Choice) (place : Place) (asked options : Options)
-    (drawn stream : Stream) (answer : Result Pass BoxFailure) → asked ≡ options → drawn ≡ stream
+    (drawn stream : Stream) (answer : Result Settled BoxFailure) → asked ≡ options → drawn ≡ stream
     → Lends honest lent old new (IsLent place (λ this. HasRun this (opening this.ours this.alone this.old.device asked) asked drawn answer))
     → Lends honest lent old new (IsRunBy opening options stream place answer)
 Lends-run {S} {honest} {lent} {old} {new} opening place asked options drawn stream answer e d h =
@@ -73,31 +78,64 @@ Lends-run {S} {honest} {lent} {old} {new} opening place asked options drawn stre
     (subst (λ (o : Options). Lends honest lent old new (IsLent place (λ this. HasRun this (opening this.ours this.alone this.old.device o) o stream answer))) e
     (subst (λ (s : Stream). Lends honest lent old new (IsLent place (λ this. HasRun this (opening this.ours this.alone this.old.device asked) asked s answer))) d h))
   where
-    by : (a : Result Pass BoxFailure)
+    by : (a : Result Settled BoxFailure)
         → Lends honest lent old new (IsLent place (λ this. HasRun this (opening this.ours this.alone this.old.device options) options stream a))
         → Lends honest lent old new (IsRunBy opening options stream place a)
-    by (Ok pass) ran = ran
+    by (Ok settled) ran = ran
     by (Err failure) ran =
         Lends-as (IsLent place (λ this. HasRun this (opening this.ours this.alone this.old.device options) options stream (Err failure)))
         (IsRunBy {E = BoxFailure} opening options stream place (Err failure)) (λ more this. inr (record { failure = failure; ran = this })) ran
 
+-- it was not run
+pub MayRun-none : {R : Type 0} (opening : Choice) (stream : R → Stream) (options : Options) (place : Place) → MayRun opening stream options place []
+MayRun-none opening stream options place = record { first = []; rest = []; begun = inl refl; followed = inl refl; all = refl }
+
 -- so it was run once, with nothing before and after
 pub Lends-once : {S R : Type 0} {honest : S → Type 0} {lent : S → List LentPlace} {first old middle new : S} (opening : Choice) (stream : R → Stream)
-    (options : Options) (place : Place) (rng : R) (result : Result Pass RunFailure) → LendsNone honest lent first old
+    (options : Options) (place : Place) (rng : R) (result : Result Settled RunFailure) → LendsNone honest lent first old
     → Lends honest lent old middle (IsRunToEnd opening options (stream rng) place result) → LendsNone honest lent middle new
     → Lends honest lent first new (MayRun opening stream options place)
 Lends-once opening stream options place rng result before ran after =
     Lends-as (IsRunToEnd opening options (stream rng) place result) (MayRun opening stream options place)
-    (λ more this. inr (record { rng = rng; result = result; ran = this })) (Lends-after before (Lends-then ran after))
+    (λ more this. record {
+      first = [];
+      rest = more;
+      begun = inl refl;
+      followed = inr (record { rng = rng; result = result; ran = this });
+      all = sym (append-nil more);
+    }) (Lends-after before (Lends-then ran after))
+
+-- it was run, and once more since the first run gave way
+pub Lends-anew : {S R : Type 0} {honest : S → Type 0} {lent : S → List LentPlace} {first old middle later last new : S} (opening : Choice) (stream : R → Stream)
+    (options : Options) (place : Place) (rng next : R) (result again : Result Settled RunFailure) → plans_anew result ≡ true → LendsNone honest lent first old
+    → Lends honest lent old middle (IsRunToEnd opening options (stream rng) place result) → LendsNone honest lent middle later
+    → Lends honest lent later last (IsRunToEnd opening options (stream next) place again) → LendsNone honest lent last new
+    → Lends honest lent first new (MayRun opening stream options place)
+Lends-anew opening stream options place rng next result again anew before ran between more after =
+    Lends-both (OrNone (IsRunBefore opening stream options place)) (OrNone (IsRunOnce opening stream options place))
+    (Lends-as (IsRunToEnd opening options (stream rng) place result) (OrNone (IsRunBefore opening stream options place))
+    (λ were this. inr (record { once = record { rng = rng; result = result; ran = this }; anew = anew })) (Lends-after before (Lends-then ran between)))
+    (Lends-as (IsRunToEnd opening options (stream next) place again) (OrNone (IsRunOnce opening stream options place))
+    (λ were this. inr (record { rng = next; result = again; ran = this })) (Lends-then more after))
+
+-- a run of which no fault was reported has settled it
+pub Lends-settled : {S R : Type 0} {honest : S → Type 0} {lent : S → List LentPlace} {old new : S} (opening : Choice) (stream : R → Stream)
+    (options : Options) (place : Place) (rng : R) (result : Result Settled RunFailure) (verdict : Verdict) → IsReportedOf (outcome_of_settled result) verdict
+    → Lends honest lent old new (IsRunToEnd opening options (stream rng) place result)
+    → verdict ≡ Clean → Lends honest lent old new (IsBoxSettled opening stream options place)
+Lends-settled opening stream options place rng (Ok settled) verdict h ran = λ clean.
+    Lends-as (IsLent place (HasRunFrom opening options (stream rng) settled)) (IsBoxSettled opening stream options place)
+    (λ more this. record { rng = rng; settled = settled; ran = this; whole = was_done (has_void settled.last) verdict h clean }) ran
+Lends-settled opening stream options place rng (Err failure) verdict h ran = λ clean. absurd (fault_is_reported failure.fault verdict h clean)
 
 -- ---- of a channel
 
 -- not yet
 pub MayRunFound-none : {R : Type 0} (opening : Choice) (stream : R → Stream) (options : Options) (of : Joined) (fars nears : List (List ℕ)) (boxes : Boxes)
     → MayRunFound opening stream options of fars nears boxes []
-MayRunFound-none opening stream options of fars nears (Pair far near) = inl refl
+MayRunFound-none opening stream options of fars nears (Pair far near) = MayRun-none opening stream options (record { of = of; far = far; near = near })
 MayRunFound-none opening stream options of fars nears (Matching patterns) = λ is_chosen reports.
-    InTurn-none (MayRunNamed opening stream options of) (λ name. inl refl) (boxes_among is_chosen fars nears)
+    InTurn-none (MayRunNamed opening stream options of) (λ name. MayRun-none opening stream options (record { of = of; far = name; near = name })) (boxes_among is_chosen fars nears)
 
 -- of the first mailboxes, and so of all
 pub Lends-front : {S R : Type 0} {honest : S → Type 0} {lent : S → List LentPlace} {old new : S} (opening : Choice) (stream : R → Stream) (options : Options)
@@ -105,7 +143,7 @@ pub Lends-front : {S R : Type 0} {honest : S → Type 0} {lent : S → List Lent
     → Lends honest lent old new (InTurn (MayRunNamed opening stream options of) names)
 Lends-front opening stream options of names i h =
     Lends-as (InTurn (MayRunNamed opening stream options of) (take i names)) (InTurn (MayRunNamed opening stream options of) names)
-    (λ more. InTurn-front (MayRunNamed opening stream options of) (λ name. inl refl) i names more) h
+    (λ more. InTurn-front (MayRunNamed opening stream options of) (λ name. MayRun-none opening stream options (record { of = of; far = name; near = name })) i names more) h
 
 -- those that its patterns choose
 pub Lends-matching : {S R : Type 0} {honest : S → Type 0} {lent : S → List LentPlace} {old new : S} (opening : Choice) (stream : R → Stream) (options : Options)

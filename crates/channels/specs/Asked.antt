@@ -41,7 +41,7 @@ pub record Place : Type 0 where
 abbrev pub place_of : ChannelBox → Place
 place_of place = record { of = joined_of place.of; far = place.far.now; near = place.near.now }
 
--- how what is asked ends: it is done; it is not; or it is not, since a store does not open
+-- how what is asked ends: it is done; it is not; or it is not, since a server does not open
 pub data Outcome : Type 0 where
   Done : Outcome
   Failed : Outcome
@@ -62,9 +62,9 @@ pub data Asked : Type 0 where
 abbrev pub names_of : {E : Type 0} → Result (Vec (List ℕ) Global) E → Option (List (List ℕ))
 names_of answer = option_map (λ names. names.items) (result_ok answer)
 
--- a fault that a store does not open, and any other one
+-- a fault that a server does not open, so that no other mailbox of it can be had, and any other one
 abbrev pub outcome_of_fault : StoreFault → Outcome
-outcome_of_fault (CannotOpen path reason) = Unopened
+outcome_of_fault (CannotOpen path reason) = Failed
 outcome_of_fault (Server store why) = Unopened
 outcome_of_fault Locked = Failed
 outcome_of_fault (Box fault) = Failed

@@ -4,7 +4,7 @@ use Rattle.mailcore.specs.declared.side.Side.{Side}
 use Rattle.mailcore.specs.Sides.{target}
 use Rattle.rules.specs.declared.plan.Step.{Step}
 use Rattle.rules.specs.declared.plan.Step.TheVariants.{Expunge, Flags, Gone, New}
-use Rattle.runner.specs.declared.pass.Pass.{Pass}
+use Rattle.runner.specs.declared.pass.Settled.{Settled}
 use Rattle.runner.specs.declared.fault.RunFault.{RunFault}
 use Rattle.runner.specs.declared.fault.RunFault.TheVariants as fault
 use Rattle.channels.specs.declared.stop_cause.StopCause.{StopCause}
@@ -97,6 +97,6 @@ abbrev pub IsFaultOf : {T : Type 0} → Result T BoxFailure → (old new : Optio
 IsFaultOf (Ok answer) old new = new ≡ old
 IsFaultOf (Err fault) old new = IsRunFault old new fault
 
-abbrev pub IsFailureOf : Result Pass RunFailure → (old new : Option (List Answered)) → Type 0
-IsFailureOf (Ok pass) old new = new ≡ old
+abbrev pub IsFailureOf : Result Settled RunFailure → (old new : Option (List Answered)) → Type 0
+IsFailureOf (Ok settled) old new = new ≡ old
 IsFailureOf (Err failure) old new = IsFailed old new failure

@@ -3,7 +3,7 @@ use Rattle.std.specs.Prelude.{◌≡◌, ℕ, Bool, true, false, is_some, IsSome
 use Rattle.std.specs.List.{fold}
 use Rattle.mailcore.specs.declared.side.Side.{Side}
 use Rattle.mailcore.specs.declared.side.Side.TheVariants.{Far, Near}
-use Rattle.runner.specs.declared.pass.Pass.{Pass}
+use Rattle.runner.specs.declared.pass.Settled.{Settled}
 use Rattle.rules.specs.declared.options.Cells.{Cells}
 use Rattle.rules.specs.declared.options.Options.{Options}
 use Rattle.rules.specs.declared.options.Sides.{Sides}
@@ -48,6 +48,11 @@ onward_by Unopened asked next = record { asked = asked; outcome = Unopened }
 abbrev pub onward : Course → Course → Course
 onward first next = onward_by first.outcome first.asked next
 
+-- how a run ends, and giving its plan up, if that is asked
+pub record RunEnds : Type 0 where
+  pub ran : Outcome
+  pub gave_up : Option Outcome
+
 -- how each thing ends that may be asked of a mailbox
 pub record BoxEnds : Type 0 where
   pub found_new : Outcome
@@ -55,6 +60,7 @@ pub record BoxEnds : Type 0 where
   pub made_near : Outcome
   pub ran : Outcome
   pub gave_up : Option Outcome
+  pub again : Option RunEnds
 
 -- where it is absent it is made, the far side first, if it is a new one
 abbrev pub making_course : Place → (absent : Sides) → BoxEnds → Course
@@ -100,19 +106,38 @@ run_course options place ran gave_up =
     record { asked = Ran place options run_attempts ran ∷ giving_asked gave_up ran place; outcome = ran }
 
 -- so a run and giving up ended
-abbrev pub settled_asked : Options → Place → Result Pass RunFailure → List Asked
+abbrev pub settled_asked : Options → Place → Result Settled RunFailure → List Asked
 settled_asked options place result = (run_course options place (outcome_of_settled result) (gave_up_of result)).asked
 
--- then it is run, once
-abbrev pub box_course : Options → Place → (absent : Sides) → BoxEnds → Course
-box_course options place absent ends = onward (covered_course place absent ends) (run_course options place ends.ran ends.gave_up)
+-- how it ends where a run has failed before
+abbrev pub after_failed : Outcome → Outcome
+after_failed Done = Failed
+after_failed Failed = Failed
+after_failed Unopened = Unopened
 
--- it is run, its plan given up where the run failed, or not, and this is reported of the run
+-- it may be run once more where a run failed and its plan was given up, and in no other case
+abbrev pub again_after : (ran : Outcome) → (gave_up : Option Outcome) → (again : Course) → Course
+again_after Failed (Some Done) again = record { asked = again.asked; outcome = after_failed again.outcome }
+again_after ran gave_up again = record { asked = []; outcome = ran }
+
+-- it is run, and once more at most
+abbrev pub run_courses : Options → Place → (ran : Outcome) → (gave_up : Option Outcome) → (again : Option RunEnds) → Course
+run_courses options place ran gave_up None = run_course options place ran gave_up
+run_courses options place ran gave_up (Some again) =
+    let next : Course = again_after ran gave_up (run_course options place again.ran again.gave_up) in
+    record { asked = (run_course options place ran gave_up).asked ++ next.asked; outcome = next.outcome }
+
+-- then it is run
+abbrev pub box_course : Options → Place → (absent : Sides) → BoxEnds → Course
+box_course options place absent ends = onward (covered_course place absent ends) (run_courses options place ends.ran ends.gave_up ends.again)
+
+-- it is run, its plan given up where the run failed, or not, and after that it may be run once more; and this is reported
 pub record IsRunAsked (options : Options) (place : Place) (verdict : Verdict) (asked : List Asked) : Type 0 where
   pub ran : Outcome
   pub gave_up : Option Outcome
-  pub all : asked ≡ (run_course options place ran gave_up).asked
-  pub reported : IsReportedOf ran verdict
+  pub again : Option RunEnds
+  pub all : asked ≡ (run_courses options place ran gave_up again).asked
+  pub reported : IsReportedOf (run_courses options place ran gave_up again).outcome verdict
 
 -- so much is asked of a mailbox, and this is reported of it
 pub record IsBoxAsked (options : Options) (place : Place) (absent : Sides) (verdict : Verdict) (asked : List Asked) : Type 0 where
@@ -142,7 +167,7 @@ abbrev pub InOrder : {X : Type 0} → (stops : Verdict → Bool) → (one : X �
 InOrder stops one [] verdict asked = (verdict ≡ Clean) × (asked ≡ [])
 InOrder stops one (x ∷ xs) verdict asked = Following stops (one x) (InOrder stops one xs) verdict asked
 
--- a store does not open, so no other mailbox of its channel is tried
+-- a server does not open, so no other mailbox of its channel is tried
 abbrev pub is_over : Verdict → Bool
 is_over Clean = false
 is_over Faulty = false

@@ -1,24 +1,25 @@
 -- What is done over a mailbox that was lent.
-use Rattle.std.specs.Prelude.{◌≡◌, ◌⊎◌, ℕ, Bool, List, [], ◌∷◌, ◌++◌, Option, Result, Ok, Err}
+use Rattle.std.specs.Prelude.{◌≡◌, ◌⊎◌, ℕ, Bool, is_some, List, [], ◌∷◌, ◌++◌, Option, Result, Ok, Err, IfOk, OnOk}
 use Rattle.rand_core.specs.Stream.{Stream}
+use Rattle.mailcore.specs.declared.keywords.Keyword.{Keyword}
 use Rattle.rules.specs.declared.options.Options.{Options}
 use Rattle.rules.specs.declared.state.SyncState.{SyncState}
 use Rattle.sync_state.specs.declared.journal.WrittenJournal.{WrittenJournal}
+use Rattle.book.specs.declared.book.Pending.{Pending}
 use Rattle.book.specs.declared.book.Pending.TheVariants.{Planned}
 use Rattle.book.specs.Books.{Holds}
 use Rattle.outside.specs.declared.outside.Outside.{Ghosts}
 use Rattle.outside.specs.Calls.{Seen}
 use Rattle.outside.specs.Devices.{Device}
 use Rattle.outside.specs.GoingOn.{GoesOn}
-use Rattle.outside.specs.Opened.{Opened}
+use Rattle.outside.specs.Opened.{Opened, journal_in}
 use Rattle.run_states.specs.Openings.{Opening}
 use Rattle.runner.specs.declared.fault.RunFault.{RunFault}
 use Rattle.runner.specs.declared.fault.RunFault.TheVariants as fault
-use Rattle.runner.specs.declared.pass.Pass.{Pass}
 use Rattle.runner.specs.declared.pass.Settled.{Settled}
 use Rattle.runner.specs.Answers.{Inputs}
 use Rattle.runner.specs.Attempts.{AtOpening}
-use Rattle.runner.specs.GivingUp.{GivesUpSo, KeepsBoxes}
+use Rattle.runner.specs.GivingUp.{GivesUpSo, KeepsBoxes, KeepsButMarks, TakesBackOf}
 use Rattle.runner.specs.Settled.{CountsFailed, IsSettled, IsUnsettled}
 use Rattle.channels.specs.Asked.{Place}
 use Rattle.channels.specs.declared.store_fault.StoreFault.{StoreFault}
@@ -44,13 +45,6 @@ run_attempts = 3
 
 -- ---- of a run
 
--- It succeeded with this answer. So from the opening it is settled: it is over, and both mailboxes and the state are what the rules
--- prescribe for it.
-pub record IsRunSettled (lent : Lent) (opening : Opening lent.ours lent.alone) (options : Options) (stream : Stream) (pass : Pass) : Type 0 where
-  pub settled : Settled
-  pub answered : settled.last ≡ pass
-  pub is : IsSettled opening lent.opened options stream settled lent.old lent.new
-
 -- the fault is reported as it is, and beside it may stand the step that it is of
 abbrev pub Reports : BoxFailure → RunFault → Type 0
 Reports (Run reported) why = reported ≡ why
@@ -68,13 +62,14 @@ pub record IsRunUnsettled (lent : Lent) (opening : Opening lent.ours lent.alone)
   pub counts : CountsFailed run_attempts why lent.old left
   pub after : (lent.new.device ≡ left.device) ⊎ GoesOn left.device lent.new.device
 
-abbrev pub EndsRun : (lent : Lent) → Opening lent.ours lent.alone → Options → Stream → Result Pass BoxFailure → Type 0
-EndsRun lent opening options stream (Ok pass) = IsRunSettled lent opening options stream pass
+-- If it succeeded, it is settled from the opening: it is over, and both mailboxes and the state are what the rules prescribe for it.
+abbrev pub EndsRun : (lent : Lent) → Opening lent.ours lent.alone → Options → Stream → Result Settled BoxFailure → Type 0
+EndsRun lent opening options stream (Ok settled) = IsSettled opening lent.opened options stream settled lent.old lent.new
 EndsRun lent opening options stream (Err failure) = IsRunUnsettled lent opening stream failure
 
 -- A run under these options was made over it. It is said for an opening at which the mailbox stood when it was lent, and for marks that
 -- nobody else writes.
-abbrev pub HasRun : (lent : Lent) → Opening lent.ours lent.alone → Options → Stream → Result Pass BoxFailure → Type 0
+abbrev pub HasRun : (lent : Lent) → Opening lent.ours lent.alone → Options → Stream → Result Settled BoxFailure → Type 0
 HasRun lent opening options stream result =
     Inputs opening options stream → AtOpening opening lent.old.device → EndsRun lent opening options stream result
 
@@ -83,17 +78,26 @@ abbrev pub Choice : Type 0
 Choice = (ours : List ℕ → Bool) (alone : Bool) → Device → Options → Opening ours alone
 
 -- a run under these options was made over it, looked at from the opening that is chosen, with this answer
-abbrev pub HasRunFrom : Choice → Options → Stream → Pass → Lent → Type 0
-HasRunFrom opening options stream pass lent =
-    HasRun lent (opening lent.ours lent.alone lent.old.device options) options stream (Ok pass)
+abbrev pub HasRunFrom : Choice → Options → Stream → Settled → Lent → Type 0
+HasRunFrom opening options stream settled lent =
+    HasRun lent (opening lent.ours lent.alone lent.old.device options) options stream (Ok settled)
 
 -- ---- of giving up
 
--- The run over it was given up, if it was unfinished: both mailboxes are as they were, and the files hold what is left of its plan.
-pub record HasGivenUp (lent : Lent) (result : Result Bool RunFault) : Type 0 where
-  pub boxes : KeepsBoxes lent.ours lent.alone lent.old.device lent.new.device
+-- The run over it was given up, if it was unfinished, by this map of keywords. Both mailboxes are as they were, but for what others added,
+-- and for marks of its plan that are taken back: no other message was changed, and none where the files hold no book. If it succeeds,
+-- exactly those are taken back that are to be, and the files hold what is left of the plan. It answers whether a plan was pending.
+pub record HasGivenUp (keywords : List Keyword) (lent : Lent) (result : Result Bool RunFault) : Type 0 where
+  pub boxes : (s : SyncState) (p : Pending) → Holds lent.old.device.files s p
+      → KeepsButMarks lent.ours lent.alone keywords (journal_in p) lent.old.device lent.new.device
+  pub unread : ((s : SyncState) (p : Pending) → Holds lent.old.device.files s p → ⊥)
+      → KeepsBoxes lent.ours lent.alone lent.old.device lent.new.device
+  pub back : (s : SyncState) (w : WrittenJournal) → Holds lent.old.device.files s (Planned w)
+      → OnOk result (TakesBackOf lent.ours lent.alone keywords s w.journal lent.old.device lent.new.device)
   pub gives_up : (s : SyncState) (w : WrittenJournal) → Holds lent.old.device.files s (Planned w)
       → GivesUpSo lent.ours lent.alone s w.journal lent.old.device lent.new.device result
+  pub answer : (s : SyncState) (p : Pending) → Holds lent.old.device.files s p
+      → IfOk result (λ was_pending. was_pending ≡ is_some (journal_in p))
 
 -- ---- of an outside
 

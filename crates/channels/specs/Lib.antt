@@ -20,3 +20,4 @@ pub mod Lendings
 pub mod Causes
 pub mod Settlings
 pub mod Runs
+pub mod Anew

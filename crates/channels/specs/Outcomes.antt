@@ -1,7 +1,8 @@
 -- How what is asked of the stores ends, and what is reported of it.
-use Rattle.std.specs.Prelude.{◌≡◌, ◌⊎◌, Bool, true, false, Option, None, Some, option_map, Result, Ok, Err, if◌then◌else◌}
+use Rattle.std.specs.Prelude.{◌≡◌, ◌⊎◌, ◌&&◌, Bool, true, false, Option, None, Some, option_map, Result, Ok, Err, if◌then◌else◌}
 use Rattle.std.specs.List.{list_any}
 use Rattle.runner.specs.declared.pass.Pass.{Pass}
+use Rattle.runner.specs.declared.pass.Settled.{Settled}
 use Rattle.runner.specs.declared.pass.Pass.TheVariants.{Already, Ran, Finished}
 use Rattle.runner.specs.declared.performed.Performed.{Performed}
 use Rattle.runner.specs.declared.performed.StepResult.{StepResult}
@@ -21,11 +22,11 @@ use Rattle.channels.specs.declared.fault.BoxFailure.TheVariants.{Absent, Removed
 use Rattle.channels.specs.declared.verdict.Verdict.{Verdict}
 use Rattle.channels.specs.declared.verdict.Verdict.TheVariants.{Clean, Faulty, Over}
 
--- a fault that a store does not open, and any other one
+-- a fault that a server does not open, and any other one
 abbrev pub outcome_of_box_fault : BoxFailure → Outcome
 outcome_of_box_fault (Absent side) = Failed
 outcome_of_box_fault (Removed side) = Failed
-outcome_of_box_fault (CannotOpen path reason) = Unopened
+outcome_of_box_fault (CannotOpen path reason) = Failed
 outcome_of_box_fault (Server store why) = Unopened
 outcome_of_box_fault Locked = Failed
 outcome_of_box_fault (Refused number step) = Failed
@@ -63,8 +64,8 @@ has_void (Finished steps) = list_any is_void steps.items
 abbrev pub outcome_of_pass : Pass → Outcome
 outcome_of_pass pass = if has_void pass then Failed else Done
 
-abbrev pub outcome_of_run : Result Pass BoxFailure → Outcome
-outcome_of_run (Ok pass) = outcome_of_pass pass
+abbrev pub outcome_of_run : Result Settled BoxFailure → Outcome
+outcome_of_run (Ok settled) = outcome_of_pass settled.last
 outcome_of_run (Err fault) = outcome_of_box_fault fault
 
 -- ---- of a run whose plan has become wrong
@@ -74,9 +75,11 @@ abbrev pub is_stale_cause : StopCause → Bool
 is_stale_cause (cause.Standing path uid) = true
 is_stale_cause (cause.Kept path uid) = true
 is_stale_cause (cause.Undeleted store uid) = true
+is_stale_cause (cause.Restored side uid) = true
 is_stale_cause (cause.Server store why) = false
 is_stale_cause (cause.Disk path trouble) = false
 is_stale_cause (cause.Anew store next known) = false
+is_stale_cause (cause.Hidden path uid) = false
 is_stale_cause (cause.Withheld store uid) = false
 is_stale_cause (cause.GivenAgain uid) = false
 
@@ -117,13 +120,35 @@ outcome_of_giving giving.NothingPending = Done
 outcome_of_giving (giving.Failed fault) = outcome_of_box_fault fault
 
 -- of a run whose plan is given up where it has become wrong
-abbrev pub outcome_of_settled : Result Pass RunFailure → Outcome
-outcome_of_settled (Ok pass) = outcome_of_pass pass
+abbrev pub outcome_of_settled : Result Settled RunFailure → Outcome
+outcome_of_settled (Ok settled) = outcome_of_pass settled.last
 outcome_of_settled (Err failure) = outcome_of_box_fault failure.fault
 
-abbrev pub gave_up_of : Result Pass RunFailure → Option Outcome
-gave_up_of (Ok pass) = None
+abbrev pub gave_up_of : Result Settled RunFailure → Option Outcome
+gave_up_of (Ok settled) = None
 gave_up_of (Err failure) = option_map outcome_of_giving failure.giving_up
+
+-- ---- of a run whose plan was given up since a message was undeleted
+
+abbrev pub is_restored_cause : StopCause → Bool
+is_restored_cause (cause.Restored side uid) = true
+is_restored_cause _ = false
+
+abbrev pub is_restored : BoxFailure → Bool
+is_restored (Stopped cause) = is_restored_cause cause
+is_restored _ = false
+
+abbrev pub was_given_up : Option GivingUp → Bool
+was_given_up (Some giving.GivenUp) = true
+was_given_up _ = false
+
+abbrev pub gave_way : RunFailure → Bool
+gave_way failure = is_restored failure.fault && was_given_up failure.giving_up
+
+-- then it is run once more, and that run plans anew
+abbrev pub plans_anew : Result Settled RunFailure → Bool
+plans_anew (Ok settled) = false
+plans_anew (Err failure) = gave_way failure
 
 -- ---- of a mailbox that is absent where Create does not make it
 

@@ -1,7 +1,9 @@
--- What becomes of the mailboxes that are lent, whatever is reported: each is run once at most, and its run is settled or underway still.
+-- What becomes of the mailboxes that are lent, whatever is reported: each is run once at most, or once more where the plan of its run was given
+-- up since a message was undeleted, and its last run is settled or underway still.
 use Rattle.std.specs.Prelude.{◌≡◌, ◌⊎◌, ℕ, Bool, true, false, List, [], ◌∷◌, Option, None, Some, Result, Ok, Err}
 use Rattle.std.specs.List.{fold}
 use Rattle.rand_core.specs.Stream.{Stream}
+use Rattle.mailcore.specs.declared.keywords.Keyword.{Keyword}
 use Rattle.rules.specs.declared.options.Cells.{Cells}
 use Rattle.rules.specs.declared.options.Options.{Options}
 use Rattle.config.specs.declared.config.Boxes.{Boxes}
@@ -10,7 +12,7 @@ use Rattle.config.specs.declared.config.Config.{Config}
 use Rattle.config.specs.declared.request.RunRequest.{RunRequest}
 use Rattle.config.specs.Cells.{line_cells}
 use Rattle.runner.specs.declared.fault.RunFault.{RunFault}
-use Rattle.runner.specs.declared.pass.Pass.{Pass}
+use Rattle.runner.specs.declared.pass.Settled.{Settled}
 use Rattle.channels.specs.declared.fault.BoxFailure.{BoxFailure}
 use Rattle.channels.specs.declared.fault.GivingUp.{GivingUp}
 use Rattle.channels.specs.declared.fault.GivingUp.TheVariants as giving
@@ -21,6 +23,7 @@ use Rattle.channels.specs.Asks.{Ways, lists_asked, ways_of}
 use Rattle.channels.specs.Boxes.{Reports, boxes_among}
 use Rattle.channels.specs.Chosen.{chosen_among}
 use Rattle.channels.specs.Lendings.{Choice, HasGivenUp, HasRun, HasRunFrom, IsLent, Lends, LendsNone, LentPlace}
+use Rattle.channels.specs.Outcomes.{plans_anew}
 use Rattle.channels.specs.Scope.{options_of}
 use Rattle.channels.specs.Settlings.{InTurn, Later}
 
@@ -36,37 +39,43 @@ pub record IsFailedRun (opening : Choice) (options : Options) (stream : Stream) 
   pub ran : IsLent place (λ this. HasRun this (opening this.ours this.alone this.old.device options) options stream (Err failure)) more
 
 -- the run over it succeeded, and so it is settled; or it failed, or the mailbox could not be opened
-abbrev pub IsRunBy : {E : Type 0} → Choice → Options → Stream → Place → Result Pass E → List LentPlace → Type 0
-IsRunBy opening options stream place (Ok pass) more = IsLent place (HasRunFrom opening options stream pass) more
+abbrev pub IsRunBy : {E : Type 0} → Choice → Options → Stream → Place → Result Settled E → List LentPlace → Type 0
+IsRunBy opening options stream place (Ok settled) more = IsLent place (HasRunFrom opening options stream settled) more
 IsRunBy opening options stream place (Err fault) more = OrNone (IsFailedRun opening options stream place) more
 
 -- an unfinished run over it was to be given up, which failed
-pub record IsFailedGivingUp (place : Place) (more : List LentPlace) : Type 0 where
+pub record IsFailedGivingUp (keywords : List Keyword) (place : Place) (more : List LentPlace) : Type 0 where
   pub why : RunFault
-  pub gave_up : IsLent place (λ this. HasGivenUp this (Err why)) more
+  pub gave_up : IsLent place (λ this. HasGivenUp keywords this (Err why)) more
 
 -- it was given up, or there was none, or giving up failed, or the mailbox could not be opened
-abbrev pub IsGivenUpBy : Place → Option GivingUp → List LentPlace → Type 0
-IsGivenUpBy place None more = more ≡ []
-IsGivenUpBy place (Some giving.GivenUp) more = IsLent place (λ this. HasGivenUp this (Ok true)) more
-IsGivenUpBy place (Some giving.NothingPending) more = IsLent place (λ this. HasGivenUp this (Ok false)) more
-IsGivenUpBy place (Some (giving.Failed fault)) more = OrNone (IsFailedGivingUp place) more
+abbrev pub IsGivenUpBy : (keywords : List Keyword) → Place → Option GivingUp → List LentPlace → Type 0
+IsGivenUpBy keywords place None more = more ≡ []
+IsGivenUpBy keywords place (Some giving.GivenUp) more = IsLent place (λ this. HasGivenUp keywords this (Ok true)) more
+IsGivenUpBy keywords place (Some giving.NothingPending) more = IsLent place (λ this. HasGivenUp keywords this (Ok false)) more
+IsGivenUpBy keywords place (Some (giving.Failed fault)) more = OrNone (IsFailedGivingUp keywords place) more
 
 -- a run, and after it, if it failed, its plan is given up, or is not
-abbrev pub IsRunToEnd : Choice → Options → Stream → Place → Result Pass RunFailure → List LentPlace → Type 0
-IsRunToEnd opening options stream place (Ok pass) more = IsRunBy {E = RunFailure} opening options stream place (Ok pass) more
+abbrev pub IsRunToEnd : Choice → Options → Stream → Place → Result Settled RunFailure → List LentPlace → Type 0
+IsRunToEnd opening options stream place (Ok settled) more = IsRunBy {E = RunFailure} opening options stream place (Ok settled) more
 IsRunToEnd opening options stream place (Err failure) more =
-    Later (OrNone (IsFailedRun opening options stream place)) (IsGivenUpBy place failure.giving_up) more
+    Later (OrNone (IsFailedRun opening options stream place)) (IsGivenUpBy options.keywords place failure.giving_up) more
 
 -- it was run once, with this answer; the marks of the run are those that the generator gave from where it stood then
 pub record IsRunOnce {R : Type 0} (opening : Choice) (stream : R → Stream) (options : Options) (place : Place) (more : List LentPlace) : Type 0 where
   pub rng : R
-  pub result : Result Pass RunFailure
+  pub result : Result Settled RunFailure
   pub ran : IsRunToEnd opening options (stream rng) place result more
 
--- at most
+-- so it was, and its plan was given up since a message was undeleted
+pub record IsRunBefore {R : Type 0} (opening : Choice) (stream : R → Stream) (options : Options) (place : Place) (more : List LentPlace) : Type 0 where
+  pub once : IsRunOnce opening stream options place more
+  pub anew : plans_anew once.result ≡ true
+
+-- it was run once at most, or, after such a run, once more at most
 abbrev pub MayRun : {R : Type 0} → Choice → (R → Stream) → Options → Place → List LentPlace → Type 0
-MayRun opening stream options place more = OrNone (IsRunOnce opening stream options place) more
+MayRun opening stream options place more =
+    Later (OrNone (IsRunBefore opening stream options place)) (OrNone (IsRunOnce opening stream options place)) more
 
 -- the same of a mailbox that has this name on both sides
 abbrev pub MayRunNamed : {R : Type 0} → Choice → (R → Stream) → Options → Joined → (name : List ℕ) → List LentPlace → Type 0

@@ -9,7 +9,7 @@ use Rattle.config.specs.declared.config.Boxes.TheVariants.{Pair, Matching}
 use Rattle.config.specs.declared.config.Config.{Config}
 use Rattle.config.specs.declared.request.RunRequest.{RunRequest}
 use Rattle.config.specs.Cells.{line_cells}
-use Rattle.runner.specs.declared.pass.Pass.{Pass}
+use Rattle.runner.specs.declared.pass.Settled.{Settled}
 use Rattle.channels.specs.declared.stores.BoxLists.{Ghosts}
 use Rattle.channels.specs.Asked.{Done, Ended, IsJoined, Joined, Place}
 use Rattle.channels.specs.Asks.{SettlesFound, Ways, lists_asked, ways_of}
@@ -26,9 +26,9 @@ use Rattle.channels.specs.Scope.{options_of}
 -- where it stood then.
 pub record IsBoxSettled {R : Type 0} (opening : Choice) (stream : R → Stream) (options : Options) (place : Place) (more : List LentPlace) : Type 0 where
   pub rng : R
-  pub pass : Pass
-  pub ran : IsLent place (HasRunFrom opening options (stream rng) pass) more
-  pub whole : outcome_of_pass pass ≡ Done
+  pub settled : Settled
+  pub ran : IsLent place (HasRunFrom opening options (stream rng) settled) more
+  pub whole : outcome_of_pass settled.last ≡ Done
 
 -- the same of a mailbox that has this name on both sides
 abbrev pub IsNamedSettled : {R : Type 0} → Choice → (R → Stream) → Options → Joined → (name : List ℕ) → List LentPlace → Type 0

@@ -1,6 +1,7 @@
 //! What is reported after a fault: what was found, and what can be done, on lines that begin with two spaces.
 
 use crate::fault::{BoxFailure, GivingUp};
+use crate::near_name::{NearName, mended_name};
 use crate::reporting::BoxFaultText;
 use crate::run_advice::{advise_refused, advise_run, advise_step};
 use crate::server_advice::advise_server;
@@ -20,10 +21,7 @@ pub(crate) fn advise<E: Write>(
         None | Some(GivingUp::NothingPending) => advise_on(err, fault),
         Some(GivingUp::GivenUp) => {
             report_stale(err, fault)?;
-            writeln!(
-                err,
-                "\n  the unfinished run was given up: it removes nothing more; run again"
-            )
+            advise_given_up(err, fault)
         }
         Some(GivingUp::Failed(why)) => {
             report_stale(err, fault)?;
@@ -37,11 +35,45 @@ pub(crate) fn advise<E: Write>(
     }
 }
 
+/// Reports that an unfinished run was given up, after why it was. Where a message was undeleted, that is enough: the next run follows at once.
+fn advise_given_up<E: Write>(err: &mut E, fault: &BoxFailure) -> io::Result<()> {
+    if let BoxFailure::Stopped(StopCause::Restored(..)) = fault {
+        return writeln!(err);
+    }
+    write!(
+        err,
+        "\n  the unfinished run was given up: it removes nothing more, and its marks are taken back; "
+    )?;
+    advise_going_on(err, fault)
+}
+
+/// Reports what to do after a plan was found wrong: to run again, once a file that mbsync does not read has a name.
+fn advise_going_on<E: Write>(err: &mut E, fault: &BoxFailure) -> io::Result<()> {
+    match odd_file(fault) {
+        Some(name) => writeln!(
+            err,
+            "before you run again, rename this file to {name} (letters after \":2,\" are flags) to keep its message, or remove it"
+        ),
+        None => writeln!(err, "run again"),
+    }
+}
+
+/// The name that the file is to have which a run has come upon, where mbsync does not read the name that it has.
+fn odd_file(fault: &BoxFailure) -> Option<NearName<'_>> {
+    match fault {
+        BoxFailure::Stopped(StopCause::Standing(path, uid) | StopCause::Kept(path, uid)) => {
+            mended_name(path.as_str(), *uid)
+        }
+        _ => None,
+    }
+}
+
 /// Reports what can be done, where that is known.
 pub fn advise_on<E: Write>(err: &mut E, fault: &BoxFailure) -> io::Result<()> {
     if fault.is_stale() {
         report_stale(err, fault)?;
-        return writeln!(err, ": run again");
+        write!(err, ": ")?;
+        return advise_going_on(err, fault);
     }
     match fault {
         BoxFailure::Absent(side) => advise_create(err, *side),
@@ -78,7 +110,15 @@ fn report_stale<E: Write>(err: &mut E, fault: &BoxFailure) -> io::Result<()> {
         ),
         BoxFailure::Stopped(StopCause::Undeleted(store, uid)) => write!(
             err,
-            "  the server of IMAPStore {store} did not remove the message with UID {uid}, which is no longer marked as deleted there"
+            "  the server of IMAPStore {store} still has the message with UID {uid}, which was to be removed"
+        ),
+        BoxFailure::Stopped(StopCause::Restored(Side::Far, uid)) => write!(
+            err,
+            "  message {uid} was undeleted at the server, and is gone here: it stays there alone (a copy of it there is pulled again)"
+        ),
+        BoxFailure::Stopped(StopCause::Restored(Side::Near, uid)) => write!(
+            err,
+            "  message {uid} was undeleted here, and is gone at the server: it stays here alone (to send it again, take \",U={uid}\" out of its file's name)"
         ),
         _ => write!(err, "  an unfinished run goes by other Keyword lines"),
     }
@@ -101,13 +141,16 @@ fn advise_removed<E: Write>(err: &mut E, side: Side) -> io::Result<()> {
     match side {
         Side::Far => writeln!(
             err,
-            "  a former run has synchronised it, so it is not created again: if it was removed on purpose, remove its near folder, too\n  \
-             if it is gone by mistake, take .mbsyncstate and .mbsyncstate.journal out of that folder and run with Create Far: all near messages are pushed"
+            "  a former run has synchronised it, so it is not created again. If it was renamed there, rename its near folder, too; if it will be back, wait\n  \
+             if it was removed on purpose, remove cur, new, tmp, .uidvalidity, .mbsyncstate and .mbsyncstate.journal of its near folder (mailboxes below it stay)\n  \
+             if it is gone by mistake, take .mbsyncstate and .mbsyncstate.journal out of that folder, look once more that the server has no such mailbox, \
+             and run with Create Far: all near messages are pushed. If it is there, each message would come twice"
         ),
         Side::Near => writeln!(
             err,
             "  a former run has synchronised it, but cur, new or tmp is missing: create it again if it was empty, else put it back with its messages\n  \
-             if its messages are gone, remove the whole folder and run with Create Near: all far messages are pulled"
+             if its messages are gone, remove cur, new, tmp, .uidvalidity, .mbsyncstate and .mbsyncstate.journal (mailboxes below it stay), \
+             and run with Create Near: all far messages are pulled"
         ),
     }
 }
@@ -121,9 +164,16 @@ fn advise_stop<E: Write>(err: &mut E, cause: &StopCause) -> io::Result<()> {
             err,
             "  the server of IMAPStore {store} gives UIDs from {next} on, and UID {known} was given before: the manual page says what to do under \"How to recover\""
         ),
+        StopCause::Hidden(path, uid) => writeln!(
+            err,
+            "  {path} is there, but not as message {uid}, which was about to be copied: rename it to NAME,U={uid}:2,FLAGS, or remove it if you do not want it, and run again"
+        ),
         StopCause::Withheld(store, uid) => advise_withheld(err, store.as_str(), *uid),
         StopCause::GivenAgain(uid) => advise_given_again(err, *uid, None),
-        StopCause::Standing(..) | StopCause::Kept(..) | StopCause::Undeleted(..) => Ok(()),
+        StopCause::Standing(..)
+        | StopCause::Kept(..)
+        | StopCause::Undeleted(..)
+        | StopCause::Restored(..) => Ok(()),
     }
 }
 

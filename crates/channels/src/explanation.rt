@@ -3,12 +3,13 @@
 ghost use Rattle.std.specs.Prelude.{◌≡◌, OnOk};
 ghost use Rattle.std.specs.Io.KnownBytes.{Appends};
 ghost use Rattle.std.specs.List.{flat_map, list_any};
-ghost use Rattle.channels.specs.Explanations.{explanation_line, explanations, given, has_unfit, is_of};
+ghost use Rattle.channels.specs.Explanations.{copies_from, explanation_line, explanations, given, has_unfit, has_void_from, is_finished, is_finished_pass, is_of, is_void_from, voids};
 ghost use Rattle.channels.specs.Outcomes.{has_void, is_void};
 
-use mailcore::side::Side;
+use mailcore::side::{Direction, Side};
 use mailcore::uid::Uid;
-use runner::pass::Pass;
+use rules::plan::Step;
+use runner::pass::{Pass, Settled};
 use runner::performed::{Performed, StepResult};
 use std::io::Write;
 use std::{fmt, io};
@@ -18,9 +19,9 @@ use std::{fmt, io};
 pub enum Explanation {
     /// A message of this side is not fit to be copied.
     Unfit(Side),
-    /// A message was not copied, since it was not there any more, or not fit, when it was fetched.
-    Void,
-    /// What an earlier run had begun was finished.
+    /// A message of this side was not copied, since it was not there any more, or not fit, when it was fetched.
+    Void(Side),
+    /// What an earlier command had begun was finished.
     Finished,
 }
 
@@ -35,10 +36,13 @@ impl fmt::Display for Explanation {
             Explanation::Unfit(Side::Far) =>
                 "mbsync: unfit far: more than 16777216 bytes, so it stays there alone",
             Explanation::Unfit(Side::Near) => {
-                "mbsync: unfit near: a NUL, or more than 16777216 bytes with line ends CR LF, so it stays there alone"
+                "mbsync: unfit near: a NUL, or more than 16777216 bytes with line ends CR LF, so it stays there alone; once it is fit, take ,U=N out of its file's name to send it"
             }
-            Explanation::Void => {
+            Explanation::Void(Side::Far) => {
                 "mbsync: void: gone, or not fit, when it was fetched; it is not copied later either"
+            }
+            Explanation::Void(Side::Near) => {
+                "mbsync: void: gone, or not fit, when it was read; once it is there and fit, take ,U=N out of its file's name to send it"
             }
             Explanation::Finished =>
                 "mbsync: finished the interrupted run; run again for later changes",
@@ -47,9 +51,10 @@ impl fmt::Display for Explanation {
 }
 
 /// Explains an answer: each reason once, on a line.
-pub(crate) fn explain<E: Write>(err: &mut E, pass: &Pass) -> io::Result<()>
-    ensures { OnOk result (Appends (E.contents err.old) (E.contents err.new) (flat_map explanation_line (explanations pass.now))) }
+pub(crate) fn explain<E: Write>(err: &mut E, settled: &Settled) -> io::Result<()>
+    ensures { OnOk result (Appends (E.contents err.old) (E.contents err.new) (flat_map explanation_line (explanations settled.now))) }
 {
+    let pass = &settled.last;
     explain_if(
         err,
         has_unfit(Side::Far, pass),
@@ -60,12 +65,40 @@ pub(crate) fn explain<E: Write>(err: &mut E, pass: &Pass) -> io::Result<()>
         has_unfit(Side::Near, pass),
         Explanation::Unfit(Side::Near),
     )?;
-    explain_if(err, has_void(pass), Explanation::Void)?;
+    explain_voids(err, pass)?;
+    explain_if(err, is_finished(settled), Explanation::Finished)
+}
+
+/// Explains that messages were not copied, which were not there any more, or not fit: once for each side.
+fn explain_voids<E: Write>(err: &mut E, pass: &Pass) -> io::Result<()>
+    ensures { OnOk result (Appends (E.contents err.old) (E.contents err.new) (flat_map explanation_line (voids pass.now))) }
+{
     explain_if(
         err,
-        matches!(pass, Pass::Finished(_)),
-        Explanation::Finished,
+        has_void_from(Side::Far, pass),
+        Explanation::Void(Side::Far),
+    )?;
+    explain_if(
+        err,
+        has_void_from(Side::Near, pass),
+        Explanation::Void(Side::Near),
     )
+}
+
+/// Whether the run of an earlier command was finished. Where an attempt met a stop before, it may be this command's own run.
+fn is_finished(settled: &Settled) -> bool
+    ensures { result ≡ is_finished settled.now }
+{
+    settled.stops == 0 && is_finished_pass(&settled.last)
+}
+
+fn is_finished_pass(pass: &Pass) -> bool
+    ensures { result ≡ is_finished_pass pass.now }
+{
+    match pass {
+        Pass::Already | Pass::Ran(..) => false,
+        Pass::Finished(_) => true,
+    }
 }
 
 /// Writes this line, if it applies.
@@ -99,6 +132,52 @@ fn is_of(side: Side, message: &(Side, Uid)) -> bool
     ensures { result ≡ is_of side message.now }
 {
     message.0 == side
+}
+
+/// Whether a message of this side was to be copied, and was not there any more, or not fit.
+fn has_void_from(side: Side, pass: &Pass) -> bool
+    ensures { result ≡ has_void_from side pass.now }
+{
+    match pass {
+        Pass::Already => false,
+        Pass::Ran(steps, _) => any_void_from(side, steps),
+        Pass::Finished(steps) => any_void_from(side, steps),
+    }
+}
+
+fn any_void_from(side: Side, steps: &[Performed]) -> bool
+    ensures { result ≡ list_any (is_void_from side) steps.now }
+{
+    steps.iter().any(|performed| is_void_from(side, performed))
+}
+
+fn is_void_from(side: Side, performed: &Performed) -> bool
+    ensures { result ≡ is_void_from side performed.now }
+{
+    copies_from(side, &performed.step) && is_void(performed)
+}
+
+/// Whether a step copies a message of this side.
+fn copies_from(side: Side, step: &Step) -> bool
+    ensures { result ≡ copies_from side step.now }
+{
+    match (side, step) {
+        (
+            Side::Far,
+            Step::New {
+                direction: Direction::Pull,
+                ..
+            },
+        ) => true,
+        (
+            Side::Near,
+            Step::New {
+                direction: Direction::Push,
+                ..
+            },
+        ) => true,
+        _ => false,
+    }
 }
 
 /// Whether a step of a run was void.

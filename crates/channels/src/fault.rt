@@ -3,7 +3,7 @@
 ghost use Rattle.std.specs.Prelude.{◌≡◌, true, IfSome};
 ghost use Rattle.channels.specs.Asked.{Failed, outcome_of_fault};
 ghost use Rattle.channels.specs.Causes.{is_stop, repeated_copy};
-ghost use Rattle.channels.specs.Outcomes.{fault_of_stop, is_stale, is_stale_cause, outcome_of_box_fault};
+ghost use Rattle.channels.specs.Outcomes.{fault_of_stop, gave_way, is_stale, is_stale_cause, outcome_of_box_fault};
 
 use crate::stop_cause::StopCause;
 use crate::store_fault::{ConnectFault, StoreFault};
@@ -56,6 +56,16 @@ pub(crate) enum GivingUp {
     NothingPending,
     /// Why it was not, or perhaps not, given up. The next run that comes to the same cause gives it up.
     Failed(BoxFailure),
+}
+
+impl RunFailure {
+    /// Whether the plan was given up since a message was undeleted: the next run leaves that message alone, and can be made at once.
+    pub(crate) fn gave_way(&self) -> bool
+        ensures { result ≡ gave_way self.now }
+    {
+        matches!(self.fault, BoxFailure::Stopped(StopCause::Restored(..)))
+            && matches!(self.giving_up, Some(GivingUp::GivenUp))
+    }
 }
 
 impl BoxFailure {
@@ -155,7 +165,10 @@ fn is_stale_cause(cause: &StopCause) -> bool
 {
     matches!(
         cause,
-        StopCause::Standing(..) | StopCause::Kept(..) | StopCause::Undeleted(..)
+        StopCause::Standing(..)
+            | StopCause::Kept(..)
+            | StopCause::Undeleted(..)
+            | StopCause::Restored(..)
     )
 }
 

@@ -34,7 +34,7 @@ impl Work for GiveUp<'_> {
 
     ghost ends = { λ answer. outcome_of_giving_up answer };
 
-    ghost did = { λ _ lent answer. HasGivenUp lent answer };
+    ghost did = { λ work lent answer. HasGivenUp work.options.now.keywords lent answer };
 
     type Answer = Result<bool, RunFault>;
 

@@ -16,7 +16,7 @@ use rand_core::Rng;
 use rules::options::Options;
 use rules::plan::Step;
 use runner::fault::RunFault;
-use runner::pass::Pass;
+use runner::pass::Settled;
 use runner::progress::Progress;
 use runner::settle::settle;
 use std::alloc::Global;
@@ -70,7 +70,7 @@ impl<R: Rng, S: BoxLists> Work for RunOnce<'_, R, S> {
     ghost did = { λ run lent answer. HasRun lent (S.opening lent.ours lent.alone lent.old.device run.options.now) run.options.now
         (R.stream run.rng.now) answer };
 
-    type Answer = Result<Pass, BoxFailure>;
+    type Answer = Result<Settled, BoxFailure>;
 
     fn keywords(&self) -> &Keywords {
         &self.options.keywords
@@ -80,7 +80,7 @@ impl<R: Rng, S: BoxLists> Work for RunOnce<'_, R, S> {
         self,
         outside: &mut O,
         progress: &P,
-    ) -> Result<Pass, BoxFailure>
+    ) -> Result<Settled, BoxFailure>
         requires map { O.keywords outside.old ≡ self.options.now.keywords }
         ensures did { O.honest outside.new → HasRun (lent_by O.Outside outside.old outside.new)
             (S.opening O.ours O.alone (O.seen outside.old).device self.entry.options.now) self.entry.options.now
@@ -99,7 +99,7 @@ fn settle_lent<O: Outside, R: Rng, P: Progress>(
     options: &Options,
     rng: &mut R,
     progress: &P,
-) -> Result<Pass, BoxFailure>
+) -> Result<Settled, BoxFailure>
     ghost opening: { Opening O.ours O.alone }
     requires map { O.keywords outside.old ≡ options.now.keywords }
     ensures did { O.honest outside.new → HasRun (lent_by O.Outside outside.old outside.new) opening options.now (R.stream rng.old) result }
@@ -108,7 +108,7 @@ fn settle_lent<O: Outside, R: Rng, P: Progress>(
     ensures stopped { result ≡ Err (BoxFailure.Run RunFault.Stopped) → MetStops run_attempts (O.seen outside.old) (O.seen outside.new) }
 {
     match settle(alloc, outside, options, TRIES, rng, progress) {
-        Ok(settled) => Ok(settled.last),
+        Ok(settled) => Ok(settled),
         Err(RunFault::Refused(number)) => Err(BoxFailure::Refused(
             number,
             step_of(outside, number),

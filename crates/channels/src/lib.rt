@@ -13,6 +13,7 @@ mod finding;
 mod giving_up;
 mod lent;
 mod listing;
+mod near_name;
 pub mod notice;
 pub mod reporting;
 pub mod run;

@@ -11,4 +11,6 @@ pub enum Notice {
     Unnamed(String),
     /// The server of the IMAP store of this name says this to its users (the code ALERT: RFC 9051, section 7.1).
     Alert(String, String),
+    /// This process may not read what stands at this path below the path of a near store: no mailbox in there is synchronised.
+    Unread(String),
 }

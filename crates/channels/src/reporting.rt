@@ -106,8 +106,8 @@ fn report_fault<E: Write>(
     ensures reported { IfOk result IsReported }
     ensures verdict { IfOk result (λ verdict. verdict ≡ verdict_of (outcome_of_box_fault fault.now)) }
 {
-    if let BoxFailure::CannotOpen(name, _) | BoxFailure::Server(name, _) = fault {
-        writeln!(err, "mbsync: cannot open {name}")?;
+    if let BoxFailure::Server(store, _) = fault {
+        writeln!(err, "mbsync: cannot open {store}")?;
         return Ok(Verdict::Over);
     }
     let (channel, far) = (place.of.channel.name.as_str(), place.far.as_str());
@@ -167,6 +167,10 @@ impl fmt::Display for NoticeText<'_> {
             Notice::Alert(store, text) => {
                 let (store, text) = (store.as_str(), text.as_str());
                 write!(f, "mbsync: alert from {store}: {text}")
+            }
+            Notice::Unread(path) => {
+                let path = path.as_str();
+                write!(f, "mbsync: left out, since it may not be read: {path}")
             }
         }
     }

@@ -18,7 +18,7 @@ pub(crate) fn advise_run<E: Write>(err: &mut E, fault: RunFault) -> io::Result<(
         RunFault::Refused(number) => advise_refused(err, number, None),
         RunFault::ValidityChanged(side) => writeln!(
             err,
-            "  {}: the manual page says what to do under \"How to recover\"",
+            "  {}: keep .mbsyncstate and .mbsyncstate.journal, and do what the manual page says under \"How to recover\"",
             changed_validity(side)
         ),
         RunFault::BadState(line) => advise_state(err, line),
@@ -144,7 +144,8 @@ fn refusal_of(step: &Step) -> &'static str {
 /// What a changed UIDVALIDITY of a side means.
 fn changed_validity(side: Side) -> &'static str {
     match side {
-        Side::Far => "the server has made the mailbox anew, or has lost its UIDs",
+        Side::Far =>
+            "the server has made the mailbox anew, or has lost its UIDs, or this is the folder of another mailbox",
         Side::Near => ".uidvalidity is not that of this mailbox at the last run",
     }
 }
@@ -165,7 +166,7 @@ fn store_fault(side: Side, number: u8) -> &'static str {
             "cur, new or tmp is missing: create it again if it was empty, else put it back with its messages, which count as removed otherwise"
         }
         (Side::Near, fault_number::NEAR_TWO_WITH_ONE_UID) =>
-            "two files have one UID: the manual page says how to find them under \"How to recover\"",
+            "two files have one UID: the manual page says which of them keeps it under \"How to recover\"",
         (Side::Near, fault_number::NEAR_BAD_META) => {
             ".uidvalidity is damaged, too low, or missing beside files with UIDs: the manual page says what to do under \"How to recover\""
         }
@@ -183,7 +184,8 @@ fn advise_state<E: Write>(err: &mut E, line: usize) -> io::Result<()> {
         ),
         1 => writeln!(
             err,
-            "  .mbsyncstate is isync's, or damaged. Convert isync's with mbsync-from-isync, as the manual page says under \"How to move from isync\"\n  \
+            "  .mbsyncstate does not begin as this mbsync writes it: it is isync's, or a newer mbsync's; or an editor has changed it (line ends CR LF, a byte order mark), or it is damaged\n  \
+             convert isync's with mbsync-from-isync, as the manual page says under \"How to move from isync\"; otherwise do what it says under \"How to recover\"\n  \
              keep it: without it each message would come twice"
         ),
         _ => writeln!(

@@ -35,7 +35,7 @@ use rand_core::Rng;
 use rules::options::Options;
 use rules::plan::Step;
 use runner::fault::RunFault;
-use runner::pass::Pass;
+use runner::pass::Settled;
 use std::alloc::Global;
 use std::io;
 use std::io::Write;
@@ -120,15 +120,15 @@ impl<'a, S: BoxLists, O: Write, E: Write> RunStores<'a, S, O, E> {
 
     /// Explains an answer.
     #[tactic(auto, using(crate::proofs::StreamLemmas::notice_steps))]
-    pub(crate) fn explain(&mut self, pass: &Pass) -> io::Result<()>
+    pub(crate) fn explain(&mut self, settled: &Settled) -> io::Result<()>
         ensures others { self.new ≡ record self.old { err = self.new.err; write_failed = self.new.write_failed } }
         ensures err { self.new.err.ghost_name ≡ self.old.err.ghost_name }
         ensures lines { OnOk result (Appends (E.contents self.old.err.now) (E.contents self.new.err.now)
-            (flat_map explanation_line (explanations pass.now))) }
+            (flat_map explanation_line (explanations settled.now))) }
         ensures notices { OnOk result (HasNotices (E.contents self.old.err.now) (E.contents self.new.err.now)) }
         ensures failed { Notes self.old.write_failed self.new.write_failed result }
     {
-        let written = explanation::explain(self.err, pass);
+        let written = explanation::explain(self.err, settled);
         self.write_failed |= written.is_err();
         written
     }
@@ -337,7 +337,7 @@ impl<S: Stores, O: Write, E: Write> RunStores<'_, S, O, E> {
         place: ChannelBox<'_>,
         options: &Options,
         rng: &mut R,
-    ) -> Result<Pass, RunFailure>
+    ) -> Result<Settled, RunFailure>
         requires going { self.old.write_failed ≡ false }
         ensures others { self.new ≡ record self.old { stores = self.new.stores } }
         ensures asks { Asks S.noted S.asked self.old.stores self.new.stores (settled_asked options.now (place_of place.entry) result) }
@@ -347,7 +347,7 @@ impl<S: Stores, O: Write, E: Write> RunStores<'_, S, O, E> {
         ensures due { IfErr result (λ failure. is_some failure.giving_up ≡ is_stale failure.fault) }
     {
         match self.settle_reported(alloc, place, options, rng) {
-            Ok(pass) => Ok(pass),
+            Ok(settled) => Ok(settled),
             Err(fault) => {
                 let giving_up = self.give_up_after(alloc, place, options, &fault);
                 Err(RunFailure { fault, giving_up })
@@ -368,7 +368,7 @@ impl<S: Stores, O: Write, E: Write> RunStores<'_, S, O, E> {
         ensures others { self.new ≡ record self.old { stores = self.new.stores } }
         ensures asks { Asks S.noted S.asked self.old.stores self.new.stores
             (giving_asked (option_map outcome_of_giving result) (outcome_of_box_fault fault.now) (place_of place.entry)) }
-        ensures lent { Lends S.honest S.lent self.old.stores.now self.new.stores.now (IsGivenUpBy (place_of place.entry) result) }
+        ensures lent { Lends S.honest S.lent self.old.stores.now self.new.stores.now (IsGivenUpBy options.now.keywords (place_of place.entry) result) }
         ensures answered { IsGivenUp (S.answered self.old.stores.now) (S.answered self.new.stores.now) result }
         ensures due { is_some result ≡ is_stale fault.now }
     {
@@ -385,7 +385,7 @@ impl<S: Stores, O: Write, E: Write> RunStores<'_, S, O, E> {
         ensures others { self.new ≡ record self.old { stores = self.new.stores } }
         ensures asks { Asks S.noted S.asked self.old.stores self.new.stores
             (GaveUp (place_of place.entry) (outcome_of_giving result) ∷ []) }
-        ensures lent { Lends S.honest S.lent self.old.stores.now self.new.stores.now (IsGivenUpBy (place_of place.entry) (Some result)) }
+        ensures lent { Lends S.honest S.lent self.old.stores.now self.new.stores.now (IsGivenUpBy options.now.keywords (place_of place.entry) (Some result)) }
         ensures answered { IsGivenUp (S.answered self.old.stores.now) (S.answered self.new.stores.now) (Some result) }
     {
         match self.stores.work_over(place, GiveUp { alloc, options }) {
@@ -403,7 +403,7 @@ impl<S: Stores, O: Write, E: Write> RunStores<'_, S, O, E> {
         place: ChannelBox<'_>,
         options: &Options,
         rng: &mut R,
-    ) -> Result<Pass, BoxFailure>
+    ) -> Result<Settled, BoxFailure>
         requires going { self.old.write_failed ≡ false }
         ensures others { self.new ≡ record self.old { stores = self.new.stores } }
         ensures asks { Asks S.noted S.asked self.old.stores self.new.stores
@@ -413,7 +413,7 @@ impl<S: Stores, O: Write, E: Write> RunStores<'_, S, O, E> {
         ensures answered { IsFaultOf result (S.answered self.old.stores.now) (S.answered self.new.stores.now) }
     {
         match self.settle_open(alloc, place, options, rng) {
-            Ok(pass) => Ok(pass),
+            Ok(settled) => Ok(settled),
             Err(fault) => Err(self.explained(fault)),
         }
     }
@@ -425,7 +425,7 @@ impl<S: Stores, O: Write, E: Write> RunStores<'_, S, O, E> {
         place: ChannelBox<'_>,
         options: &Options,
         rng: &mut R,
-    ) -> Result<Pass, BoxFailure>
+    ) -> Result<Settled, BoxFailure>
         requires going { self.old.write_failed ≡ false }
         ensures others { self.new ≡ record self.old { stores = self.new.stores } }
         ensures asks { Asks S.noted S.asked self.old.stores self.new.stores

@@ -6,20 +6,21 @@ ghost use Rattle.channels.specs.Scope.{uncovered};
 ghost use Rattle.rules.specs.Options.{covers};
 ghost use Rattle.channels.specs.Asked.{Done, Failed, FoundNew, Made, Ran, joined_of, place_of};
 ghost use Rattle.channels.specs.declared.verdict.Verdict.TheVariants.{Clean};
+ghost use Rattle.channels.specs.Anew.{EndsWith, RunsAnew};
 ghost use Rattle.channels.specs.Asks.{Asks, AsksIfClean, Settles, SettlesFound, box_asked, boxes_asked, makings, run_attempts};
 ghost use Rattle.channels.specs.Boxes.{Rises};
 ghost use Rattle.channels.specs.Courses.{FindsAbsence, Follows, Goes, InOrder, IsBoxAsked, IsChannelAsked, IsFoundAsked, IsNamedAsked, IsRunAsked, Makes, SoFar, asking_if, is_over};
 ghost use Rattle.channels.specs.Explanations.{explanation_line, explanations};
 ghost use Rattle.channels.specs.Lendings.{Lends, LendsNone};
 ghost use Rattle.channels.specs.Settlings.{InTurn, IsBoxSettled, IsFoundSettled, IsNamedSettled, SettlesLent};
-ghost use Rattle.channels.specs.Outcomes.{IsAbsence, IsAbsenceOf, IsReportedOf, outcome_of, outcome_of_box_fault, outcome_of_pass};
+ghost use Rattle.channels.specs.Outcomes.{IsAbsence, IsAbsenceOf, IsReportedOf, outcome_of, outcome_of_box_fault, outcome_of_pass, outcome_of_settled, plans_anew};
 ghost use Rattle.channels.specs.Runs.{MayRun, MayRunFound, MayRunNamed, RunsChannel};
 ghost use Rattle.channels.specs.Streams.{Extends, IsAnswered, IsQuiet, Notes};
 ghost use Rattle.reports.specs.Answers.{answer_of};
 
 use crate::channel_box::{ChannelBox, ChannelStores};
 use crate::explanation::has_void;
-use crate::fault::BoxFailure;
+use crate::fault::{BoxFailure, RunFailure};
 use crate::finding::Found;
 use crate::run_stores::RunStores;
 use crate::scope::uncovered;
@@ -32,7 +33,7 @@ use rand_core::Rng;
 use reports::answer::answer_text;
 use rules::options::{Options, Sides};
 use runner::fault::RunFault;
-use runner::pass::Pass;
+use runner::pass::Settled;
 use std::alloc::Global;
 use std::io;
 use std::io::Write;
@@ -122,7 +123,7 @@ fn settle_found<S: Stores, R: Rng, O: Write, E: Write>(
     }
 }
 
-/// Synchronises these mailboxes, whose names are the same on both sides, until a store does not open.
+/// Synchronises these mailboxes, whose names are the same on both sides, until a server does not open.
 #[tactic(auto, using(crate::proofs::StreamLemmas::stream_steps, crate::proofs::StreamLemmas::quiet_steps))]
 fn settle_boxes<S: Stores, R: Rng, O: Write, E: Write>(
     work: ChannelWork<'_>,
@@ -228,7 +229,8 @@ fn make_and_run<S: Stores, R: Rng, O: Write, E: Write>(
     }
 }
 
-/// Makes a run over a mailbox.
+/// Makes a run over a mailbox; and one more, which plans anew, where the plan of the first one was given up since a message was undeleted. A
+/// fault of the first one stays reported, whatever comes of the second.
 #[tactic(auto, using(crate::proofs::StreamLemmas::stream_steps, crate::proofs::StreamLemmas::quiet_steps))]
 fn run_box<S: Stores, R: Rng, O: Write, E: Write>(
     work: ChannelWork<'_>,
@@ -251,14 +253,56 @@ fn run_box<S: Stores, R: Rng, O: Write, E: Write>(
         (IsBoxSettled S.opening R.stream work.entry.options.now (place_of place.entry))) }
     ensures runs { Lends S.honest S.lent stores.old.stores.now stores.new.stores.now
         (MayRun S.opening R.stream work.entry.options.now (place_of place.entry)) }
+    ensures anew { OnOk result (RunsAnew S.BoxLists R.stream work.entry.options.now (place_of place.entry) stores.old.stores.now
+        stores.new.stores.now) }
 {
     stores.print_box(place.of.channel, place.far)?;
-    match stores.settle(work.alloc, place, work.options, rng) {
-        Ok(pass) => {
-            let verdict = print_answer(work.alloc, place, &pass, stores)?;
-            Ok(verdict.and(report_left_out(place, stores)?))
+    let first = stores.settle(work.alloc, place, work.options, rng);
+    let verdict = report_run(work.alloc, place, &first, stores)?;
+    if !plans_anew(&first) {
+        return Ok(verdict);
+    }
+    let again = stores.settle(work.alloc, place, work.options, rng);
+    let later = report_run(work.alloc, place, &again, stores)?;
+    Ok(verdict.and(later))
+}
+
+/// Whether the plan of a run was given up since a message was undeleted, so that one more run is made at once.
+fn plans_anew(run: &Result<Settled, RunFailure>) -> bool
+    ensures { result ≡ plans_anew run.now }
+{
+    match run {
+        Ok(_) => false,
+        Err(failure) => failure.gave_way(),
+    }
+}
+
+/// Reports what a run came to: prints its answer, and reports which near files it left out; or reports why it failed.
+#[tactic(auto, using(crate::proofs::StreamLemmas::stream_steps, crate::proofs::StreamLemmas::quiet_steps))]
+fn report_run<S: Stores, O: Write, E: Write>(
+    alloc: Global,
+    place: ChannelBox<'_>,
+    run: &Result<Settled, RunFailure>,
+    stores: &mut RunStores<'_, S, O, E>,
+) -> io::Result<Verdict>
+    requires going { stores.old.write_failed ≡ false }
+    ensures out { stores.new.out.ghost_name ≡ stores.old.out.ghost_name }
+    ensures err { stores.new.err.ghost_name ≡ stores.old.err.ghost_name }
+    ensures quiet { IfOk result (IsQuiet (E.contents stores.old.err.now) (E.contents stores.new.err.now)) }
+    ensures whole { OnOk result (Extends (O.contents stores.old.out.now) (O.contents stores.new.out.now)) }
+    ensures failed { Notes false stores.new.write_failed result }
+    ensures asks { Asks S.noted S.asked stores.old.stores stores.new.stores [] }
+    ensures states { IfOk result (IsReportedOf (outcome_of_settled run.now)) }
+    ensures ends { EndsWith S.BoxLists run.now stores.old.stores.now stores.new.stores.now }
+    ensures lent { LendsNone S.honest S.lent stores.old.stores.now stores.new.stores.now }
+{
+    match run {
+        Ok(settled) => {
+            let verdict = print_answer(alloc, place, settled, stores)?;
+            let later = report_left_out(place, stores)?;
+            Ok(verdict.and(later))
         }
-        Err(failure) => stores.report_failure(place, &failure),
+        Err(failure) => stores.report_failure(place, failure),
     }
 }
 
@@ -414,7 +458,7 @@ fn report_paths<S: Stores, O: Write, E: Write>(
 fn print_answer<S: Stores, O: Write, E: Write>(
     alloc: Global,
     place: ChannelBox<'_>,
-    pass: &Pass,
+    settled: &Settled,
     stores: &mut RunStores<'_, S, O, E>,
 ) -> io::Result<Verdict>
     requires going { stores.old.write_failed ≡ false }
@@ -423,17 +467,17 @@ fn print_answer<S: Stores, O: Write, E: Write>(
     ensures quiet { IfOk result (IsQuiet (E.contents stores.old.err.now) (E.contents stores.new.err.now)) }
     ensures whole { OnOk result (Extends (O.contents stores.old.out.now) (O.contents stores.new.out.now)) }
     ensures failed { Notes false stores.new.write_failed result }
-    ensures text { IfOk result (IsAnswered (answer_of pass.now) (O.contents stores.old.out.now) (O.contents stores.new.out.now)
-        (flat_map explanation_line (explanations pass.now)) (E.contents stores.old.err.now) (E.contents stores.new.err.now)) }
+    ensures text { IfOk result (IsAnswered (answer_of settled.now.last) (O.contents stores.old.out.now) (O.contents stores.new.out.now)
+        (flat_map explanation_line (explanations settled.now)) (E.contents stores.old.err.now) (E.contents stores.new.err.now)) }
     ensures asks { Asks S.noted S.asked stores.old.stores stores.new.stores [] }
-    ensures states { IfOk result (IsReportedOf (outcome_of_pass pass.now)) }
+    ensures states { IfOk result (IsReportedOf (outcome_of_pass settled.now.last)) }
     ensures lent { LendsNone S.honest S.lent stores.old.stores.now stores.new.stores.now }
 {
-    match answer_text(alloc, pass) {
+    match answer_text(alloc, &settled.last) {
         Ok(text) => {
             stores.print_text(text.as_str())?;
-            stores.explain(pass)?;
-            Ok(if has_void(pass) {
+            stores.explain(settled)?;
+            Ok(if has_void(&settled.last) {
                 Verdict::Faulty
             } else {
                 Verdict::Clean

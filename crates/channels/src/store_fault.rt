@@ -43,11 +43,10 @@ pub enum ListFault {
 /// Why a side of a mailbox is not made, or the mailbox not lent to be synchronised.
 #[derive(Debug, Drop, Error)]
 pub enum StoreFault {
-    /// A store does not open, and so no other mailbox of the channel is tried. The path of a file, and
-    /// why it does not open, as a text without an end of line.
+    /// A file or a folder of this mailbox does not open: its path, and why, as a text without an end of line.
     #[error("cannot open {0}")]
     CannotOpen(String, &'static str),
-    /// The same of the server of the IMAP store of this name.
+    /// The server of the IMAP store of this name does not open, and so no other mailbox of the channel is tried.
     #[error("cannot open {0}")]
     Server(String, ConnectFault),
     /// Another process holds the lock of the near mailbox.

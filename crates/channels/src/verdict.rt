@@ -10,7 +10,7 @@ pub(crate) enum Verdict {
     Clean,
     /// A fault.
     Faulty,
-    /// That a store does not open: no other mailbox of the channel is tried.
+    /// That a store cannot be listed, or its server does not open: no other mailbox of the channel is tried.
     Over,
 }
 

@@ -61,6 +61,13 @@ stops_again h1 h2 h3 h4 ours alone direction uid flags mark s0 s1 s2 s3 s4 carri
     let absent = subst (λ (c : Carried). Asks h3 ours alone direction uid flags mark s0 s3 (Ok c)) is_again asks3 in
     stops_after h3 h4 ours alone copies_made FromBox (Carry direction uid flags mark) (LeavesBy (Carry direction uid flags mark) (SetsAside (target direction))) s0 s3 s4 fault (rests_absent h3 ours alone direction uid flags mark s0 s3 absent) last is_stop now tt (λ d. inl refl)
 
+-- the copy was not found, and the call stops
+pub stops_absent : (h1 h2 : Type 0) (ours : List ℕ → Bool) (alone : Bool) (direction : Direction) (uid flags : ℕ) (mark : List ℕ) (old mid new : Seen) (carried : Carried) (fault : OutsideFault) →
+    Asks h1 ours alone direction uid flags mark old mid (Ok carried) → carried ≡ Absent → (h2 → h1) → fault ≡ Stopped → new ≡ stopped mid → Asks h2 ours alone direction uid flags mark old new (Err fault)
+stops_absent h1 h2 ours alone direction uid flags mark old mid new carried fault asked is before is_stop now =
+    let absent = subst (λ (c : Carried). Asks h1 ours alone direction uid flags mark old mid (Ok c)) is asked in
+    stops_after h1 h2 ours alone copies_made FromBox (Carry direction uid flags mark) (LeavesBy (Carry direction uid flags mark) (SetsAside (target direction))) old mid new fault (rests_absent h1 ours alone direction uid flags mark old mid absent) before is_stop now tt (λ d. inl refl)
+
 -- the copy is not asked for: the call stops
 pub stops_ask : (honest : Type 0) (ours : List ℕ → Bool) (alone : Bool) (direction : Direction) (uid flags : ℕ) (mark : List ℕ) (old new : Seen) (fault : OutsideFault) → fault ≡ Stopped → new ≡ stopped old → Asks honest ours alone direction uid flags mark old new (Err fault)
 stops_ask honest ours alone direction uid flags mark old new fault is_stop now =

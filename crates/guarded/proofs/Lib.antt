@@ -4,6 +4,7 @@ mod Asking
 mod Following
 mod Dropped
 mod Fails
+mod Letting
 mod LookedUp
 mod Looking
 pub mod PlanReads

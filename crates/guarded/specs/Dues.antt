@@ -40,12 +40,16 @@ abbrev pub later : ℕ → Option ℕ → ℕ
 later step None = step
 later step (Some other) = max step other
 
--- ---- what a step asks until a step is logged: itself, or the one that removes the far message which it marks
+-- in the whole plan
+abbrev pub always : ℕ → Due
+always uid = record { uid = uid; after = None; until = None }
+
+-- ---- what a step asks: in the whole plan, or until a step is logged: itself, or the one that removes the far message which it marks
 
 -- the near message that it takes to be removed
-abbrev pub gone_by : ℕ → Step → Option Due
-gone_by last (Gone Push far near) = Some (until last near)
-gone_by last other = None
+abbrev pub gone_by : Step → Option Due
+gone_by (Gone Push far near) = Some (always near)
+gone_by other = None
 
 -- the near message that it takes to be marked as deleted: it removes it, or marks its counterpart so
 abbrev pub marked_by : ℕ → Step → Option Due
@@ -73,11 +77,21 @@ abbrev pub marks_by : Step → Option ℕ
 marks_by (Gone Push far near) = Some far
 marks_by other = None
 
+-- the near message that it marks as deleted, since its counterpart is removed
+abbrev pub near_marks_by : Step → Option ℕ
+near_marks_by (Gone Pull far near) = Some near
+near_marks_by other = None
+
 -- the far message that it marks as deleted
 abbrev pub marked_far : Step → Option ℕ
 marked_far (Gone Push far near) = Some far
 marked_far (Flags Push far near set cleared) = if_deleted set far
 marked_far other = None
+
+-- the far message whose mark as deleted it carries over to the near one
+abbrev pub pulled_by : Step → Option ℕ
+pulled_by (Flags Pull far near set cleared) = if_deleted set far
+pulled_by other = None
 
 -- the near message that it removes
 abbrev pub expunged_near : Step → Option ℕ
@@ -91,10 +105,6 @@ dropped_near (Record far near flags) = None
 
 -- ---- what steps and notes ask
 
--- in the whole plan
-abbrev pub always : ℕ → Due
-always uid = record { uid = uid; after = None; until = None }
-
 -- the step once which a message is asked about, if it is one of these
 abbrev pub step_of : List Due → ℕ → Option ℕ
 step_of dues uid = option_and_then (λ due. due.after) (find (λ due. due.uid == uid) dues)
@@ -107,16 +117,13 @@ last_of far number step = later number (option_and_then (step_of far) (marked_fa
 abbrev pub expunged_of : List Step → List Due
 expunged_of steps = filter_map (λ at. expunged_by at.0 at.1) (enumerate_from 0 steps)
 
--- near messages that steps take to be removed
-abbrev pub gone_by_steps : (far : List Due) → List Step → List Due
-gone_by_steps far steps = filter_map (λ at. gone_by (last_of far at.0 at.1) at.1) (enumerate_from 0 steps)
-
 -- the near message of an entry that goes, unless a step removes it
 abbrev pub dropped_by : (expunged : List ℕ) → Note → Option Due
 dropped_by expunged note = option_and_then (λ uid. if list_any (λ one. one == uid) expunged then None else Some (always uid)) (dropped_near note)
 
-abbrev pub gone_of : (far : List Due) → List Step → List Note → List Due
-gone_of far steps notes = gone_by_steps far steps ++ filter_map (dropped_by (filter_map expunged_near steps)) notes
+-- near messages that steps and notes take to be removed
+abbrev pub gone_of : List Step → List Note → List Due
+gone_of steps notes = filter_map gone_by steps ++ filter_map (dropped_by (filter_map expunged_near steps)) notes
 
 -- near messages that steps mark as deleted, each once its step has
 abbrev pub set_of : List Step → List Due

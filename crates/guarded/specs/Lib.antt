@@ -1,6 +1,8 @@
 pub mod Dues
 pub mod Given
+pub mod Hidden
 pub mod Listed
 pub mod Questions
 pub mod Removals
 pub mod Watches
+pub mod Recorded

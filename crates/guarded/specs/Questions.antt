@@ -1,29 +1,39 @@
 -- What a guard is asked, and what was asked before a call.
-use Rattle.std.specs.Prelude.{◌≡◌, ℕ, Bool, false, true, Ok, OnOk, Option, None, Some, Result}
+use Rattle.std.specs.Prelude.{◌≡◌, ◌≤◌, ◌⊎◌, ℕ, Bool, false, true, IsErr, Ok, OnOk, Option, None, Some, Result}
 use Rattle.device.specs.Calls.{Effect}
 use Rattle.mailcore.specs.declared.listing.Listing.{Listing}
 use Rattle.mailcore.specs.declared.side.Side.{Side}
 use Rattle.mailcore.specs.declared.side.Side.TheVariants.{Far, Near}
-use Rattle.outside.specs.BoxCalls.{ListsFar}
+use Rattle.mailcore.specs.declared.spared.Spared.{Spared}
+use Rattle.mailcore.specs.Spared.{spares}
+use Rattle.outside.specs.BoxCalls.{ListsFar, ListsNear}
 use Rattle.outside.specs.Calls.{Opens, Seen, stopped}
 use Rattle.outside.specs.Devices.{Device}
 use Rattle.outside.specs.declared.fault.OutsideFault.{OutsideFault}
 use Rattle.rules.specs.declared.plan.Plan.{Plan}
 use Rattle.guarded.specs.declared.guard.Change.{Change}
 
--- whether a far mailbox of this UIDVALIDITY and UIDNEXT may be worked on, a plan be begun, a call be made over the message of this UID, and
--- near messages be removed where the far mailbox lists this
+-- whether a far mailbox of this UIDVALIDITY and UIDNEXT may be worked on, a plan be begun, a call be made over the message of this UID, near
+-- messages be removed where the far mailbox lists this, one that is to be copied count as gone, and the state become what the finished plan
+-- makes
 pub data Question : Type 0 where
   MayOpen : (validity : ℕ) → (next : ℕ) → Question
   MayBegin : (plan : Plan) → Question
   MayChange : (change : Change) → (uid : ℕ) → Question
   MayRemove : (far : Listing) → Question
+  MayVoid : (uid : ℕ) → Question
+  MayCommit : Question
 
 -- a far mailbox that was opened, and whose UIDNEXT is known, was shown to the guard, which said yes
 abbrev pub IsShown : {G : Type 0} → (asked : Question → G → G → Type 0) → (goes_on : G → Bool) → Side → (validity : ℕ) → (next : Option ℕ) → G → G → Type 0
 IsShown asked goes_on Far validity (Some next) old new = asked (MayOpen validity next) old new × (goes_on new ≡ true)
 IsShown asked goes_on Far validity None old new = new ≡ old
 IsShown asked goes_on Near validity next old new = new ≡ old
+
+-- a guard was asked this last
+pub record AsksLast {G : Type 0} (asked : Question → G → G → Type 0) (question : Question) (new : G) : Type 0 where
+  pub before : G
+  pub was : asked question before new
 
 -- A guard was asked this first. Where it said no, nothing more was asked, and the outside stopped before it did anything.
 pub record AsksFirst {G : Type 0} (asked : Question → G → G → Type 0) (goes_on : G → Bool) (question : Question) (old new : G) (seen seen_now : Seen) : Type 0 where
@@ -50,3 +60,44 @@ pub record AsksToRemove {G : Type 0} (asked : Question → G → G → Type 0) (
   pub refused : goes_on mid ≡ false → (new ≡ mid) × (seen_now ≡ stopped seen)
   pub unlisted : lists mid ≡ false → new ≡ mid
   pub listed : lists mid ≡ true → OnOk result (HasListed asked was_listed mid new)
+
+-- ---- flags that are set
+
+-- every UID is spared
+abbrev pub IsAll : Spared → Type 0
+IsAll spared = (uid : ℕ) → uid ≤ 4294967295 → spares spared uid ≡ true
+
+-- what the mailbox of a side lists, where some near messages are not asked whether they are fit
+abbrev pub ListsSide : (alone : Bool) → (spared : ℕ → Bool) → (known : ℕ) → Side → Listing → Device → Type 0
+ListsSide alone spared known Far listing d = ListsFar alone known listing d
+ListsSide alone spared known Near listing d = ListsNear spared listing d
+
+-- a guard was asked this, and where it said no, the outside stopped before it did anything more
+pub record AsksOnce {G : Type 0} (asked : Question → G → G → Type 0) (goes_on : G → Bool) (question : Question) (old new : G) (seen seen_now : Seen) : Type 0 where
+  pub was : asked question old new
+  pub refused : goes_on new ≡ false → seen_now ≡ stopped seen
+
+-- the mailbox of this side was listed before anything else was done, no near message was read for it, and the guard saw what it lists
+pub record SawSide {G : Type 0} (honest : Type 0) (others : Effect Device) (alone : Bool) (side : Side) (saw : Side → Listing → G → G → Type 0) (seen : Seen) (old new : G) (seen_then : Seen) : Type 0 where
+  pub spared : Spared
+  pub all : IsAll spared
+  pub listing : Listing
+  pub looked : Opens honest others (ListsSide alone (spares spared) seen.device.far.next side) seen seen_then (Ok listing)
+  pub shown : saw side listing old new
+
+-- a guard saw what a mailbox lists, and was asked this then
+pub record AsksSeen {G : Type 0} (asked : Question → G → G → Type 0) (goes_on : G → Bool) (saw_side : G → G → Seen → Type 0) (question : Question) (old new : G) (seen_now : Seen) : Type 0 where
+  pub mid : G
+  pub seen_then : Seen
+  pub saw : saw_side old mid seen_then
+  pub then : AsksOnce asked goes_on question mid new seen_then seen_now
+
+-- the same, or the mailbox could not be listed, and nothing more was done
+abbrev pub AsksListed : {G : Type 0} → (asked : Question → G → G → Type 0) → (goes_on : G → Bool) → (saw_side : G → G → Seen → Type 0) → Question → (old new : G) → (seen_now : Seen) → Result (Unit {0}) OutsideFault → Type 0
+AsksListed asked goes_on saw_side question old new seen_now result = ((new ≡ old) × IsErr result) ⊎ AsksSeen asked goes_on saw_side question old new seen_now
+
+-- A guard was asked this before flags were set. Where the mailbox of this side is to be listed before, it saw first what this lists.
+pub record AsksToSet {G : Type 0} (asked : Question → G → G → Type 0) (goes_on : G → Bool) (looks : G → Bool) (saw_side : G → G → Seen → Type 0) (question : Question)
+    (old new : G) (seen seen_now : Seen) (result : Result (Unit {0}) OutsideFault) : Type 0 where
+  pub unlisted : looks old ≡ false → AsksOnce asked goes_on question old new seen seen_now
+  pub listed : looks old ≡ true → AsksListed asked goes_on saw_side question old new seen_now result

@@ -6,6 +6,7 @@ ghost use Rattle.guarded.specs.Questions.{IsShown};
 use crate::begin_if::begin_if;
 use crate::expunge_listed::expunge_listed;
 use crate::guard::{Change, Guard};
+use crate::set_flags::{set_if, set_listed};
 use crate::still_listed::is_listed;
 use crate::stop_refused::stop_refused;
 use book::lost_sides::LostSides;
@@ -93,21 +94,22 @@ fn note_logged<G: Guard>(
 }
 
 impl<O: Outside + FarNext, G: Guard> Outside for GuardedOutside<O, G> {
-    ghost use Rattle.std.specs.Prelude.{OnOk, IfOk};
+    ghost use Rattle.std.specs.Prelude.{Ok, OnOk, IfOk};
     ghost use Rattle.mailcore.specs.KeywordNames.{kept};
     ghost use Rattle.mailcore.specs.Operations.{flags_added, flags_removed};
     ghost use Rattle.mailcore.specs.Sides.{target};
     ghost use Rattle.book.specs.declared.book.Pending.TheVariants.{Missing, Useless};
     ghost use Rattle.book.specs.Books.{Turns, TurnsHalf};
     ghost use Rattle.book.specs.BookLogs.{begun};
+    ghost use Rattle.book.specs.Commits.{CommitsHalf, CommitsTo};
     ghost use Rattle.outside.specs.Arrivals.{Arrives};
     ghost use Rattle.outside.specs.BookCalls.{OfBook};
     ghost use Rattle.outside.specs.BoxCalls.{Carry, Names, SetsAside, Turns as TurnsBox, copies_made};
     ghost use Rattle.outside.specs.Calls.{Call, Changes, FromBook, FromBox, LeavesBy, Opens, Writes, stopped};
     ghost use Rattle.outside.specs.MailboxOperations.{removed};
     ghost use Rattle.outside.specs.Devices.{box};
-    ghost use Rattle.outside.specs.Opened.{IsOpen, TakesPlan, turned, with_box};
-    ghost use Rattle.guarded.specs.Questions.{AsksFirst, AsksToRemove, MayBegin, MayChange, WasListed};
+    ghost use Rattle.outside.specs.Opened.{AreCommitted, IsHeld, IsOpen, TakesCommit, TakesPlan, turned, with_box};
+    ghost use Rattle.guarded.specs.Questions.{AsksFirst, AsksLast, AsksOnce, AsksToRemove, AsksToSet, MayBegin, MayChange, MayCommit, MayVoid, SawSide, WasListed};
 
     ghost honest = { λ guarded. O.honest guarded.outside };
 
@@ -180,7 +182,20 @@ impl<O: Outside + FarNext, G: Guard> Outside for GuardedOutside<O, G> {
         answer
     }
 
-    fn commit(&mut self) -> Result<(), OutsideFault> {
+    fn commit(&mut self) -> Result<(), OutsideFault>
+        requires takes { TakesCommit (O.opened self.old.outside) }
+        ensures asked { AsksOnce G.asked G.goes_on MayCommit self.old.guard self.new.guard (O.seen self.old.outside) (O.seen self.new.outside) }
+        ensures let_on { OnOk result (G.goes_on self.new.guard ≡ true) }
+        ensures was_honest { O.honest self.new.outside → O.honest self.old.outside }
+        ensures keywords { O.keywords self.new.outside ≡ O.keywords self.old.outside }
+        ensures opened { OnOk result (AreCommitted (O.opened self.old.outside) (O.opened self.new.outside)) }
+        ensures held { result ≡ Ok tt → O.honest self.new.outside → IsHeld (O.opened self.new.outside) (O.seen self.new.outside).device }
+        ensures call { Writes (O.honest self.new.outside) (Arrives O.ours O.alone) FromBook (OfBook CommitsTo (O.opened self.old.outside))
+            (OfBook CommitsHalf (O.opened self.old.outside)) (O.seen self.old.outside) (O.seen self.new.outside) result }
+    {
+        if !self.guard.may_commit() {
+            return Err(stop_refused(&mut self.outside, &self.guard));
+        }
         self.outside.commit()
     }
 
@@ -209,7 +224,9 @@ impl<O: Outside + FarNext, G: Guard> Outside for GuardedOutside<O, G> {
     }
 
     fn list_far(&mut self) -> Result<Listing, OutsideFault> {
-        self.outside.list_far()
+        let listing = self.outside.list_far()?;
+        self.guard.sees(Side::Far, &listing);
+        Ok(listing)
     }
 
     fn look_far(&mut self) -> Result<Listing, OutsideFault> {
@@ -217,7 +234,9 @@ impl<O: Outside + FarNext, G: Guard> Outside for GuardedOutside<O, G> {
     }
 
     fn list_near(&mut self, spared: &Spared) -> Result<Listing, OutsideFault> {
-        self.outside.list_near(spared)
+        let listing = self.outside.list_near(spared)?;
+        self.guard.sees(Side::Near, &listing);
+        Ok(listing)
     }
 
     fn look_near(&mut self, spared: &Spared) -> Result<Listing, OutsideFault> {
@@ -245,6 +264,7 @@ impl<O: Outside + FarNext, G: Guard> Outside for GuardedOutside<O, G> {
         requires near_open { IsOpen Side.Near (O.opened self.old.outside) }
         ensures asked { AsksFirst G.asked G.goes_on (MayChange Change.Copy uid) self.old.guard self.new.guard (O.seen self.old.outside)
             (O.seen self.new.outside) }
+        ensures absent { result ≡ Ok Carried.Absent → direction ≡ Direction.Push → AsksLast G.asked (MayVoid uid) self.new.guard }
         ensures let_on { OnOk result (G.goes_on self.new.guard ≡ true) }
         ensures was_honest { O.honest self.new.outside → O.honest self.old.outside }
         ensures keywords { O.keywords self.new.outside ≡ O.keywords self.old.outside }
@@ -259,6 +279,12 @@ impl<O: Outside + FarNext, G: Guard> Outside for GuardedOutside<O, G> {
         }
         match (self.outside.carry(direction, uid, mark, flags)?, direction) {
             (Carried::Absent, Direction::Pull) if !self.is_gone(uid) => {}
+            (Carried::Absent, Direction::Push) => {
+                if !self.guard.may_void(uid) {
+                    return Err(stop_refused(&mut self.outside, &self.guard));
+                }
+                return Ok(Carried::Absent);
+            }
             (carried, _) => return Ok(carried),
         }
         let listing = self.outside.look_far()?;
@@ -273,9 +299,10 @@ impl<O: Outside + FarNext, G: Guard> Outside for GuardedOutside<O, G> {
 
     fn add_flags(&mut self, side: Side, uid: Uid, flags: Flags) -> Result<(), OutsideFault>
         requires is_open { IsOpen side (O.opened self.old.outside) }
-        ensures asked { G.asked (MayChange (Change.AddFlags side) uid) self.old.guard self.new.guard }
+        ensures asked { AsksToSet G.asked G.goes_on (λ guard. G.looks guard side uid)
+            (SawSide (O.honest self.new.outside) (Arrives O.ours O.alone) O.alone side G.saw (O.seen self.old.outside))
+            (MayChange (Change.AddFlags side) uid) self.old.guard self.new.guard (O.seen self.old.outside) (O.seen self.new.outside) result }
         ensures let_on { OnOk result (G.goes_on self.new.guard ≡ true) }
-        ensures refused { G.goes_on self.new.guard ≡ false → O.seen self.new.outside ≡ stopped (O.seen self.old.outside) }
         ensures was_honest { O.honest self.new.outside → O.honest self.old.outside }
         ensures keywords { O.keywords self.new.outside ≡ O.keywords self.old.outside }
         ensures opened { O.opened self.new.outside ≡ O.opened self.old.outside }
@@ -283,10 +310,10 @@ impl<O: Outside + FarNext, G: Guard> Outside for GuardedOutside<O, G> {
             (λ _. TurnsBox side uid (flags_added uid (kept (O.keywords self.old.outside) flags))) (Names side uid)
             (O.seen self.old.outside) (O.seen self.new.outside) result }
     {
-        if !self.guard.may_change(Change::AddFlags(side), uid) {
-            return Err(stop_refused(&mut self.outside, &self.guard));
+        if self.guard.asks_marks(side, uid) {
+            return set_listed(&mut self.outside, &mut self.guard, side, uid, flags);
         }
-        self.outside.add_flags(side, uid, flags)
+        set_if(&mut self.outside, &mut self.guard, side, uid, flags)
     }
 
     fn remove_flags(&mut self, side: Side, uid: Uid, flags: Flags) -> Result<(), OutsideFault>

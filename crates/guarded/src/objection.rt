@@ -1,6 +1,7 @@
 //! Why a run is not to go on.
 
 use device::trouble::Trouble;
+use mailcore::side::Side;
 use maildir::folder::FileName;
 
 /// Why a run is not to go on.
@@ -10,8 +11,13 @@ pub enum Objection {
     Standing(u32, FileName),
     /// The near message of this UID, which the plan removes or removes on the far side, is not marked as deleted: its name is this.
     Kept(u32, FileName),
-    /// The far mailbox lists the message of this UID, which the plan has expunged.
+    /// The near message of this UID, which the plan copies, is not there, but may be this file: its name only begins as that of a message.
+    Hidden(u32, FileName),
+    /// The far mailbox lists the message of this UID, which the plan has expunged, or whose mark as deleted the plan has carried over, and
+    /// which is not marked any more.
     Undeleted(u32),
+    /// The message of this side with this UID, whose counterpart is gone, was marked as deleted as this was, and is not marked any more.
+    Restored(Side, u32),
     /// Whether one is there cannot be looked up: the system said this of the folder.
     Unlooked(Trouble),
     /// The far mailbox lists the message of this UID, and does not give it.

@@ -1,10 +1,10 @@
 //! What a plan removes, and by which messages it shows that it is not to.
 
-ghost use Rattle.std.specs.Prelude.{◌≡◌, [], IfOk};
+ghost use Rattle.std.specs.Prelude.{◌≡◌, ◌&&◌, [], not, IfOk};
 ghost use Rattle.std.specs.List.{filter_map};
-ghost use Rattle.guarded.specs.Dues.{after, always, until, later, gone_by, dropped_near, marked_by, marked_far, set_by, expunged_by, expunged_near, marks_by};
-ghost use Rattle.guarded.specs.Dues.{dropped_by, expunged_of, gone_by_steps, gone_of, last_of, marked_in, marked_of, set_of};
-ghost use Rattle.guarded.specs.Removals.{AreRemovals, removes_far};
+ghost use Rattle.guarded.specs.Dues.{after, always, until, later, gone_by, dropped_near, marked_by, marked_far, set_by, expunged_by, expunged_near, marks_by, near_marks_by, pulled_by};
+ghost use Rattle.guarded.specs.Dues.{dropped_by, expunged_of, gone_of, last_of, marked_in, marked_of, set_of};
+ghost use Rattle.guarded.specs.Removals.{AreRemovals, clears, is_empty, marks_for_gone, removes_far};
 
 use crate::due::Due;
 use crate::guard::Change;
@@ -25,6 +25,10 @@ pub(crate) struct Removals {
     pub(crate) marked: Dues,
     /// The far messages that it marks as deleted since their counterparts are removed.
     pub(crate) marks: Uids,
+    /// The near messages that it marks as deleted since their counterparts are removed.
+    pub(crate) near_marks: Uids,
+    /// The far messages whose marks as deleted it carries over to the near ones.
+    pub(crate) pulled: Uids,
     /// The far messages that it removes, each once it is removed.
     pub(crate) expunged: Dues,
 }
@@ -32,12 +36,14 @@ pub(crate) struct Removals {
 impl Removals {
     /// Nothing is removed.
     pub(crate) fn none(alloc: Global) -> Self
-        ensures { result ≡ record { gone = []; marked = []; marks = []; expunged = [] } }
+        ensures { result ≡ record { gone = []; marked = []; marks = []; near_marks = []; pulled = []; expunged = [] } }
     {
         Removals {
             gone: Dues::none(alloc),
             marked: Dues::none(alloc),
             marks: Uids::none(alloc),
+            near_marks: Uids::none(alloc),
+            pulled: Uids::none(alloc),
             expunged: Dues::none(alloc),
         }
     }
@@ -49,15 +55,36 @@ impl Removals {
         let steps = plan.steps.as_slice();
         let expunged = Dues::sorted(expunged_of(alloc, steps)?);
         let set = Dues::sorted(set_of(alloc, steps)?);
-        let gone = gone_of(alloc, steps, plan.notes.as_slice(), &expunged)?;
+        let gone = gone_of(alloc, steps, plan.notes.as_slice())?;
         let marked = marked_of(alloc, steps, &expunged, &set)?;
         let marks = marks_of(alloc, steps)?;
+        let near_marks = near_marks_of(alloc, steps)?;
+        let pulled = pulled_of(alloc, steps)?;
         Ok(Removals {
             gone: Dues::sorted(gone),
             marked: Dues::sorted(marked),
             marks: Uids::sorted(marks),
+            near_marks: Uids::sorted(near_marks),
+            pulled: Uids::sorted(pulled),
             expunged,
         })
+    }
+
+    /// Whether a message of this side is marked as deleted since its counterpart is removed.
+    pub(crate) fn marks_for_gone(&self, side: Side, uid: Uid) -> bool
+        ensures { result ≡ marks_for_gone self.now side uid }
+    {
+        match side {
+            Side::Far => self.marks.has(uid),
+            Side::Near => self.near_marks.has(uid),
+        }
+    }
+
+    /// Whether it removes far messages, or carries marks as deleted over from them.
+    pub(crate) fn has_far_marks(&self) -> bool
+        ensures { result ≡ not (is_empty self.now.expunged && is_empty self.now.pulled) }
+    {
+        !(self.expunged.as_slice().is_empty() && self.pulled.as_slice().is_empty())
     }
 
     /// Whether a call removes a far message, or marks it since its counterpart is removed.
@@ -72,17 +99,22 @@ impl Removals {
     }
 }
 
-/// The near messages that these steps and notes take to be removed, where the steps remove these far ones.
-fn gone_of(
-    alloc: Global,
-    steps: &[Step],
-    notes: &[Note],
-    far: &Dues,
-) -> Result<Vec<Due>, AllocError>
-    ensures { IfOk result (λ dues. dues.items ≡ gone_of far.now steps.now notes.now) }
+/// Whether a call clears flags, and so removes nothing.
+pub(crate) fn clears(change: Change) -> bool
+    ensures { result ≡ clears change }
+{
+    match change {
+        Change::RemoveFlags(_) => true,
+        Change::Copy | Change::AddFlags(_) | Change::Expunge(_) => false,
+    }
+}
+
+/// The near messages that these steps and notes take to be removed.
+fn gone_of(alloc: Global, steps: &[Step], notes: &[Note]) -> Result<Vec<Due>, AllocError>
+    ensures { IfOk result (λ dues. dues.items ≡ gone_of steps.now notes.now) }
 {
     let expunged = Uids::sorted(near_expunged_of(alloc, steps)?);
-    let mut gone = gone_by_steps(alloc, steps, far)?;
+    let mut gone = gone_by_steps(alloc, steps)?;
     gone.extend_from_slice(&dropped_of(alloc, notes, &expunged)?)?;
     Ok(gone)
 }
@@ -94,15 +126,11 @@ fn near_expunged_of(alloc: Global, steps: &[Step]) -> Result<Vec<Uid>, AllocErro
     steps.iter().filter_map(expunged_near).collect(alloc)
 }
 
-/// The near messages that these steps take to be removed, where they remove these far ones.
-fn gone_by_steps(alloc: Global, steps: &[Step], far: &Dues) -> Result<Vec<Due>, AllocError>
-    ensures { IfOk result (λ dues. dues.items ≡ gone_by_steps far.now steps.now) }
+/// The near messages that these steps take to be removed.
+fn gone_by_steps(alloc: Global, steps: &[Step]) -> Result<Vec<Due>, AllocError>
+    ensures { IfOk result (λ dues. dues.items ≡ filter_map gone_by steps.now) }
 {
-    steps
-        .iter()
-        .enumerate()
-        .filter_map(|(number, step)| gone_by(last_of(number, step, far), step))
-        .collect(alloc)
+    steps.iter().filter_map(gone_by).collect(alloc)
 }
 
 /// The near messages of entries that go, but for those that steps remove.
@@ -163,6 +191,20 @@ fn marks_of(alloc: Global, steps: &[Step]) -> Result<Vec<Uid>, AllocError>
     ensures { IfOk result (λ uids. uids.items ≡ filter_map marks_by steps.now) }
 {
     steps.iter().filter_map(marks_by).collect(alloc)
+}
+
+/// The near messages that these steps mark as deleted since their counterparts are removed.
+fn near_marks_of(alloc: Global, steps: &[Step]) -> Result<Vec<Uid>, AllocError>
+    ensures { IfOk result (λ uids. uids.items ≡ filter_map near_marks_by steps.now) }
+{
+    steps.iter().filter_map(near_marks_by).collect(alloc)
+}
+
+/// The far messages whose marks as deleted these steps carry over to near ones.
+fn pulled_of(alloc: Global, steps: &[Step]) -> Result<Vec<Uid>, AllocError>
+    ensures { IfOk result (λ uids. uids.items ≡ filter_map pulled_by steps.now) }
+{
+    steps.iter().filter_map(pulled_by).collect(alloc)
 }
 
 /// The last step for which the near message of a step is asked about: the far one that it marks may be removed by a later one.
@@ -229,16 +271,16 @@ fn after(number: usize, uid: Uid) -> Due
     }
 }
 
-/// The near message that a step takes to be removed, until a step is logged.
-fn gone_by(last: usize, step: &Step) -> Option<Due>
-    ensures { result ≡ gone_by last step.now }
+/// The near message that a step takes to be removed. That its entry has its far side alone is recorded at the end of the plan.
+fn gone_by(step: &Step) -> Option<Due>
+    ensures { result ≡ gone_by step.now }
 {
     match *step {
         Step::Gone {
             direction: Direction::Push,
             near,
             ..
-        } => Some(until(last, near)),
+        } => Some(always(near)),
         _ => None,
     }
 }
@@ -302,6 +344,35 @@ fn marks_by(step: &Step) -> Option<Uid>
             far,
             ..
         } => Some(far),
+        _ => None,
+    }
+}
+
+/// The near message that a step marks as deleted since its counterpart is removed.
+fn near_marks_by(step: &Step) -> Option<Uid>
+    ensures { result ≡ near_marks_by step.now }
+{
+    match *step {
+        Step::Gone {
+            direction: Direction::Pull,
+            near,
+            ..
+        } => Some(near),
+        _ => None,
+    }
+}
+
+/// The far message whose mark as deleted a step carries over to the near one.
+fn pulled_by(step: &Step) -> Option<Uid>
+    ensures { result ≡ pulled_by step.now }
+{
+    match *step {
+        Step::Flags {
+            direction: Direction::Pull,
+            far,
+            set,
+            ..
+        } if set.has(Flag::Deleted) => Some(far),
         _ => None,
     }
 }

@@ -111,6 +111,13 @@ impl Uids {
         Uids { list }
     }
 
+    /// All of them.
+    pub(crate) fn as_slice(&self) -> &[Uid]
+        ensures { result.now ≡ self.now }
+    {
+        &self.list
+    }
+
     /// Whether a message is one of these.
     pub(crate) fn has(&self, uid: Uid) -> bool
         ensures { result ≡ list_any (λ one. one == uid) self.now }

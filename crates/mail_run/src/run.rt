@@ -16,6 +16,7 @@ use crate::boxes::{refused_channel, refused_name};
 use crate::failure::StartFailure;
 use crate::generator::generator;
 use crate::screen::{ProgressLine, Screen, Wiping};
+use crate::sharing::refuse_shared;
 use crate::shown_stores::ShownStores;
 use crate::sources::{open_config, read_fresh, read_home, read_seed};
 use channels::run::run_config;
@@ -52,18 +53,20 @@ pub(crate) struct Start {
 }
 
 /// Reads what a run needs: HOME, the configuration, which is that of this file if one is named, 32 random bytes and the clock, in this
-/// order.
+/// order. Of no two channels of the configuration the folders are shared (`refuse_shared`).
 pub(crate) fn start_of<R: Files + Env + Clock + AllocGlobal>(
     rt: &R,
     file: Option<&str>,
 ) -> Result<Start, StartFailure> {
     let home = read_home(rt)?;
     let config = open_config(rt, file, home.as_deref())?;
+    let home = Home::new(home);
     refuse_boxes(rt.alloc(), &config)?;
+    refuse_shared(rt, &config, &home)?;
     let seen_by = first_keywords(rt.alloc(), &config)?;
     Ok(Start {
         config,
-        home: Home::new(home),
+        home,
         seed: read_seed(rt)?,
         fresh: read_fresh(rt)?,
         notes: ServerNotes::new(rt.alloc())?,
@@ -95,8 +98,8 @@ fn refuse_boxes(alloc: Global, config: &Config) -> Result<(), StartFailure>
 
 /// Does what a command line asks for, over the servers and the folders of its configuration (`channels::run::run_config`). The file of the
 /// configuration is that of the command line, or else `.mbsyncrc` in HOME. It gives the exit status: 1 also where a file cannot be read,
-/// or where the configuration is a bad one or names a mailbox that no Maildir store can have, which `err` gets a line about
-/// (docs/MBSYNC.md, "What is printed").
+/// or where the configuration is a bad one, names a mailbox that no Maildir store can have, or would keep unlike mailboxes in one folder, which
+/// `err` gets a line about (docs/MBSYNC.md, "What is printed").
 ///
 /// Where there is a terminal, a line of it shows which mailbox is at work, and how many steps of its plan are logged; it is wiped before
 /// anything is written to `out` or `err`.

@@ -72,6 +72,10 @@ fn refused_text(
             let path = path_text(alloc, place.folder, &file)?;
             Ok(StopCause::Standing(path, uid))
         }
+        Objection::Hidden(uid, file) => {
+            let path = path_text(alloc, place.folder, &file)?;
+            Ok(StopCause::Hidden(path, uid))
+        }
         Objection::Kept(uid, file) => {
             let path = path_text(alloc, place.folder, &file)?;
             Ok(StopCause::Kept(path, uid))
@@ -80,6 +84,7 @@ fn refused_text(
             let store = String::from_str(alloc, place.store)?;
             Ok(StopCause::Undeleted(store, uid))
         }
+        Objection::Restored(side, uid) => Ok(StopCause::Restored(side, uid)),
         Objection::Unlooked(trouble) => {
             let folder = String::from_str(alloc, place.folder)?;
             Ok(StopCause::Disk(folder, trouble))

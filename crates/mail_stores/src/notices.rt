@@ -7,6 +7,7 @@ ghost use Rattle.mail_stores.specs.Notices.{IsFor};
 use crate::asked::{Asked, escaped};
 use channels::channel_box::ChannelStores;
 use channels::notice::Notice;
+use config::config::Boxes;
 use link_face::words::Words;
 use std::alloc::{AllocError, Global};
 use std::mem;
@@ -41,7 +42,7 @@ impl Notices {
     }
 
     /// Takes out what is to be printed over a channel. A mailbox that is left out, and that the channel could not choose, waits for one that
-    /// could.
+    /// could; what may not be read waits for one with patterns.
     pub(crate) fn take(&mut self, of: ChannelStores<'_>) -> Vec<Notice>
         ensures { All (IsFor (joined_of of.entry)) result.items }
     {
@@ -116,6 +117,21 @@ impl Notices {
         Ok(())
     }
 
+    /// Notes what may not be read below the path of a near store, each once. Where memory runs out some is not.
+    pub(crate) fn leave_unread(&mut self, paths: &[String]) {
+        for path in paths {
+            let _ = self.try_leave_unread(path.as_str());
+        }
+    }
+
+    fn try_leave_unread(&mut self, path: &str) -> Result<(), AllocError> {
+        let path = escaped(self.alloc, path.as_bytes())?;
+        if add_once(&mut self.unnamed, path.clone()?)? {
+            self.coming.push(Notice::Unread(path))?;
+        }
+        Ok(())
+    }
+
     fn alert(&mut self, store: &str, text: String) -> Result<(), AllocError> {
         let store = String::from_str(self.alloc, store)?;
         self.coming.push(Notice::Alert(store, text))?;
@@ -140,6 +156,7 @@ fn is_for(of: ChannelStores<'_>, notice: &Notice) -> bool
 {
     match notice {
         Notice::Skipped(store, name) => of.could_choose(store.as_str(), name.as_str()),
+        Notice::Unread(_) => matches!(of.channel.boxes, Boxes::Matching(_)),
         Notice::Unnamed(_) | Notice::Alert(..) => true,
     }
 }

@@ -179,6 +179,7 @@ impl<
         for name in &found.skipped {
             self.notices.skip(store.name.as_str(), name.as_str());
         }
+        self.notices.leave_unread(&found.unread);
         let alloc = self.reach.rt.alloc();
         let NearBoxes { names, looks, .. } = found;
         match NearNames::of(alloc, names) {

@@ -82,6 +82,7 @@ impl<
     {
         let folder = self.reach.folder_of(place)?;
         let _lock = Lock::take_made(&self.reach.rt, folder.as_str())?;
+        self.reach.former_runs(folder.as_str())?;
         let files = self.near_files(folder.as_str())?;
         let keywords = &reader.options.keywords;
         let mut far = self.far_side(place, keywords).map_err(LockFault::Refused)?;
@@ -117,6 +118,7 @@ impl<
     {
         let folder = self.reach.folder_of(place)?;
         let _lock = Lock::take_made(&self.reach.rt, folder.as_str())?;
+        self.reach.former_runs(folder.as_str())?;
         let files = self.near_files(folder.as_str())?;
         let (files, read) = reader.text_of_near(files, self.reach.fresh);
         self.note_world(place, folder.as_str(), &files);

@@ -2,10 +2,14 @@
 #![tactic(auto)]
 
 pub mod boxes;
+pub mod former;
 pub mod fresh;
 pub mod home;
 pub mod lock;
 pub mod looks;
 pub mod names;
+mod overlap;
 pub mod refusal;
+pub mod shared;
+pub mod store_paths;
 mod tree;

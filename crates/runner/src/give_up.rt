@@ -1,8 +1,10 @@
-//! A plan that has become wrong is given up: neither mailbox is changed, and what it has copied is recorded.
+//! A plan that has become wrong is given up: what it has copied is recorded, and marks that it has set are taken back where they would remove
+//! what was kept. Nothing else of either mailbox is changed.
 
-ghost use Rattle.std.specs.Prelude.{◌≡◌, ◌⊎◌, false, is_some, true, Some, OnOk, OnErr, IfOk};
+ghost use Rattle.std.specs.Prelude.{◌≡◌, ◌⊎◌, false, is_some, true, Option, Some, OnOk, OnErr, IfOk};
 ghost use Rattle.mailcore.specs.Operations.{marked_from};
 ghost use Rattle.rules.specs.declared.state.SyncState.{SyncState as State};
+ghost use Rattle.sync_state.specs.declared.journal.Journal.{Journal};
 ghost use Rattle.sync_state.specs.declared.journal.WrittenJournal.{WrittenJournal};
 ghost use Rattle.sync_state.specs.declared.journal.Logged.TheVariants.{Copied};
 ghost use Rattle.book.specs.declared.book.Pending.{Pending};
@@ -15,18 +17,19 @@ ghost use Rattle.outside.specs.Devices.{box};
 ghost use Rattle.outside.specs.Opened.{IsBook, IsHeld, journal_in, journal_of, turned};
 ghost use Rattle.run_states.specs.Openings.{IsIdle};
 ghost use Rattle.run_states.specs.Plans.{first_uid as first_of};
-ghost use Rattle.runner.specs.Asking.{Looks};
+ghost use Rattle.runner.specs.Asking.{Looks, LooksAndClears};
 ghost use Rattle.runner.specs.Before.{HasPlan};
 ghost use Rattle.runner.specs.Faults.{ReportsUnread, because, or_refused, or_unread};
-ghost use Rattle.runner.specs.GivingUp.{Counted, GivesUpRead, GivesUpSo, HoldsLeft, HoldsLeftOf, InLook, IsReady, KeepsAll, KeepsBoxes, LeavesRead, NotesCopy, StillPending, giving_up_reasons};
+ghost use Rattle.runner.specs.GivingUp.{Counted, GivesUpRead, GivesUpSo, HoldsLeft, HoldsLeftOf, InLook, IsMarkIn, IsPending, IsPendingOrBack, IsReady, KeepsAll, KeepsBoxes, KeepsButMarks, LeavesRead, NotesCopy, StillPending, TakesBack, TakesBackOf, TakesBackRead, giving_up_reasons};
 ghost use Rattle.runner.specs.Going.{AreOpen, CopiesUnder, FitsNext, IsGoing, next_at, number_at, plan_at};
 ghost use Rattle.runner.specs.Parts.{IsStuck, Never};
 ghost use Rattle.runner.specs.Validities.{AnswersChanged, BothSame, HasSame, IsKept, IsOther, IsSame, OpensBoth, OpensBox, ReportsChange, ReportsOther};
 
 use crate::fault::{RunFault, call_fault, step_fault};
-use crate::half_entries::lost_sides;
+use crate::half_entries::look_both;
 use crate::opening::recorded_validity;
-use crate::pending::{first_uid, next_step};
+use crate::pending::{first_uid, next_number, next_step};
+use crate::taking_back::take_all_back;
 use book::lost_sides::LostSides;
 use mailcore::side::{Direction, Side};
 use mailcore::tuid::Tuid;
@@ -165,6 +168,7 @@ fn seek_and_log<O: Outside>(
     ensures was_honest { O.honest outside.new → O.honest outside.old }
     ensures keywords { O.keywords outside.new ≡ O.keywords outside.old }
     ensures plan { OnOk result (HasPlan (O.opened outside.new)) }
+    ensures same_plan { OnOk result (plan_at (O.opened outside.new) ≡ plan_at (O.opened outside.old)) }
     ensures notes { OnOk result (O.honest outside.new → NotesCopy O.ours (O.opened outside.old) (O.opened outside.new)
         (O.seen outside.old).device) }
     ensures held { OnOk result (O.honest outside.new → IsHeld (O.opened outside.old) (O.seen outside.old).device
@@ -191,6 +195,7 @@ fn note_step<O: Outside>(outside: &mut O, number: usize, step: Step) -> Result<(
     ensures was_honest { O.honest outside.new → O.honest outside.old }
     ensures keywords { O.keywords outside.new ≡ O.keywords outside.old }
     ensures plan { OnOk result (HasPlan (O.opened outside.new)) }
+    ensures same_plan { OnOk result (plan_at (O.opened outside.new) ≡ plan_at (O.opened outside.old)) }
     ensures notes { OnOk result (O.honest outside.new → NotesCopy O.ours (O.opened outside.old) (O.opened outside.new)
         (O.seen outside.old).device) }
     ensures held { OnOk result (O.honest outside.new → IsHeld (O.opened outside.old) (O.seen outside.old).device
@@ -221,6 +226,7 @@ fn note_copy<O: Outside>(outside: &mut O) -> Result<(), RunFault>
     ensures was_honest { O.honest outside.new → O.honest outside.old }
     ensures keywords { O.keywords outside.new ≡ O.keywords outside.old }
     ensures plan { OnOk result (HasPlan (O.opened outside.new)) }
+    ensures same_plan { OnOk result (plan_at (O.opened outside.new) ≡ plan_at (O.opened outside.old)) }
     ensures notes { OnOk result (O.honest outside.new → NotesCopy O.ours (O.opened outside.old) (O.opened outside.new)
         (O.seen outside.old).device) }
     ensures held { OnOk result (O.honest outside.new → IsHeld (O.opened outside.old) (O.seen outside.old).device
@@ -259,8 +265,8 @@ fn leave<O: Outside>(outside: &mut O, lost: &LostSides) -> Result<(), RunFault>
     }
 }
 
-/// Looks which entries lose a side, and leaves the plan.
-fn look_and_leave<O: Outside>(alloc: Global, outside: &mut O) -> Result<(), RunFault>
+/// Looks which entries lose a side, takes marks back, and leaves the plan. A refusal is reported of the step of this number.
+fn look_and_leave<O: Outside>(alloc: Global, outside: &mut O, number: usize) -> Result<(), RunFault>
     requires plan { HasPlan (O.opened outside.old) }
     requires boxes { AreOpen (O.opened outside.old) }
     requires whole { (O.seen outside.old).is_broken ≡ false }
@@ -271,12 +277,19 @@ fn look_and_leave<O: Outside>(alloc: Global, outside: &mut O) -> Result<(), RunF
     ensures left { OnErr result (O.honest outside.new → IsHeld (O.opened outside.old) (O.seen outside.old).device
         → StillPending (O.opened outside.old) (O.seen outside.new).device ⊎ ((pending : Pending) × IsIdle pending
         × HoldsLeft O.ours O.alone (O.opened outside.old) pending (O.seen outside.old).device (O.seen outside.new).device)) }
-    ensures boxes { O.honest outside.new → KeepsBoxes O.ours O.alone (O.seen outside.old).device (O.seen outside.new).device }
-    ensures counted { Counted Never (O.honest outside.new) (O.seen outside.old) (O.seen outside.new) result }
-    ensures asked { O.asked outside.new ≡ O.asked outside.old }
+    ensures back { OnOk result (O.honest outside.new → TakesBack O.ours O.alone (O.keywords outside.old) (O.opened outside.old)
+        (O.seen outside.old).device (O.seen outside.new).device) }
+    ensures first { OnErr result (O.honest outside.new → IsHeld (O.opened outside.old) (O.seen outside.old).device
+        → StillPending (O.opened outside.old) (O.seen outside.new).device ⊎ TakesBack O.ours O.alone (O.keywords outside.old)
+        (O.opened outside.old) (O.seen outside.old).device (O.seen outside.new).device) }
+    ensures boxes { O.honest outside.new → KeepsButMarks O.ours O.alone (O.keywords outside.old) (journal_of (O.opened outside.old))
+        (O.seen outside.old).device (O.seen outside.new).device }
+    ensures counted { Counted (InLook number) (O.honest outside.new) (O.seen outside.old) (O.seen outside.new) result }
+    ensures asked { LooksAndClears O.noted (IsMarkIn (journal_of (O.opened outside.old))) (O.asked outside.old) (O.asked outside.new) }
 {
-    let lost = lost_sides(alloc, outside)?;
-    leave(outside, &lost)
+    let undone = look_both(alloc, outside)?;
+    take_all_back(outside, number, &undone)?;
+    leave(outside, &undone.lost)
 }
 
 /// Opens both boxes. `ValidityChanged`: a UIDVALIDITY is not the plan's.
@@ -318,7 +331,7 @@ fn get_ready<O: Outside>(outside: &mut O) -> Result<(), RunFault>
     mend_plan(outside)
 }
 
-/// Logs the copy that the step after the logged ones may have made, looks which entries lose a side, and leaves the plan.
+/// Logs the copy that the step after the logged ones may have made, looks which entries lose a side, takes marks back, and leaves the plan.
 fn finish_log<O: Outside>(alloc: Global, outside: &mut O) -> Result<(), RunFault>
     requires going { IsGoing (O.opened outside.old) }
     requires whole { (O.seen outside.old).is_broken ≡ false }
@@ -326,13 +339,20 @@ fn finish_log<O: Outside>(alloc: Global, outside: &mut O) -> Result<(), RunFault
     ensures keywords { O.keywords outside.new ≡ O.keywords outside.old }
     ensures gives_up { O.honest outside.new → IsHeld (O.opened outside.old) (O.seen outside.old).device
         → LeavesRead O.ours O.alone (O.opened outside.old) (O.seen outside.old).device (O.seen outside.new).device result }
-    ensures boxes { O.honest outside.new → KeepsBoxes O.ours O.alone (O.seen outside.old).device (O.seen outside.new).device }
+    ensures back { OnOk result (O.honest outside.new → TakesBackRead O.ours O.alone (O.keywords outside.old) (O.opened outside.old)
+        (O.seen outside.old).device (O.seen outside.new).device) }
+    ensures first { OnErr result (O.honest outside.new → IsHeld (O.opened outside.old) (O.seen outside.old).device
+        → IsPendingOrBack O.ours O.alone (O.keywords outside.old) (O.opened outside.old) (O.seen outside.old).device
+        (O.seen outside.new).device) }
+    ensures boxes { O.honest outside.new → KeepsButMarks O.ours O.alone (O.keywords outside.old) (journal_of (O.opened outside.old))
+        (O.seen outside.old).device (O.seen outside.new).device }
     ensures counted { Counted (InLook (number_at (O.opened outside.old))) (O.honest outside.new) (O.seen outside.old) (O.seen outside.new)
         result }
-    ensures asked { Looks O.noted (O.asked outside.old) (O.asked outside.new) }
+    ensures asked { LooksAndClears O.noted (IsMarkIn (journal_of (O.opened outside.old))) (O.asked outside.old) (O.asked outside.new) }
 {
+    let number = next_number(outside);
     note_copy(outside)?;
-    look_and_leave(alloc, outside)
+    look_and_leave(alloc, outside, number)
 }
 
 /// Gives up the plan that was read.
@@ -344,12 +364,18 @@ fn leave_plan<O: Outside>(alloc: Global, outside: &mut O) -> Result<bool, RunFau
     ensures answer { IfOk result (λ given_up. given_up ≡ true) }
     ensures gives_up { O.honest outside.new → IsHeld (O.opened outside.old) (O.seen outside.old).device
         → GivesUpRead O.ours O.alone (O.opened outside.old) (O.seen outside.old).device (O.seen outside.new).device result }
-    ensures boxes { O.honest outside.new → KeepsBoxes O.ours O.alone (O.seen outside.old).device (O.seen outside.new).device }
+    ensures back { OnOk result (O.honest outside.new → TakesBackRead O.ours O.alone (O.keywords outside.old) (O.opened outside.old)
+        (O.seen outside.old).device (O.seen outside.new).device) }
+    ensures first { OnErr result (O.honest outside.new → IsHeld (O.opened outside.old) (O.seen outside.old).device
+        → IsPendingOrBack O.ours O.alone (O.keywords outside.old) (O.opened outside.old) (O.seen outside.old).device
+        (O.seen outside.new).device) }
+    ensures boxes { O.honest outside.new → KeepsButMarks O.ours O.alone (O.keywords outside.old) (journal_of (O.opened outside.old))
+        (O.seen outside.old).device (O.seen outside.new).device }
     ensures counted { Counted (or_refused (λ step. step ≡ number_at (O.opened outside.old)) (because (λ at. ReportsChange
         (O.honest outside.new) O.alone (O.opened outside.old) (O.seen outside.old).device (O.seen outside.new).device at
         × AnswersChanged (O.opened outside.new) at) ⊥)) (O.honest outside.new)
         (O.seen outside.old) (O.seen outside.new) result }
-    ensures asked { Looks O.noted (O.asked outside.old) (O.asked outside.new) }
+    ensures asked { LooksAndClears O.noted (IsMarkIn (journal_of (O.opened outside.old))) (O.asked outside.old) (O.asked outside.new) }
 {
     get_ready(outside)?;
     match finish_log(alloc, outside) {
@@ -359,19 +385,37 @@ fn leave_plan<O: Outside>(alloc: Global, outside: &mut O) -> Result<bool, RunFau
 }
 
 /// Gives up the plan of the next run; true where one was pending. What it has copied is recorded, and the next run plans anew.
-/// Neither mailbox is changed. `ValidityChanged`: a UIDVALIDITY is not the plan's. `BadState(0)`: a copy has a UID that is taken.
+/// Marks that it has set are taken back where the other message is there, and is not marked; nothing else is changed. `ValidityChanged`: a UIDVALIDITY is not the plan's. `BadState(0)`: a copy has a UID that is taken.
 ///
 /// After an error the plan is still pending, or was given up, and this can be called again, once the outside was reopened.
 pub fn give_up<O: Outside>(alloc: Global, outside: &mut O) -> Result<bool, RunFault>
     ensures was_honest { O.honest outside.new → O.honest outside.old }
     ensures keywords { O.keywords outside.new ≡ O.keywords outside.old }
 
-    // Whatever others do meanwhile, and whatever calls answer: it reads the journal and looks for copies; it asks for no message to be
-    // copied, changed or removed.
-    ensures asked { Looks O.noted (O.asked outside.old) (O.asked outside.new) }
+    // Whatever others do meanwhile, and whatever calls answer: it reads the journal and looks for copies; and it asks for the mark of a message
+    // to be cleared that a step of the plan which was read marks as deleted. It asks for no message to be copied or
+    // removed, or changed otherwise.
+    ensures asked { (journal : Option Journal) × LooksAndClears O.noted (IsMarkIn journal) (O.noted (O.asked outside.old) (Read journal))
+        (O.asked outside.new) }
 
-    // Whatever the answer, both mailboxes are as they were, but for what others added.
-    ensures boxes { O.honest outside.new → KeepsBoxes O.ours O.alone (O.seen outside.old).device (O.seen outside.new).device }
+    // Whatever the answer, both mailboxes are as they were, but for what others added, and for such marks.
+    ensures boxes { O.honest outside.new → (s : State) (p : Pending) → Holds (O.seen outside.old).device.files s p
+        → KeepsButMarks O.ours O.alone (O.keywords outside.old) (journal_in p) (O.seen outside.old).device (O.seen outside.new).device }
+
+    // Where the files hold no book, no mark is taken back either.
+    ensures unread { O.honest outside.new → ((s : State) (p : Pending) → Holds (O.seen outside.old).device.files s p → ⊥)
+        → KeepsBoxes O.ours O.alone (O.seen outside.old).device (O.seen outside.new).device }
+
+    // If a plan is given up, exactly those marks are taken back whose message a step of the plan has marked, or may have, and whose other
+    // message is there, and is not marked.
+    ensures back { O.honest outside.new → (s : State) (w : WrittenJournal) → Holds (O.seen outside.old).device.files s (Planned w)
+        → OnOk result (TakesBackOf O.ours O.alone (O.keywords outside.old) s w.journal (O.seen outside.old).device
+        (O.seen outside.new).device) }
+
+    // They are taken back before the state that is left is written: if it fails, the plan is pending still, or they are.
+    ensures first { O.honest outside.new → (s : State) (w : WrittenJournal) → Holds (O.seen outside.old).device.files s (Planned w)
+        → OnErr result (IsPending s w.journal (O.seen outside.new).device ⊎ TakesBackOf O.ours O.alone (O.keywords outside.old) s w.journal
+        (O.seen outside.old).device (O.seen outside.new).device) }
 
     // It answers whether a plan was pending.
     ensures answer { O.honest outside.new → (s : State) (p : Pending) → Holds (O.seen outside.old).device.files s p

@@ -6,7 +6,7 @@ use test_scripts::reported::Reported;
 use test_scripts::words::Words;
 
 /// The words that the lines begin with.
-const WORDS: [&str; 26] = [
+const WORDS: [&str; 27] = [
     "far",
     "near",
     "box",
@@ -32,6 +32,7 @@ const WORDS: [&str; 26] = [
     "standing",
     "kept",
     "undeleted",
+    "restored",
     "unnamed",
 ];
 

@@ -15,6 +15,7 @@
 //! | `cut BOX STORE WHY` | a stop of its run is the server's of this store: `unreached`, `connection_refused`, `ended` or `dismissed` |
 //! | `standing BOX UID PATH`, `kept BOX UID PATH` | what stops its run is a near message that is there again, or is not marked as deleted |
 //! | `undeleted BOX UID STORE` | what stops its run is a message that the server of this store did not expunge |
+//! | `restored BOX UID SIDE` | what stops its run is a message of this side that was undeleted, and whose counterpart is gone |
 //! | `unnamed BOX PATH` | a file of this path waits, whose name is no Maildir name |
 //! | `left BOX PATH` | the file of this path cannot get a UID: it is reported after a run |
 //! | `steps BOX` | the progress of its run is printed after the question for it: `0/2 1/2 2/2` |

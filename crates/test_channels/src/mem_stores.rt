@@ -168,6 +168,9 @@ impl<'a> MemStores<'a> {
         if let Some((store, uid)) = self.message("undeleted", name) {
             return Some(StopCause::Undeleted(store, uid));
         }
+        if let Some((side, uid)) = self.message("restored", name) {
+            return Some(StopCause::Restored(Side::from_word(side.as_bytes())?, uid));
+        }
         if let Some(path) = self.facts.of("unread", name) {
             let path = String::from_str(self.alloc, path).ok()?;
             return Some(StopCause::Disk(path, Trouble::NoPermission));

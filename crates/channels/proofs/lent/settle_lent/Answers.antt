@@ -4,7 +4,7 @@ use Rattle.channels.specs.Lendings.{Reports}
 use Rattle.channels.proofs.lent.settle_lent.Goals as goal
 
 pub returns-in-Ok-clause-did : goal.returns-in-Ok-clause-did
-returns-in-Ok-clause-did g c = λ honest inputs at. record { settled = c.in-Ok.settled; answered = refl; is = c.in-Ok.ensures.done honest inputs at }
+returns-in-Ok-clause-did g c = λ honest inputs at. c.in-Ok.ensures.done honest inputs at
 
 -- after a refusal its step was looked for
 pub returns-in-Err-Refused-clause-did : goal.returns-in-Err-Refused-clause-did

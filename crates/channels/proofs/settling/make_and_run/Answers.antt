@@ -1,4 +1,4 @@
-use Rattle.std.proofs.Common.{◌≡◌, Err, arith, refl, inl}
+use Rattle.std.proofs.Common.{◌≡◌, Err, arith}
 use Rattle.std.proofs.lemmas.Grind.{common_steps}
 use Rattle.channels.proofs.StreamLemmas.{HasNotices-from, IfOk-before}
 use Rattle.std.proofs.lemmas.Result.{err_from_is_err_and}
@@ -8,7 +8,7 @@ use Rattle.channels.proofs.CourseLemmas.{Makes-same}
 use Rattle.channels.proofs.OrderLemmas.{Begun-unrun, SoFar-ran, SoFar-unmade}
 use Rattle.channels.specs.Runs.{MayRun}
 use Rattle.channels.proofs.LendLemmas.{IfClean-as, Lends-after, LendsNone-both, never_clean}
-use Rattle.channels.proofs.RunLemmas.{Lends-none}
+use Rattle.channels.proofs.RunLemmas.{Lends-none, MayRun-none}
 use Rattle.channels.proofs.settling.make_and_run.Goals as goal
 
 -- what the stores reported of the making, and then the run
@@ -58,10 +58,10 @@ returns-in_ok-report_notices-in-Ok-clause-runs g c = Lends-after (LendsNone-both
 
 pub returns-in_err-report_notices-in-Ok-clause-runs : goal.returns-in_err-report_notices-in-Ok-clause-runs
 returns-in_err-report_notices-in-Ok-clause-runs g c =
-    Lends-none (MayRun g.S.BoxLists.opening g.R.Rng.stream c.args.work.options.now (place_of c.args.place)) (inl refl)
+    Lends-none (MayRun g.S.BoxLists.opening g.R.Rng.stream c.args.work.options.now (place_of c.args.place)) (MayRun-none _ _ _ _)
     (LendsNone-both c.in-Ok.ensures.lent c.report_notices.ensures.lent)
 
 pub returns-in-Err-clause-runs : goal.returns-in-Err-clause-runs
 returns-in-Err-clause-runs g c =
-    Lends-none (MayRun g.S.BoxLists.opening g.R.Rng.stream c.args.work.options.now (place_of c.args.place)) (inl refl)
+    Lends-none (MayRun g.S.BoxLists.opening g.R.Rng.stream c.args.work.options.now (place_of c.args.place)) (MayRun-none _ _ _ _)
     (LendsNone-both c.in-Err.ensures.lent c.report.ensures.lent)

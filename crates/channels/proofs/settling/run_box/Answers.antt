@@ -1,137 +1,154 @@
-use Rattle.std.proofs.Common.{◌≡◌, List, Option, None, Ok, Err, option_map, arith, ap, ◌∙◌, refl, inl}
+use Rattle.std.proofs.Common.{◌≡◌, ℕ, List, Option, true, false, arith, refl, sym, ap, subst, ◌∙◌}
 use Rattle.std.specs.List.{fold}
 use Rattle.std.proofs.lemmas.Grind.{common_steps}
-use Rattle.channels.proofs.StreamLemmas.{IsQuiet-both, IsQuiet-from, stream_steps}
 use Rattle.std.proofs.lemmas.Result.{err_from_is_err_and}
-use Rattle.channels.specs.Asked.{Asked, Outcome, Ran, place_of}
-use Rattle.channels.specs.Asks.{run_attempts}
-use Rattle.channels.specs.Courses.{run_course}
-use Rattle.channels.specs.Outcomes.{has_void, outcome_of_box_fault, outcome_of_giving, outcome_of_pass}
-use Rattle.channels.proofs.CourseLemmas.{IsReportedOf-following, was_done}
-use Rattle.channels.proofs.OrderLemmas.{Begun-run, Begun-unrun, Goes-run, SoFar-fault}
-use Rattle.channels.specs.Lendings.{HasRunFrom, IsLent}
-use Rattle.channels.specs.Settlings.{IsBoxSettled}
+use Rattle.channels.proofs.StreamLemmas.{Extends-more, IsQuiet-both, IsQuiet-from}
+use Rattle.channels.specs.Streams.{Extends}
+use Rattle.channels.specs.Asked.{place_of}
+use Rattle.channels.specs.Outcomes.{plans_anew}
 use Rattle.channels.specs.Runs.{MayRun}
-use Rattle.channels.proofs.LendLemmas.{Lends-after, Lends-as, Lends-then, LendsNone-both, LendsNone-same, never_clean}
-use Rattle.channels.proofs.RunLemmas.{Lends-none, Lends-once}
+use Rattle.channels.proofs.OrderLemmas.{Begun-run, Begun-runs, Begun-unrun, Goes-run, Goes-runs, never_clean-anew, run_grown, settled_done}
+use Rattle.channels.proofs.LendLemmas.{Lends-after, Lends-then, LendsNone-same}
+use Rattle.channels.proofs.RunLemmas.{Lends-anew, Lends-none, Lends-once, Lends-settled, MayRun-none}
+use Rattle.channels.proofs.AnewLemmas.{RunsAnew-again, RunsAnew-once}
 use Rattle.channels.proofs.settling.run_box.Goals as goal
-
--- the answer and what was left out were reported, over what the run left as it was
-pub returns-in_ok-report_left_out-in-Ok-clause-quiet : goal.returns-in_ok-report_left_out-in-Ok-clause-quiet
-returns-in_ok-report_left_out-in-Ok-clause-quiet g c =
-    let same : g.E.Write.contents c.settle.new.self.err.now ≡ g.E.Write.contents c.args.stores.now.err.now = grind (arith, common_steps) in
-    IsQuiet-from _ _ _ _ same
-    (IsQuiet-both _ _ _ _ _ _ c.and.ensures c.in_ok-verdict-in-Ok.ensures.quiet c.in_ok-report_left_out-in-Ok.ensures.quiet)
-
-pub returns-in_ok-report_left_out-in-Ok-clause-whole : goal.returns-in_ok-report_left_out-in-Ok-clause-whole
-returns-in_ok-report_left_out-in-Ok-clause-whole g c = grind (arith, common_steps, stream_steps)
 
 -- a write failed before the run
 pub returns-in_err-print_box-clause-asked : goal.returns-in_err-print_box-clause-asked
 returns-in_err-print_box-clause-asked g c =
-    let p = err_from_is_err_and c.from_residual.result c.from_residual.ensures.1 in
-    let same : g.S.BoxLists.asked c.print_box.new.self.stores.now ≡ g.S.BoxLists.asked c.args.stores.now.stores.now = grind (arith, common_steps) in
-    rw p.1 (Begun-unrun g.S.BoxLists.noted c.args.work.options.now (place_of c.args.place) (g.S.BoxLists.asked c.args.stores.now.stores.now)
-    (g.S.BoxLists.asked c.print_box.new.self.stores.now) same)
-
--- or after it
-pub returns-in_err-verdict-in-Ok-clause-asked : goal.returns-in_err-verdict-in-Ok-clause-asked
-returns-in_err-verdict-in-Ok-clause-asked g c =
-    let ran : Asked = Ran (place_of c.args.place) c.args.work.options.now run_attempts (outcome_of_pass c.in-Ok.pass) in
-    let same : g.S.BoxLists.asked c.print_box.new.self.stores.now ≡ g.S.BoxLists.asked c.args.stores.now.stores.now = grind (arith, common_steps) in
-    let p = err_from_is_err_and c.from_residual-in_err-verdict-in-Ok.result c.from_residual-in_err-verdict-in-Ok.ensures.1 in
-    rw p.1 (Begun-run g.S.BoxLists.noted c.args.work.options.now (place_of c.args.place) (outcome_of_pass c.in-Ok.pass) None (g.S.BoxLists.asked c.args.stores.now.stores.now)
-    (g.S.BoxLists.asked c.print_answer.new.stores.stores.now)
-    (c.print_answer.ensures.asks.1 ∙ c.in-Ok.ensures.asks.1 ∙ ap (λ l. g.S.BoxLists.noted l ran) same))
-
-pub returns-in_err-report_left_out-in-Ok-clause-asked : goal.returns-in_err-report_left_out-in-Ok-clause-asked
-returns-in_err-report_left_out-in-Ok-clause-asked g c =
-    let ran : Asked = Ran (place_of c.args.place) c.args.work.options.now run_attempts (outcome_of_pass c.in-Ok.pass) in
-    let same : g.S.BoxLists.asked c.print_box.new.self.stores.now ≡ g.S.BoxLists.asked c.args.stores.now.stores.now = grind (arith, common_steps) in
-    let p = err_from_is_err_and c.from_residual-in_err-report_left_out-in-Ok.result c.from_residual-in_err-report_left_out-in-Ok.ensures.1 in
-    rw p.1 (Begun-run g.S.BoxLists.noted c.args.work.options.now (place_of c.args.place) (outcome_of_pass c.in-Ok.pass) None (g.S.BoxLists.asked c.args.stores.now.stores.now)
-    (g.S.BoxLists.asked c.report_left_out.new.stores.stores.now)
-    (c.report_left_out.ensures.asks.1 ∙ c.print_answer.ensures.asks.1 ∙ c.in-Ok.ensures.asks.1 ∙ ap (λ l. g.S.BoxLists.noted l ran) same))
-
--- it was run to an answer
-pub returns-in_ok-report_left_out-in-Ok-clause-asked : goal.returns-in_ok-report_left_out-in-Ok-clause-asked
-returns-in_ok-report_left_out-in-Ok-clause-asked g c =
-    let ran : Asked = Ran (place_of c.args.place) c.args.work.options.now run_attempts (outcome_of_pass c.in-Ok.pass) in
-    let same : g.S.BoxLists.asked c.print_box.new.self.stores.now ≡ g.S.BoxLists.asked c.args.stores.now.stores.now = grind (arith, common_steps) in
-    Goes-run g.S.BoxLists.noted c.args.work.options.now (place_of c.args.place) (outcome_of_pass c.in-Ok.pass) None c.and.result (g.S.BoxLists.asked c.args.stores.now.stores.now)
-    (g.S.BoxLists.asked c.report_left_out.new.stores.stores.now)
-    (c.report_left_out.ensures.asks.1 ∙ c.print_answer.ensures.asks.1 ∙ c.in-Ok.ensures.asks.1 ∙ ap (λ l. g.S.BoxLists.noted l ran) same)
-    (IsReportedOf-following (has_void c.in-Ok.pass) c.in_ok-verdict-in-Ok.verdict c.in_ok-report_left_out-in-Ok.field-0 c.and.result c.and.ensures c.in_ok-verdict-in-Ok.ensures.states
-    c.in_ok-report_left_out-in-Ok.ensures.goes_on)
-
--- or to a fault
-pub returns-in-Err-clause-asked : goal.returns-in-Err-clause-asked
-returns-in-Err-clause-asked g c =
-    let gave_up : Option Outcome = option_map outcome_of_giving c.in-Err.failure.giving_up in
-    let ran : List Asked = (run_course c.args.work.options.now (place_of c.args.place) (outcome_of_box_fault c.in-Err.failure.fault) gave_up).asked in
-    let same : g.S.BoxLists.asked c.print_box.new.self.stores.now ≡ g.S.BoxLists.asked c.args.stores.now.stores.now = grind (arith, common_steps) in
-    SoFar-fault g.S.BoxLists.noted c.args.work.options.now (place_of c.args.place) c.in-Err.failure.fault gave_up c.report_failure.result (g.S.BoxLists.asked c.args.stores.now.stores.now)
-    (g.S.BoxLists.asked c.report_failure.new.self.stores.now)
-    (c.report_failure.ensures.asks.1 ∙ c.in-Err.ensures.asks.1 ∙ ap (λ l. fold g.S.BoxLists.noted l ran) same) c.report_failure.ensures.verdict
-
--- without a fault it was done
-pub returns-in_ok-report_left_out-in-Ok-clause-asks : goal.returns-in_ok-report_left_out-in-Ok-clause-asks
-returns-in_ok-report_left_out-in-Ok-clause-asks g c =
-    let ran : Asked = Ran (place_of c.args.place) c.args.work.options.now run_attempts (outcome_of_pass c.in-Ok.pass) in
-    let same : g.S.BoxLists.asked c.print_box.new.self.stores.now ≡ g.S.BoxLists.asked c.args.stores.now.stores.now = grind (arith, common_steps) in
-    λ clean. c.report_left_out.ensures.asks.1 ∙ c.print_answer.ensures.asks.1 ∙ c.in-Ok.ensures.asks.1 ∙ ap (λ l. g.S.BoxLists.noted l ran) same
-    ∙ ap (λ o. g.S.BoxLists.noted (g.S.BoxLists.asked c.args.stores.now.stores.now) (Ran (place_of c.args.place) c.args.work.options.now run_attempts o))
-    (was_done (has_void c.in-Ok.pass) c.and.result
-    (IsReportedOf-following (has_void c.in-Ok.pass) c.in_ok-verdict-in-Ok.verdict c.in_ok-report_left_out-in-Ok.field-0 c.and.result c.and.ensures
-    c.in_ok-verdict-in-Ok.ensures.states c.in_ok-report_left_out-in-Ok.ensures.goes_on) clean)
-
--- and it is settled
-pub returns-in_ok-report_left_out-in-Ok-clause-settled : goal.returns-in_ok-report_left_out-in-Ok-clause-settled
-returns-in_ok-report_left_out-in-Ok-clause-settled g c = λ clean.
     let same : c.print_box.new.self.stores.now ≡ c.args.stores.now.stores.now = grind (arith, common_steps) in
-    Lends-as (IsLent (place_of c.args.place) (HasRunFrom g.S.BoxLists.opening c.args.work.options.now (g.R.Rng.stream c.args.rng.now) c.in-Ok.pass))
-    (IsBoxSettled g.S.BoxLists.opening g.R.Rng.stream c.args.work.options.now (place_of c.args.place))
-    (λ more ran. record {
-      rng = c.args.rng.now;
-      pass = c.in-Ok.pass;
-      ran = ran;
-      whole = was_done (has_void c.in-Ok.pass) c.and.result
-          (IsReportedOf-following (has_void c.in-Ok.pass) c.in_ok-verdict-in-Ok.verdict c.in_ok-report_left_out-in-Ok.field-0 c.and.result c.and.ensures
-          c.in_ok-verdict-in-Ok.ensures.states c.in_ok-report_left_out-in-Ok.ensures.goes_on) clean;
-    })
-    (Lends-after (LendsNone-same _ _ _ _ same) (Lends-then (Lends-then c.in-Ok.ensures.lent c.in_ok-verdict-in-Ok.ensures.lent)
-    c.in_ok-report_left_out-in-Ok.ensures.lent))
+    let p = err_from_is_err_and c.from_residual.result c.from_residual.ensures.1 in
+    rw p.1 (Begun-unrun g.S.BoxLists.noted c.args.work.options.now (place_of c.args.place) (g.S.BoxLists.asked c.args.stores.now.stores.now) (g.S.BoxLists.asked c.print_box.new.self.stores.now) (ap g.S.BoxLists.asked same))
 
--- of a fault it is not said
-pub returns-in-Err-clause-settled : goal.returns-in-Err-clause-settled
-returns-in-Err-clause-settled g c = never_clean _ c.report_failure.result c.report_failure.ensures.reported
-
--- whatever was reported, it was run once at most
 pub returns-in_err-print_box-clause-runs : goal.returns-in_err-print_box-clause-runs
 returns-in_err-print_box-clause-runs g c =
     let same : c.print_box.new.self.stores.now ≡ c.args.stores.now.stores.now = grind (arith, common_steps) in
-    Lends-none (MayRun g.S.BoxLists.opening g.R.Rng.stream c.args.work.options.now (place_of c.args.place)) (inl refl) (LendsNone-same _ _ _ _ same)
+    Lends-none (MayRun g.S.BoxLists.opening g.R.Rng.stream c.args.work.options.now (place_of c.args.place)) (MayRun-none _ _ _ _) (LendsNone-same _ _ _ _ same)
 
-pub returns-in_err-verdict-in-Ok-clause-runs : goal.returns-in_err-verdict-in-Ok-clause-runs
-returns-in_err-verdict-in-Ok-clause-runs g c =
+-- or after it
+pub returns-in_err-verdict-clause-asked : goal.returns-in_err-verdict-clause-asked
+returns-in_err-verdict-clause-asked g c =
     let same : c.print_box.new.self.stores.now ≡ c.args.stores.now.stores.now = grind (arith, common_steps) in
-    Lends-once g.S.BoxLists.opening g.R.Rng.stream c.args.work.options.now (place_of c.args.place) c.args.rng.now (Ok c.in-Ok.pass) (LendsNone-same _ _ _ _ same)
-    c.in-Ok.ensures.lent c.in_err-verdict-in-Ok.ensures.lent
+    let p = err_from_is_err_and c.from_residual-in_err-verdict.result c.from_residual-in_err-verdict.ensures.1 in
+    rw p.1 (Begun-run g.S.BoxLists.noted c.args.work.options.now (place_of c.args.place) c.settle-first.result (g.S.BoxLists.asked c.args.stores.now.stores.now) (g.S.BoxLists.asked c.report_run.new.stores.stores.now)
+    (run_grown g.S.BoxLists.noted c.args.work.options.now (place_of c.args.place) c.settle-first.result (g.S.BoxLists.asked c.args.stores.now.stores.now) (g.S.BoxLists.asked c.print_box.new.self.stores.now) (g.S.BoxLists.asked c.settle-first.new.self.stores.now) (g.S.BoxLists.asked c.report_run.new.stores.stores.now) (ap g.S.BoxLists.asked same) c.settle-first.ensures.asks.1 c.report_run.ensures.asks.1))
 
-pub returns-in_err-report_left_out-in-Ok-clause-runs : goal.returns-in_err-report_left_out-in-Ok-clause-runs
-returns-in_err-report_left_out-in-Ok-clause-runs g c =
+pub returns-in_err-verdict-clause-runs : goal.returns-in_err-verdict-clause-runs
+returns-in_err-verdict-clause-runs g c =
     let same : c.print_box.new.self.stores.now ≡ c.args.stores.now.stores.now = grind (arith, common_steps) in
-    Lends-once g.S.BoxLists.opening g.R.Rng.stream c.args.work.options.now (place_of c.args.place) c.args.rng.now (Ok c.in-Ok.pass) (LendsNone-same _ _ _ _ same)
-    c.in-Ok.ensures.lent (LendsNone-both c.in_ok-verdict-in-Ok.ensures.lent c.in_err-report_left_out-in-Ok.ensures.lent)
+    Lends-once g.S.BoxLists.opening g.R.Rng.stream c.args.work.options.now (place_of c.args.place) c.args.rng.now c.settle-first.result (LendsNone-same _ _ _ _ same) c.settle-first.ensures.lent c.report_run.ensures.lent
 
-pub returns-in_ok-report_left_out-in-Ok-clause-runs : goal.returns-in_ok-report_left_out-in-Ok-clause-runs
-returns-in_ok-report_left_out-in-Ok-clause-runs g c =
-    let same : c.print_box.new.self.stores.now ≡ c.args.stores.now.stores.now = grind (arith, common_steps) in
-    Lends-once g.S.BoxLists.opening g.R.Rng.stream c.args.work.options.now (place_of c.args.place) c.args.rng.now (Ok c.in-Ok.pass) (LendsNone-same _ _ _ _ same)
-    c.in-Ok.ensures.lent (LendsNone-both c.in_ok-verdict-in-Ok.ensures.lent c.in_ok-report_left_out-in-Ok.ensures.lent)
+-- it was run once
+pub returns-then-not-plans_anew-clause-quiet : goal.returns-then-not-plans_anew-clause-quiet
+returns-then-not-plans_anew-clause-quiet g c =
+    let same : g.E.Write.contents c.settle-first.new.self.err.now ≡ g.E.Write.contents c.args.stores.now.err.now = grind (arith, common_steps) in
+    IsQuiet-from _ _ _ _ same c.in_ok-verdict.ensures.quiet
 
-pub returns-in-Err-clause-runs : goal.returns-in-Err-clause-runs
-returns-in-Err-clause-runs g c =
+pub returns-then-not-plans_anew-clause-whole : goal.returns-then-not-plans_anew-clause-whole
+returns-then-not-plans_anew-clause-whole g c =
+    let printed = g.O.Write.contents c.print_box.new.self.out.now in
+    let reported = g.O.Write.contents c.report_run.new.stores.out.now in
+    let same : printed ≡ g.O.Write.contents c.settle-first.new.self.out.now = grind (arith, common_steps) in
+    Extends-more _ printed reported c.in_ok-print_box.ensures.whole (subst (λ (o : Option (List ℕ)). Extends o reported) (sym same) c.in_ok-verdict.ensures.whole)
+
+pub returns-then-not-plans_anew-clause-asked : goal.returns-then-not-plans_anew-clause-asked
+returns-then-not-plans_anew-clause-asked g c =
     let same : c.print_box.new.self.stores.now ≡ c.args.stores.now.stores.now = grind (arith, common_steps) in
-    Lends-once g.S.BoxLists.opening g.R.Rng.stream c.args.work.options.now (place_of c.args.place) c.args.rng.now (Err c.in-Err.failure) (LendsNone-same _ _ _ _ same)
-    c.in-Err.ensures.lent c.report_failure.ensures.lent
+    Goes-run g.S.BoxLists.noted c.args.work.options.now (place_of c.args.place) c.settle-first.result c.in_ok-verdict.verdict (g.S.BoxLists.asked c.args.stores.now.stores.now) (g.S.BoxLists.asked c.report_run.new.stores.stores.now)
+    (run_grown g.S.BoxLists.noted c.args.work.options.now (place_of c.args.place) c.settle-first.result (g.S.BoxLists.asked c.args.stores.now.stores.now) (g.S.BoxLists.asked c.print_box.new.self.stores.now) (g.S.BoxLists.asked c.settle-first.new.self.stores.now) (g.S.BoxLists.asked c.report_run.new.stores.stores.now) (ap g.S.BoxLists.asked same) c.settle-first.ensures.asks.1 c.report_run.ensures.asks.1) c.in_ok-verdict.ensures.states
+
+pub returns-then-not-plans_anew-clause-asks : goal.returns-then-not-plans_anew-clause-asks
+returns-then-not-plans_anew-clause-asks g c =
+    let same : c.print_box.new.self.stores.now ≡ c.args.stores.now.stores.now = grind (arith, common_steps) in
+    λ clean. (run_grown g.S.BoxLists.noted c.args.work.options.now (place_of c.args.place) c.settle-first.result (g.S.BoxLists.asked c.args.stores.now.stores.now) (g.S.BoxLists.asked c.print_box.new.self.stores.now) (g.S.BoxLists.asked c.settle-first.new.self.stores.now) (g.S.BoxLists.asked c.report_run.new.stores.stores.now) (ap g.S.BoxLists.asked same) c.settle-first.ensures.asks.1 c.report_run.ensures.asks.1)
+    ∙ ap (fold g.S.BoxLists.noted (g.S.BoxLists.asked c.args.stores.now.stores.now)) (settled_done c.args.work.options.now (place_of c.args.place) c.settle-first.result c.in_ok-verdict.verdict c.in_ok-verdict.ensures.states clean)
+
+pub returns-then-not-plans_anew-clause-settled : goal.returns-then-not-plans_anew-clause-settled
+returns-then-not-plans_anew-clause-settled g c =
+    let same : c.print_box.new.self.stores.now ≡ c.args.stores.now.stores.now = grind (arith, common_steps) in
+    Lends-settled g.S.BoxLists.opening g.R.Rng.stream c.args.work.options.now (place_of c.args.place) c.args.rng.now c.settle-first.result c.in_ok-verdict.verdict c.in_ok-verdict.ensures.states
+    (Lends-after (LendsNone-same _ _ _ _ same) (Lends-then c.settle-first.ensures.lent c.report_run.ensures.lent))
+
+pub returns-then-not-plans_anew-clause-runs : goal.returns-then-not-plans_anew-clause-runs
+returns-then-not-plans_anew-clause-runs g c =
+    let same : c.print_box.new.self.stores.now ≡ c.args.stores.now.stores.now = grind (arith, common_steps) in
+    Lends-once g.S.BoxLists.opening g.R.Rng.stream c.args.work.options.now (place_of c.args.place) c.args.rng.now c.settle-first.result (LendsNone-same _ _ _ _ same) c.settle-first.ensures.lent c.report_run.ensures.lent
+
+pub returns-then-not-plans_anew-clause-anew : goal.returns-then-not-plans_anew-clause-anew
+returns-then-not-plans_anew-clause-anew g c =
+    let same : c.print_box.new.self.stores.now ≡ c.args.stores.now.stores.now = grind (arith, common_steps) in
+    let once : plans_anew c.settle-first.result ≡ false = grind (arith, common_steps) in
+    RunsAnew-once g.S.BoxLists g.R.Rng.stream c.args.work.options.now (place_of c.args.place) c.args.rng.now c.settle-first.result c.args.stores.now.stores.now c.print_box.new.self.stores.now
+    c.settle-first.new.self.stores.now c.report_run.new.stores.stores.now same
+    (record { asked = c.settle-first.ensures.asks.1; answered = c.settle-first.ensures.answered; lent = c.settle-first.ensures.lent }) once c.report_run.ensures.ends
+
+-- it was run once more, and a write failed after that
+pub returns-in_err-later-clause-asked : goal.returns-in_err-later-clause-asked
+returns-in_err-later-clause-asked g c =
+    let same : c.print_box.new.self.stores.now ≡ c.args.stores.now.stores.now = grind (arith, common_steps) in
+    let anew : plans_anew c.settle-first.result ≡ true = grind (arith, common_steps) in
+    let p = err_from_is_err_and c.from_residual-in_err-later.result c.from_residual-in_err-later.ensures.1 in
+    rw p.1 (Begun-runs g.S.BoxLists.noted c.args.work.options.now (place_of c.args.place) c.settle-first.result c.settle-again.result (g.S.BoxLists.asked c.args.stores.now.stores.now) (g.S.BoxLists.asked c.report_run.new.stores.stores.now) (g.S.BoxLists.asked c.report_run-2.new.stores.stores.now) anew
+    (run_grown g.S.BoxLists.noted c.args.work.options.now (place_of c.args.place) c.settle-first.result (g.S.BoxLists.asked c.args.stores.now.stores.now) (g.S.BoxLists.asked c.print_box.new.self.stores.now) (g.S.BoxLists.asked c.settle-first.new.self.stores.now) (g.S.BoxLists.asked c.report_run.new.stores.stores.now) (ap g.S.BoxLists.asked same) c.settle-first.ensures.asks.1 c.report_run.ensures.asks.1)
+    (run_grown g.S.BoxLists.noted c.args.work.options.now (place_of c.args.place) c.settle-again.result (g.S.BoxLists.asked c.report_run.new.stores.stores.now) (g.S.BoxLists.asked c.report_run.new.stores.stores.now) (g.S.BoxLists.asked c.settle-again.new.self.stores.now) (g.S.BoxLists.asked c.report_run-2.new.stores.stores.now) refl c.settle-again.ensures.asks.1 c.report_run-2.ensures.asks.1))
+
+pub returns-in_err-later-clause-runs : goal.returns-in_err-later-clause-runs
+returns-in_err-later-clause-runs g c =
+    let same : c.print_box.new.self.stores.now ≡ c.args.stores.now.stores.now = grind (arith, common_steps) in
+    let anew : plans_anew c.settle-first.result ≡ true = grind (arith, common_steps) in
+    Lends-anew g.S.BoxLists.opening g.R.Rng.stream c.args.work.options.now (place_of c.args.place) c.args.rng.now c.settle-first.new.rng c.settle-first.result c.settle-again.result anew (LendsNone-same _ _ _ _ same)
+    c.settle-first.ensures.lent c.report_run.ensures.lent c.settle-again.ensures.lent c.report_run-2.ensures.lent
+
+-- or none did
+pub returns-clause-quiet : goal.returns-clause-quiet
+returns-clause-quiet g c =
+    let same : g.E.Write.contents c.settle-first.new.self.err.now ≡ g.E.Write.contents c.args.stores.now.err.now = grind (arith, common_steps) in
+    let between : g.E.Write.contents c.settle-again.new.self.err.now ≡ g.E.Write.contents c.report_run.new.stores.err.now = grind (arith, common_steps) in
+    IsQuiet-from _ _ _ _ same (IsQuiet-both _ _ _ _ _ _ c.and.ensures c.in_ok-verdict.ensures.quiet (IsQuiet-from _ _ _ _ between c.in_ok-later.ensures.quiet))
+
+pub returns-clause-whole : goal.returns-clause-whole
+returns-clause-whole g c =
+    let printed = g.O.Write.contents c.print_box.new.self.out.now in
+    let reported = g.O.Write.contents c.report_run.new.stores.out.now in
+    let last = g.O.Write.contents c.report_run-2.new.stores.out.now in
+    let same : printed ≡ g.O.Write.contents c.settle-first.new.self.out.now = grind (arith, common_steps) in
+    let between : reported ≡ g.O.Write.contents c.settle-again.new.self.out.now = grind (arith, common_steps) in
+    Extends-more _ printed last c.in_ok-print_box.ensures.whole
+    (Extends-more printed reported last (subst (λ (o : Option (List ℕ)). Extends o reported) (sym same) c.in_ok-verdict.ensures.whole)
+    (subst (λ (o : Option (List ℕ)). Extends o last) (sym between) c.in_ok-later.ensures.whole))
+
+pub returns-clause-asked : goal.returns-clause-asked
+returns-clause-asked g c =
+    let same : c.print_box.new.self.stores.now ≡ c.args.stores.now.stores.now = grind (arith, common_steps) in
+    let anew : plans_anew c.settle-first.result ≡ true = grind (arith, common_steps) in
+    Goes-runs g.S.BoxLists.noted c.args.work.options.now (place_of c.args.place) c.settle-first.result c.settle-again.result c.in_ok-verdict.verdict c.in_ok-later.later c.and.result (g.S.BoxLists.asked c.args.stores.now.stores.now) (g.S.BoxLists.asked c.report_run.new.stores.stores.now) (g.S.BoxLists.asked c.report_run-2.new.stores.stores.now) anew
+    (run_grown g.S.BoxLists.noted c.args.work.options.now (place_of c.args.place) c.settle-first.result (g.S.BoxLists.asked c.args.stores.now.stores.now) (g.S.BoxLists.asked c.print_box.new.self.stores.now) (g.S.BoxLists.asked c.settle-first.new.self.stores.now) (g.S.BoxLists.asked c.report_run.new.stores.stores.now) (ap g.S.BoxLists.asked same) c.settle-first.ensures.asks.1 c.report_run.ensures.asks.1)
+    (run_grown g.S.BoxLists.noted c.args.work.options.now (place_of c.args.place) c.settle-again.result (g.S.BoxLists.asked c.report_run.new.stores.stores.now) (g.S.BoxLists.asked c.report_run.new.stores.stores.now) (g.S.BoxLists.asked c.settle-again.new.self.stores.now) (g.S.BoxLists.asked c.report_run-2.new.stores.stores.now) refl c.settle-again.ensures.asks.1 c.report_run-2.ensures.asks.1)
+    c.in_ok-verdict.ensures.states c.in_ok-later.ensures.states c.and.ensures
+
+-- the fault of the first run was reported
+pub returns-clause-asks : goal.returns-clause-asks
+returns-clause-asks g c =
+    let anew : plans_anew c.settle-first.result ≡ true = grind (arith, common_steps) in
+    λ clean. absurd (never_clean-anew c.settle-first.result c.in_ok-verdict.verdict c.in_ok-later.later c.and.result anew c.in_ok-verdict.ensures.states c.and.ensures clean)
+
+pub returns-clause-settled : goal.returns-clause-settled
+returns-clause-settled g c =
+    let anew : plans_anew c.settle-first.result ≡ true = grind (arith, common_steps) in
+    λ clean. absurd (never_clean-anew c.settle-first.result c.in_ok-verdict.verdict c.in_ok-later.later c.and.result anew c.in_ok-verdict.ensures.states c.and.ensures clean)
+
+pub returns-clause-runs : goal.returns-clause-runs
+returns-clause-runs g c =
+    let same : c.print_box.new.self.stores.now ≡ c.args.stores.now.stores.now = grind (arith, common_steps) in
+    let anew : plans_anew c.settle-first.result ≡ true = grind (arith, common_steps) in
+    Lends-anew g.S.BoxLists.opening g.R.Rng.stream c.args.work.options.now (place_of c.args.place) c.args.rng.now c.settle-first.new.rng c.settle-first.result c.settle-again.result anew (LendsNone-same _ _ _ _ same)
+    c.settle-first.ensures.lent c.report_run.ensures.lent c.settle-again.ensures.lent c.report_run-2.ensures.lent
+
+pub returns-clause-anew : goal.returns-clause-anew
+returns-clause-anew g c =
+    let same : c.print_box.new.self.stores.now ≡ c.args.stores.now.stores.now = grind (arith, common_steps) in
+    let anew : plans_anew c.settle-first.result ≡ true = grind (arith, common_steps) in
+    RunsAnew-again g.S.BoxLists g.R.Rng.stream c.args.work.options.now (place_of c.args.place) c.args.rng.now c.settle-first.new.rng c.settle-first.result c.settle-again.result c.args.stores.now.stores.now
+    c.print_box.new.self.stores.now c.settle-first.new.self.stores.now c.report_run.new.stores.stores.now c.settle-again.new.self.stores.now c.report_run-2.new.stores.stores.now same
+    (record { asked = c.settle-first.ensures.asks.1; answered = c.settle-first.ensures.answered; lent = c.settle-first.ensures.lent }) anew c.report_run.ensures.asks.1
+    (record { asked = c.settle-again.ensures.asks.1; answered = c.settle-again.ensures.answered; lent = c.settle-again.ensures.lent }) c.report_run-2.ensures.ends

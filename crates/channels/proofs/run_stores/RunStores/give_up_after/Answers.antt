@@ -18,4 +18,4 @@ returns-then-is_stale-clause-asks g c =
 -- nothing is given up
 pub returns-else-is_stale-clause-lent : goal.returns-else-is_stale-clause-lent
 returns-else-is_stale-clause-lent g c =
-    Lends-none (IsGivenUpBy (place_of c.args.place) None) refl (LendsNone-same g.S.BoxLists.honest g.S.BoxLists.lent _ _ refl)
+    Lends-none (IsGivenUpBy c.args.options.now.keywords (place_of c.args.place) None) refl (LendsNone-same g.S.BoxLists.honest g.S.BoxLists.lent _ _ refl)

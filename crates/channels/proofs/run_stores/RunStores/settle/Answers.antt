@@ -7,4 +7,4 @@ use Rattle.channels.proofs.run_stores.RunStores.settle.Goals as goal
 pub returns-in-Err-clause-lent : goal.returns-in-Err-clause-lent
 returns-in-Err-clause-lent g c =
     Lends-both (OrNone (IsFailedRun g.S.BoxLists.opening c.args.options.now (g.R.Rng.stream c.args.rng.now) (place_of c.args.place)))
-    (IsGivenUpBy (place_of c.args.place) c.give_up_after-giving_up.result) c.in-Err.ensures.lent c.give_up_after-giving_up.ensures.lent
+    (IsGivenUpBy c.args.options.now.keywords (place_of c.args.place) c.give_up_after-giving_up.result) c.in-Err.ensures.lent c.give_up_after-giving_up.ensures.lent

@@ -1,6 +1,6 @@
 use Rattle.std.proofs.Common.{◌≡◌, List, None, true, rules, subst, sym}
 use Rattle.maildir.specs.declared.standing.NameReading.{NameReading}
-use Rattle.guarded.specs.declared.near_look.Watch.{Watch}
+use Rattle.guarded.specs.declared.watch.Watch.{Watch}
 use Rattle.guarded.specs.Watches.{Finds}
 use Rattle.guarded.proofs.near_look.NearLookGuard.may_begin.Goals as goal
 

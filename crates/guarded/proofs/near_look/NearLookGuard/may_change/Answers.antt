@@ -1,14 +1,13 @@
-use Rattle.std.proofs.Common.{◌≡◌, List, None, true, inl, rules, subst, sym}
-use Rattle.maildir.specs.declared.standing.NameReading.{NameReading}
-use Rattle.guarded.specs.declared.near_look.Watch.{Watch}
-use Rattle.guarded.specs.Watches.{Finds}
+use Rattle.std.proofs.Common.{refl, rules, tests}
+use Rattle.guarded.specs.Watches.{sight}
+use Rattle.guarded.proofs.Letting.{lets_after, lets_clear}
 use Rattle.guarded.proofs.near_look.NearLookGuard.may_change.Goals as goal
 
+pub returns-then-clears-clause-asked : goal.returns-then-clears-clause-asked
+returns-then-clears-clause-asked g c = lets_clear c.args.change c.args.uid _ _ (search (rules, tests)) refl
+
 pub returns-clause-asked : goal.returns-clause-asked
-returns-clause-asked g c = λ on.
-    let went_on : c.args.self.now.goes_on ≡ true = search rules in
-    let clear : c.look.new.self.watch.is_clear ≡ true = search rules in
-    let found = subst (λ (w : Watch). Finds w None c.args.self.now.readings.items c.look.new.self.readings.items) (sym c.look.ensures.watch) (c.look.ensures.clear clear) in
-    let seen = subst (λ (w : Watch). Finds w None c.args.self.now.readings.items c.look.new.self.readings.items) (sym c.looked.ensures.watch) found in
-    let same : c.look.new.self.readings.items ≡ c.looked.new.self.readings.items = search rules in
-    (went_on, inl (subst (λ (rs : List NameReading). Finds c.looked.new.self.watch None c.args.self.now.readings.items rs) same seen))
+returns-clause-asked g c =
+    let mid = c.look_if_due.new.self in
+    lets_after c.args.change c.args.uid _ (sight mid.given mid.far_recorded mid.near_recorded mid.watch mid.goes_on mid.readings.items) _ c.restored_by-restored.result (search (rules, tests))
+    c.restored_by-restored.ensures c.look_if_due.ensures.went_on c.look_if_due.ensures.looked c.note_if.ensures.goes_on c.note_if.ensures.watch (search rules)
