@@ -24,7 +24,7 @@ use Rattle.sync_state.specs.JournalText.{HasJournal, bottom}
 use Rattle.book.specs.Agreement.{Agrees, is_pair}
 use Rattle.book.specs.Committed.{entries_of_copies}
 use Rattle.book.specs.EntryOrders.{IsNotAfter}
-use Rattle.book.specs.GivingUp.{entry_past, flags_at, flags_after, half_of, left_entry, loses, without}
+use Rattle.book.specs.GivingUp.{entry_past, flags_at, flags_after, half_of, is_unmarked, left_entry, loses, unmarked_of, without, without_mark}
 use Rattle.book.specs.LostSides.{Lost, lost_on}
 use Rattle.book.proofs.EntryPairLemmas.{Apart, AllPairs-append, AllPairs-map, ArePairs-from, apart_from_pairs, apart_moved}
 use Rattle.book.proofs.CopiedUids.{Fresh, copies_are}
@@ -91,10 +91,20 @@ half_kept : (side : Side) (t : Bool) (e b other : Entry) → IsSamePair e b → 
 half_kept side true e b other k full kept = without_kept side e b k (full refl)
 half_kept side false e b other k full kept = kept
 
+-- a mark that is not recorded changes neither side
+then_same : (e b c : Entry) → IsSamePair e b → IsSamePair b c → IsSamePair e c
+then_same e b c p q = record { far = q.far ∙ p.far; near = q.near ∙ p.near; flags = λ h. q.flags (p.flags h) }
+
+unmarked_same : (lost : Lost) (b : Entry) → IsSamePair b (unmarked_of lost b)
+unmarked_same lost b = cond_both (is_unmarked lost b) (without_mark b) b (λ (c : Entry). IsSamePair b c)
+    (λ _. record { far = refl; near = refl; flags = λ h. minus-lt b.flags (2 ^ DELETED) })
+    (λ _. record { far = refl; near = refl; flags = λ h. h })
+
 pub left_kept : (j : Journal) (lost : Lost) (e : Entry) → IsKeptPair e (left_entry j lost e)
 left_kept j lost e =
-    let b = entry_past j.plan.steps j.log e in
-    let same = same_pair j.plan.steps j.log e in
+    let past = entry_past j.plan.steps j.log e in
+    let b = unmarked_of lost past in
+    let same = then_same e past b (same_pair j.plan.steps j.log e) (unmarked_same lost past) in
     let full : (side : Side) → loses lost side b ≡ true → is_full b ≡ true = λ side t. (and_parts (is_full b) (list_any (λ u. u == uid_of Far b) (lost_on lost side)) t).0 in
     half_kept Far (loses lost Far b) e b (cond (loses lost Near b) (without Near b) b) same (full Far)
     (half_kept Near (loses lost Near b) e b b same (full Near) (whole_kept e b same))
@@ -164,19 +174,22 @@ pub record AreLeft (j : Journal) (lost : Lost) (old new : List Entry) : Type 0 w
   pub moved : IsPermutation (map (left_entry j lost) old ++ entries_of_copies j.plan.steps j.log) new
   pub are : AreCommitted new
 
--- by the list after each step: first the old entries, with the flags that were given, without lost sides, with the copies, and sorted
-pub left_so : (j : Journal) (lost : Lost) (old first noted halves all new : List Entry) (steps : List Step) (log : List Logged)
+-- by the list after each step: first the old entries, with the flags that were given, without marks that are not recorded, without lost sides, with the copies, and sorted
+pub left_so : (j : Journal) (lost : Lost) (old first noted unmarked halves all new : List Entry) (steps : List Step) (log : List Logged)
     → HasJournal j → ArePairs old → All (IsEntry Two) old → Agrees old j → steps ≡ j.plan.steps → log ≡ j.log
-    → first ≡ old → noted ≡ map (entry_past steps log) first → halves ≡ map (half_of lost) noted → all ≡ halves ++ entries_of_copies steps log
+    → first ≡ old → noted ≡ map (entry_past steps log) first → unmarked ≡ map (unmarked_of lost) noted → halves ≡ map (half_of lost) unmarked → all ≡ halves ++ entries_of_copies steps log
     → IsPermutation all new → AllPairs IsNotAfter new → AreLeft j lost old new
-left_so j lost old first noted halves all new steps log journal pairs fits agrees steps_are log_are first_is noted_is halves_are all_are same order =
+left_so j lost old first noted unmarked halves all new steps log journal pairs fits agrees steps_are log_are first_is noted_is unmarked_are halves_are all_are same order =
     let kept : noted ≡ map (entry_past j.plan.steps j.log) old = noted_is
     ∙ ap (λ (l : List Entry). map (entry_past steps log) l) first_is
     ∙ ap (λ (l : List Step). map (entry_past l log) old) steps_are
     ∙ ap (λ (l : List Logged). map (entry_past j.plan.steps l) old) log_are in
+    let clear : unmarked ≡ map (λ e. unmarked_of lost (entry_past j.plan.steps j.log e)) old = unmarked_are
+    ∙ ap (λ (l : List Entry). map (unmarked_of lost) l) kept
+    ∙ map_twice (entry_past j.plan.steps j.log) (unmarked_of lost) old in
     let left : halves ≡ map (left_entry j lost) old = halves_are
-    ∙ ap (λ (l : List Entry). map (half_of lost) l) kept
-    ∙ map_twice (entry_past j.plan.steps j.log) (half_of lost) old in
+    ∙ ap (λ (l : List Entry). map (half_of lost) l) clear
+    ∙ map_twice (λ e. unmarked_of lost (entry_past j.plan.steps j.log e)) (half_of lost) old in
     let whole : all ≡ map (left_entry j lost) old ++ entries_of_copies j.plan.steps j.log = all_are
     ∙ ap (λ (l : List Entry). l ++ entries_of_copies steps log) left
     ∙ ap (λ (l : List Step). map (left_entry j lost) old ++ entries_of_copies l log) steps_are

@@ -1,5 +1,5 @@
 -- How a plan is given up: what it has copied is recorded, and nothing else of it.
-use Rattle.std.specs.Prelude.{ℕ, Bool, ◌≡◌, ◌⊎◌, ◌&&◌, ◌==◌, if◌then◌else◌, List, [], ◌∷◌, ◌++◌, map, None, Some, Result, Ok, Err}
+use Rattle.std.specs.Prelude.{ℕ, Bool, ◌≡◌, ◌⊎◌, ◌&&◌, ◌==◌, ◌^◌, if◌then◌else◌, List, [], ◌∷◌, ◌++◌, map, None, Some, Result, Ok, Err}
 use Rattle.std.specs.List.{list_any}
 use Rattle.std.specs.List.Sorted.{IsPermutation}
 use Rattle.device.specs.Calls.{Effect}
@@ -59,12 +59,24 @@ without Near e = record e { near = None }
 abbrev pub half_of : Lost → Entry → Entry
 half_of lost e = if loses lost Far e then without Far e else if loses lost Near e then without Near e else e
 
+-- ---- an entry of which it is not recorded that it is marked as deleted
+
+abbrev pub is_unmarked : Lost → Entry → Bool
+is_unmarked lost e = list_any (λ u. u == uid_of Far e) lost.unmarked
+
+abbrev pub without_mark : Entry → Entry
+without_mark e = record e { flags = minus e.flags (2 ^ DELETED) }
+
+abbrev pub unmarked_of : Lost → Entry → Entry
+unmarked_of lost e = if is_unmarked lost e then without_mark e else e
+
 -- what an old entry becomes
 abbrev pub left_entry : Journal → (lost : Lost) → Entry → Entry
-left_entry j lost e = half_of lost (entry_past j.plan.steps j.log e)
+left_entry j lost e = half_of lost (unmarked_of lost (entry_past j.plan.steps j.log e))
 
 -- The state that is left of a plan, where these entries lose a side: the entries are the old ones, with the flags that logged steps gave, and
--- one for each copy that is logged. An old entry that loses a side keeps the other one alone. What is new stays new, since the highest UIDs
+-- one for each copy that is logged. An old entry that loses a side keeps the other one alone. Where it is not to be recorded that a message
+-- is marked as deleted, it is not. What is new stays new, since the highest UIDs
 -- are the old ones.
 pub record GivesUp (j : Journal) (lost : Lost) (old new : SyncState) : Type 0 where
   pub run : new.run ≡ j.plan.run

@@ -5,7 +5,7 @@ ghost use Rattle.sync_state.specs.declared.version.Version.TheVariants.{Two};
 ghost use Rattle.sync_state.specs.StateText.{HasText, IsEntry, IsHighest};
 ghost use Rattle.sync_state.specs.JournalText.{HasJournal};
 ghost use Rattle.book.specs.Agreement.{Agrees};
-ghost use Rattle.book.specs.GivingUp.{GivesUp, entry_past, flags_at, flags_after, half_of, loses, without};
+ghost use Rattle.book.specs.GivingUp.{GivesUp, entry_past, flags_at, flags_after, half_of, is_unmarked, loses, unmarked_of, without};
 ghost use Rattle.book.specs.LostSides.{AreRising};
 ghost use Rattle.book.specs.GivenUpParts.{HasNoPair, HasPairAt, IsOfNone, IsOfOne, with_next, with_step};
 ghost use Rattle.rules.specs.Entries.{ArePairs};
@@ -203,6 +203,42 @@ fn halve(list: &mut Vec<Entry>, lost: &LostSides)
     }
 }
 
+/// Whether it is not recorded of an entry that it is marked as deleted.
+fn is_unmarked(entry: &Entry, lost: &LostSides) -> bool
+    requires rising { AreRising lost.now }
+    ensures { result ≡ is_unmarked lost.now entry.now }
+{
+    lost.unmarked()
+        .binary_search(&entry.number(Side::Far))
+        .is_ok()
+}
+
+/// An entry, without the mark if it is not to be recorded of it.
+fn unmarked_of(entry: &Entry, lost: &LostSides) -> Entry
+    requires rising { AreRising lost.now }
+    ensures { result ≡ unmarked_of lost.now entry.now }
+{
+    if is_unmarked(entry, lost) {
+        Entry {
+            far: entry.far,
+            near: entry.near,
+            flags: entry.flags.minus(Flags::only(Flag::Deleted)),
+        }
+    } else {
+        *entry
+    }
+}
+
+/// Takes from the entries the marks that are not recorded.
+fn unmark(list: &mut Vec<Entry>, lost: &LostSides)
+    requires rising { AreRising lost.now }
+    ensures { list.new.items ≡ map (unmarked_of lost.now) list.old.items }
+{
+    for entry in list.iter_mut() {
+        *entry = unmarked_of(entry, lost);
+    }
+}
+
 /// Adds these entries as they are.
 fn push_all(list: &mut Vec<Entry>, entries: &[Entry]) -> Result<(), AllocError>
     ensures { OnOk result (list.new.items ≡ list.old.items ++ entries.now) }
@@ -211,7 +247,8 @@ fn push_all(list: &mut Vec<Entry>, entries: &[Entry]) -> Result<(), AllocError>
 }
 
 /// The state that is left of the journal's plan where it is given up: the one before, with the flags that logged steps gave recorded, and
-/// an entry for each copy that is logged. An entry of the one before that loses a side keeps the other one alone.
+/// an entry for each copy that is logged. An entry of the one before that loses a side keeps the other one alone. Where it is not to be recorded
+/// that a message is marked as deleted, it is not.
 pub fn given_up(
     alloc: Global,
     old: &SyncState,
@@ -232,6 +269,7 @@ pub fn given_up(
     let (steps, log) = (plan.steps.as_slice(), journal.log.as_slice());
     push_all(&mut list, old.entries.as_slice())?;
     note_log(&mut list, steps, log);
+    unmark(&mut list, lost);
     halve(&mut list, lost);
     push_copies(&mut list, steps, log)?;
     sort(&mut list);

@@ -74,6 +74,7 @@ abbrev pub is_stale_cause : StopCause → Bool
 is_stale_cause (cause.Standing path uid) = true
 is_stale_cause (cause.Kept path uid) = true
 is_stale_cause (cause.Undeleted store uid) = true
+is_stale_cause (cause.Restored side uid) = true
 is_stale_cause (cause.Server store why) = false
 is_stale_cause (cause.Disk path trouble) = false
 is_stale_cause (cause.Anew store next known) = false

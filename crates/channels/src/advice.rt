@@ -20,10 +20,7 @@ pub(crate) fn advise<E: Write>(
         None | Some(GivingUp::NothingPending) => advise_on(err, fault),
         Some(GivingUp::GivenUp) => {
             report_stale(err, fault)?;
-            writeln!(
-                err,
-                "\n  the unfinished run was given up: it removes nothing more; run again"
-            )
+            writeln!(err, "{}", given_up_words(fault))
         }
         Some(GivingUp::Failed(why)) => {
             report_stale(err, fault)?;
@@ -33,6 +30,16 @@ pub(crate) fn advise<E: Write>(
                 BoxFaultText(why)
             )?;
             advise_on(err, why)
+        }
+    }
+}
+
+/// What is said of a run that was given up, behind why it was: nothing more, where one message alone is left out.
+fn given_up_words(fault: &BoxFailure) -> &'static str {
+    match fault {
+        BoxFailure::Stopped(StopCause::Restored(..)) => "",
+        _ => {
+            "\n  the unfinished run was given up: it removes nothing more, and its marks are taken back; run again"
         }
     }
 }
@@ -80,6 +87,14 @@ fn report_stale<E: Write>(err: &mut E, fault: &BoxFailure) -> io::Result<()> {
             err,
             "  the server of IMAPStore {store} did not remove the message with UID {uid}, which is no longer marked as deleted there"
         ),
+        BoxFailure::Stopped(StopCause::Restored(Side::Far, uid)) => write!(
+            err,
+            "  message {uid} was undeleted at the server, and is gone here: it stays there alone"
+        ),
+        BoxFailure::Stopped(StopCause::Restored(Side::Near, uid)) => write!(
+            err,
+            "  message {uid} was undeleted here, and is gone at the server: it stays here alone"
+        ),
         _ => write!(err, "  an unfinished run goes by other Keyword lines"),
     }
 }
@@ -123,7 +138,10 @@ fn advise_stop<E: Write>(err: &mut E, cause: &StopCause) -> io::Result<()> {
         ),
         StopCause::Withheld(store, uid) => advise_withheld(err, store.as_str(), *uid),
         StopCause::GivenAgain(uid) => advise_given_again(err, *uid, None),
-        StopCause::Standing(..) | StopCause::Kept(..) | StopCause::Undeleted(..) => Ok(()),
+        StopCause::Standing(..)
+        | StopCause::Kept(..)
+        | StopCause::Undeleted(..)
+        | StopCause::Restored(..) => Ok(()),
     }
 }
 

@@ -58,6 +58,14 @@ pub(crate) enum GivingUp {
     Failed(BoxFailure),
 }
 
+impl RunFailure {
+    /// Whether the plan was given up since a message was restored: the next run leaves it alone, and can be made at once.
+    pub(crate) fn is_passed(&self) -> bool {
+        matches!(self.giving_up, Some(GivingUp::GivenUp))
+            && matches!(self.fault, BoxFailure::Stopped(StopCause::Restored(..)))
+    }
+}
+
 impl BoxFailure {
     /// What stopped a run, or that this is not known.
     pub fn of_stop(cause: Option<StopCause>) -> BoxFailure
@@ -155,7 +163,10 @@ fn is_stale_cause(cause: &StopCause) -> bool
 {
     matches!(
         cause,
-        StopCause::Standing(..) | StopCause::Kept(..) | StopCause::Undeleted(..)
+        StopCause::Standing(..)
+            | StopCause::Kept(..)
+            | StopCause::Undeleted(..)
+            | StopCause::Restored(..)
     )
 }
 

@@ -2,6 +2,7 @@
 
 use crate::store_fault::ConnectFault;
 use device::trouble::Trouble;
+use mailcore::side::Side;
 
 /// What stopped a run.
 #[derive(Drop)]
@@ -20,6 +21,8 @@ pub enum StopCause {
     /// The server of the IMAP store of this name still lists the message of this UID, which the run was to expunge there: it is not marked
     /// as deleted any more.
     Undeleted(String, u32),
+    /// The message of this side with this UID, whose counterpart is gone, was marked as deleted as this was, and is not marked any more.
+    Restored(Side, u32),
     /// The server of the IMAP store of this name lists the message of this UID, and does not give it.
     Withheld(String, u32),
     /// This UID was given to a copy, and an entry of the state has it already. The run ends with `bad state 0`.

@@ -73,6 +73,11 @@ abbrev pub marks_by : Step → Option ℕ
 marks_by (Gone Push far near) = Some far
 marks_by other = None
 
+-- the near message that it marks as deleted, since its counterpart is removed
+abbrev pub near_marks_by : Step → Option ℕ
+near_marks_by (Gone Pull far near) = Some near
+near_marks_by other = None
+
 -- the far message that it marks as deleted
 abbrev pub marked_far : Step → Option ℕ
 marked_far (Gone Push far near) = Some far

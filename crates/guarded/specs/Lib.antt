@@ -4,3 +4,4 @@ pub mod Listed
 pub mod Questions
 pub mod Removals
 pub mod Watches
+pub mod Recorded

@@ -4,7 +4,7 @@ use Rattle.device.specs.Calls.{Effect}
 use Rattle.mailcore.specs.declared.listing.Listing.{Listing}
 use Rattle.mailcore.specs.declared.side.Side.{Side}
 use Rattle.mailcore.specs.declared.side.Side.TheVariants.{Far, Near}
-use Rattle.outside.specs.BoxCalls.{ListsFar}
+use Rattle.outside.specs.BoxCalls.{ListsFar, ListsNear}
 use Rattle.outside.specs.Calls.{Opens, Seen, stopped}
 use Rattle.outside.specs.Devices.{Device}
 use Rattle.outside.specs.declared.fault.OutsideFault.{OutsideFault}
@@ -50,3 +50,27 @@ pub record AsksToRemove {G : Type 0} (asked : Question → G → G → Type 0) (
   pub refused : goes_on mid ≡ false → (new ≡ mid) × (seen_now ≡ stopped seen)
   pub unlisted : lists mid ≡ false → new ≡ mid
   pub listed : lists mid ≡ true → OnOk result (HasListed asked was_listed mid new)
+
+-- ---- a message that is marked as deleted
+
+-- what the mailbox of a side lists; of near messages none is read
+abbrev pub ListsSide : (alone : Bool) → (known : ℕ) → Side → Listing → Device → Type 0
+ListsSide alone known Far listing d = ListsFar alone known listing d
+ListsSide alone known Near listing d = ListsNear (λ uid. true) listing d
+
+-- A guard saw what the mailbox of this side lists, where it is to be listed before this message is marked; then it was asked this. Where it said
+-- no, nothing more was done than to list.
+pub record AsksToMark {G : Type 0} (asked : Question → G → G → Type 0) (goes_on : G → Bool) (looks : G → Bool) (saw : G → G → Seen → Type 0) (question : Question)
+    (old new : G) (seen seen_now : Seen) : Type 0 where
+  pub mid : G
+  pub seen_then : Seen
+  pub unlooked : looks old ≡ false → (mid ≡ old) × (seen_then ≡ seen)
+  pub looked : looks old ≡ true → saw old mid seen_then
+  pub first : asked question mid new
+  pub refused : goes_on new ≡ false → seen_now ≡ stopped seen_then
+
+-- the mailbox of this side was listed before anything else was done, and the guard saw what it lists
+pub record SawSide {G : Type 0} (honest : Type 0) (others : Effect Device) (alone : Bool) (side : Side) (saw : Side → Listing → G → G → Type 0) (seen : Seen) (old new : G) (seen_then : Seen) : Type 0 where
+  pub listing : Listing
+  pub looked : Opens honest others (ListsSide alone seen.device.far.next side) seen seen_then (Ok listing)
+  pub shown : saw side listing old new

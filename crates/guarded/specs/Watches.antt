@@ -8,7 +8,7 @@ use Rattle.std.specs.Option.{option_map}
 use Rattle.maildir.specs.Standings.{HasLooked}
 use Rattle.sync_state.specs.declared.journal.Journal.{Journal}
 use Rattle.guarded.specs.declared.guard.Change.{Change}
-use Rattle.guarded.specs.declared.guard.Change.TheVariants.{Expunge}
+use Rattle.guarded.specs.declared.guard.Change.TheVariants.{AddFlags, Copy, Expunge, RemoveFlags}
 use Rattle.guarded.specs.declared.near_look.Watch.{Watch}
 use Rattle.guarded.specs.declared.due.Due.{Due}
 use Rattle.guarded.specs.declared.objection.Objection.{Objection}
@@ -20,7 +20,10 @@ use Rattle.guarded.specs.Given.{is_again}
 use Rattle.guarded.specs.Listed.{still_listed}
 use Rattle.guarded.specs.Questions.{MayBegin, MayChange, MayOpen, MayRemove, Question}
 use Rattle.guarded.specs.declared.removals.Removals.{Removals}
-use Rattle.guarded.specs.Removals.{AreRemovals}
+use Rattle.guarded.specs.Removals.{AreRemovals, marks_for_gone}
+use Rattle.guarded.specs.Recorded.{asks, is_restored, on_side}
+use Rattle.guarded.specs.declared.recorded.Recorded.{Recorded}
+use Rattle.mailcore.specs.declared.side.Side.{Side}
 
 -- a look that did not fail has found no message
 abbrev pub finds_nothing : {T E : Type 0} → Result (Option T) E → Bool
@@ -29,7 +32,7 @@ finds_nothing (Ok (Some found)) = false
 finds_nothing (Err fault) = false
 
 abbrev pub nothing : Removals
-nothing = record { gone = []; marked = []; marks = []; expunged = [] }
+nothing = record { gone = []; marked = []; marks = []; near_marks = []; expunged = [] }
 
 -- the plan that is pending is watched from its log on, and no look was made; without one nothing is
 abbrev pub IsWatched : Option Journal → Watch → Type 0
@@ -45,6 +48,10 @@ is_empty (x ∷ xs) = false
 abbrev pub asks_far : Watch → Change → Bool
 asks_far watch (Expunge Near) = not watch.has_listed && not (is_empty watch.removals.expunged)
 asks_far watch change = false
+
+-- a mailbox is listed before a message is marked in it whose counterpart is gone, and which was recorded as marked, if it was not listed yet
+abbrev pub asks_marks : Watch → (far near : Recorded) → Side → ℕ → Bool
+asks_marks watch far near side uid = marks_for_gone watch.removals side uid && asks (on_side far near side) uid
 
 -- the UIDs of those that are asked about when so many steps are logged, in their order
 abbrev pub uids_due : ℕ → List Due → List ℕ
@@ -78,22 +85,35 @@ Finds watch found old now = FindsOf (uids_due watch.logged watch.removals.gone) 
 -- what is known, what is watched, whether the run is to go on, and what was read
 pub record Sight : Type 0 where
   pub given : FarGiven
+  pub far_recorded : Recorded
+  pub near_recorded : Recorded
   pub watch : Watch
   pub goes_on : Bool
   pub readings : List NameReading
 
-abbrev pub sight : FarGiven → Watch → Bool → List NameReading → Sight
-sight given watch goes_on readings = record { given = given; watch = watch; goes_on = goes_on; readings = readings }
+abbrev pub sight : FarGiven → (far_recorded near_recorded : Recorded) → Watch → Bool → List NameReading → Sight
+sight given far_recorded near_recorded watch goes_on readings = record { given = given; far_recorded = far_recorded; near_recorded = near_recorded; watch = watch; goes_on = goes_on; readings = readings }
+
+-- the run went on, and a look found nothing, or the last one of this plan did
+abbrev pub IsLooked : Sight → Sight → Type 0
+IsLooked old new = (old.goes_on ≡ true) × (Finds new.watch None old.readings new.readings ⊎ ((old.watch.is_clear ≡ true) × (new.readings ≡ old.readings)))
 
 -- this plan is watched from its first step on
 abbrev pub IsWatchOf : Plan → Watch → Type 0
 IsWatchOf plan watch = AreRemovals plan.steps plan.notes watch.removals × (watch.logged ≡ 0)
+
+-- A call is let on only after a look that found nothing: the one that was made now, or the last one of this plan. One that clears flags removes
+-- nothing, and is let on without a look. A message whose counterpart is gone is not marked where it was restored.
+abbrev pub LetsOn : Change → ℕ → Sight → Sight → Type 0
+LetsOn (RemoveFlags side) uid old new = new ≡ old
+LetsOn (AddFlags side) uid old new = new.goes_on ≡ true → (marks_for_gone old.watch.removals side uid && is_restored (on_side old.far_recorded old.near_recorded side) uid ≡ false) × IsLooked old new
+LetsOn Copy uid old new = new.goes_on ≡ true → IsLooked old new
+LetsOn (Expunge side) uid old new = new.goes_on ≡ true → IsLooked old new
 
 -- A mailbox is refused exactly if it is to give UIDs again, and removals exactly if a message that was expunged is listed. A plan or a call
 -- is let on only after a look that found nothing: the one that was made now, or for a call the last one of this plan.
 abbrev pub Answers : Question → Sight → Sight → Type 0
 Answers (MayOpen validity next) old new = new.goes_on ≡ (old.goes_on && is_none (is_again old.given validity next))
 Answers (MayBegin plan) old new = new.goes_on ≡ true → IsWatchOf plan new.watch × Finds new.watch None old.readings new.readings
-Answers (MayChange change uid) old new =
-    new.goes_on ≡ true → (old.goes_on ≡ true) × (Finds new.watch None old.readings new.readings ⊎ ((old.watch.is_clear ≡ true) × (new.readings ≡ old.readings)))
+Answers (MayChange change uid) old new = LetsOn change uid old new
 Answers (MayRemove far) old new = new.goes_on ≡ (old.goes_on && is_none (still_listed old.watch.removals.expunged old.watch.logged far))

@@ -1,11 +1,14 @@
 //! Who sees to it that a run does nothing over mailboxes that are not as it takes them to be.
 
-ghost use Rattle.std.specs.Prelude.{◌≡◌, Bool, false};
+ghost use Rattle.std.specs.Prelude.{◌≡◌, ℕ, Bool, false};
+ghost use Rattle.mailcore.specs.declared.side.Side.{Side};
+ghost use Rattle.mailcore.specs.declared.listing.Listing.{Listing};
 ghost use Rattle.guarded.specs.declared.guard.Change.{Change};
 ghost use Rattle.guarded.specs.Questions.{MayBegin, MayChange, MayOpen, MayRemove, Question};
 
 use mailcore::listing::Listing;
 use mailcore::side::Side;
+use mailcore::spared::Spared;
 use mailcore::uid::Uid;
 use rules::plan::Plan;
 use rules::state::SyncState;
@@ -36,6 +39,12 @@ pub trait Guard {
     /// The far mailbox is to be listed before this call.
     ghost lists: { Self → Change → Bool };
 
+    /// The mailbox of this side is to be listed before this message is marked.
+    ghost looks: { Self → Side → ℕ → Bool };
+
+    /// A guard that stood like the first has seen what the mailbox of this side lists, and stands like the second since.
+    ghost saw: { Side → Listing → Self → Self → Type 0 };
+
     /// The last run recorded this state, and this plan is pending after it.
     fn reads(&mut self, state: &SyncState, pending: Option<&Journal>);
 
@@ -60,6 +69,17 @@ pub trait Guard {
     /// Whether the far mailbox is to be listed before this call.
     fn asks_far(&self, change: Change) -> bool
         ensures { result ≡ lists self.now change };
+
+    /// Whether the mailbox of this side is to be listed before flags of this message are set.
+    fn asks_marks(&self, side: Side, uid: Uid) -> bool
+        ensures { result ≡ looks self.now side uid };
+
+    /// Every near message, so that none is read where they are listed.
+    fn all_spared(&self) -> Spared;
+
+    /// The mailbox of this side lists this.
+    fn sees(&mut self, side: Side, listing: &Listing)
+        ensures { saw side listing.now self.old self.new };
 
     /// Whether near messages may be removed, since the far mailbox lists this.
     fn may_remove(&mut self, far: &Listing) -> bool

@@ -6,6 +6,7 @@ ghost use Rattle.guarded.specs.Questions.{IsShown};
 use crate::begin_if::begin_if;
 use crate::expunge_listed::expunge_listed;
 use crate::guard::{Change, Guard};
+use crate::see_marks::see_marks;
 use crate::still_listed::is_listed;
 use crate::stop_refused::stop_refused;
 use book::lost_sides::LostSides;
@@ -107,7 +108,7 @@ impl<O: Outside + FarNext, G: Guard> Outside for GuardedOutside<O, G> {
     ghost use Rattle.outside.specs.MailboxOperations.{removed};
     ghost use Rattle.outside.specs.Devices.{box};
     ghost use Rattle.outside.specs.Opened.{IsOpen, TakesPlan, turned, with_box};
-    ghost use Rattle.guarded.specs.Questions.{AsksFirst, AsksToRemove, MayBegin, MayChange, WasListed};
+    ghost use Rattle.guarded.specs.Questions.{AsksFirst, AsksToMark, AsksToRemove, MayBegin, MayChange, SawSide, WasListed};
 
     ghost honest = { λ guarded. O.honest guarded.outside };
 
@@ -209,7 +210,9 @@ impl<O: Outside + FarNext, G: Guard> Outside for GuardedOutside<O, G> {
     }
 
     fn list_far(&mut self) -> Result<Listing, OutsideFault> {
-        self.outside.list_far()
+        let listing = self.outside.list_far()?;
+        self.guard.sees(Side::Far, &listing);
+        Ok(listing)
     }
 
     fn look_far(&mut self) -> Result<Listing, OutsideFault> {
@@ -217,7 +220,9 @@ impl<O: Outside + FarNext, G: Guard> Outside for GuardedOutside<O, G> {
     }
 
     fn list_near(&mut self, spared: &Spared) -> Result<Listing, OutsideFault> {
-        self.outside.list_near(spared)
+        let listing = self.outside.list_near(spared)?;
+        self.guard.sees(Side::Near, &listing);
+        Ok(listing)
     }
 
     fn look_near(&mut self, spared: &Spared) -> Result<Listing, OutsideFault> {
@@ -273,9 +278,10 @@ impl<O: Outside + FarNext, G: Guard> Outside for GuardedOutside<O, G> {
 
     fn add_flags(&mut self, side: Side, uid: Uid, flags: Flags) -> Result<(), OutsideFault>
         requires is_open { IsOpen side (O.opened self.old.outside) }
-        ensures asked { G.asked (MayChange (Change.AddFlags side) uid) self.old.guard self.new.guard }
+        ensures asked { OnOk result (AsksToMark G.asked G.goes_on (λ guard. G.looks guard side uid)
+            (SawSide (O.honest self.new.outside) (Arrives O.ours O.alone) O.alone side G.saw (O.seen self.old.outside))
+            (MayChange (Change.AddFlags side) uid) self.old.guard self.new.guard (O.seen self.old.outside) (O.seen self.new.outside)) }
         ensures let_on { OnOk result (G.goes_on self.new.guard ≡ true) }
-        ensures refused { G.goes_on self.new.guard ≡ false → O.seen self.new.outside ≡ stopped (O.seen self.old.outside) }
         ensures was_honest { O.honest self.new.outside → O.honest self.old.outside }
         ensures keywords { O.keywords self.new.outside ≡ O.keywords self.old.outside }
         ensures opened { O.opened self.new.outside ≡ O.opened self.old.outside }
@@ -283,6 +289,9 @@ impl<O: Outside + FarNext, G: Guard> Outside for GuardedOutside<O, G> {
             (λ _. TurnsBox side uid (flags_added uid (kept (O.keywords self.old.outside) flags))) (Names side uid)
             (O.seen self.old.outside) (O.seen self.new.outside) result }
     {
+        if self.guard.asks_marks(side, uid) {
+            see_marks(&mut self.outside, &mut self.guard, side)?;
+        }
         if !self.guard.may_change(Change::AddFlags(side), uid) {
             return Err(stop_refused(&mut self.outside, &self.guard));
         }

@@ -4,18 +4,21 @@
 ghost use Rattle.std.specs.Prelude.{◌≡◌, ◌&&◌, true, false, IfOk, IsErr, IsOk, OnErr};
 ghost use Rattle.maildir.specs.Standings.{HasBegun};
 ghost use Rattle.std.specs.List.Sorted.{IsNonDecreasingBy};
+ghost use Rattle.guarded.specs.Recorded.{on_side};
 ghost use Rattle.guarded.specs.Watches.{Finds, finds_nothing, objection_to, uids_due};
 
 use crate::due::due_of;
 use crate::given::FarGiven;
 use crate::guard::{Change, Guard};
 use crate::objection::Objection;
+use crate::recorded::Recorded;
 use crate::removals::Removals;
 use crate::still_listed::still_listed;
 use device::history::History;
 use device::trouble::Trouble;
 use mailcore::listing::Listing;
 use mailcore::side::Side;
+use mailcore::spared::Spared;
 use mailcore::uid::Uid;
 use maildir::standing::{NameReading, Sought, Stale, first_stale};
 use rules::plan::Plan;
@@ -82,6 +85,10 @@ pub struct NearLook<R: Files + AllocGlobal + Clone + Drop> {
     folder: String,
     /// What the far mailbox is known to have given.
     given: FarGiven,
+    /// The far messages that were recorded as marked as deleted.
+    far_recorded: Recorded,
+    /// The near ones.
+    near_recorded: Recorded,
     /// What is watched of the plan that is pending.
     watch: Watch,
     /// When the last look was made before a message was marked or removed.
@@ -100,10 +107,14 @@ impl<R: Files + AllocGlobal + Clone + Drop> NearLook<R> {
         ensures folder { result.folder ≡ folder }
     {
         let watch = Watch::over(Removals::none(rt.alloc()), 0);
+        let alloc = rt.alloc();
+        let (far_recorded, near_recorded) = (Recorded::none(alloc), Recorded::none(alloc));
         NearLook {
             rt,
             folder,
             given: FarGiven::nothing(),
+            far_recorded,
+            near_recorded,
             watch,
             looked_at: None,
             readings: History::new(),
@@ -127,6 +138,37 @@ impl<R: Files + AllocGlobal + Clone + Drop> NearLook<R> {
         let noted = self.objection.take();
         self.objection.set(Some(noted.unwrap_or(objection)));
         self.goes_on = false;
+    }
+
+    /// Takes what a state records as marked as deleted.
+    fn note_recorded(&mut self, state: &SyncState) -> Result<(), AllocError> {
+        let alloc = self.rt.alloc();
+        self.far_recorded = Recorded::by(alloc, state, Side::Far)?;
+        self.near_recorded = Recorded::by(alloc, state, Side::Near)?;
+        Ok(())
+    }
+
+    /// The messages of this side that were recorded as marked as deleted.
+    fn recorded(&self, side: Side) -> &Recorded
+        ensures { result.now ≡ on_side self.now.far_recorded self.now.near_recorded side }
+    {
+        match side {
+            Side::Far => &self.far_recorded,
+            Side::Near => &self.near_recorded,
+        }
+    }
+
+    /// Whether a call marks a message whose counterpart is gone, and which was restored.
+    fn marks_restored(&self, change: Change, uid: Uid) -> Option<Side> {
+        match change {
+            Change::AddFlags(side)
+                if self.watch.removals.marks_for_gone(side, uid)
+                    && self.recorded(side).is_restored(uid) =>
+            {
+                Some(side)
+            }
+            _ => None,
+        }
     }
 
     /// Takes a plan that removes this for the one that is pending, of which no look was made.
@@ -239,16 +281,22 @@ impl<R: Files + Clock + AllocGlobal + Clone + Drop> Guard for NearLook<R> {
     ghost use Rattle.std.specs.Option.{option_copied};
     ghost use Rattle.guarded.specs.Given.{given_by, is_again};
     ghost use Rattle.guarded.specs.Listed.{still_listed};
+    ghost use Rattle.guarded.specs.Recorded.{HasSeen, on_side};
     ghost use Rattle.guarded.specs.Removals.{AreRemovals};
     ghost use Rattle.guarded.specs.Questions.{MayBegin, MayChange, MayOpen, MayRemove};
-    ghost use Rattle.guarded.specs.Watches.{Answers, IsWatched, asks_far, sight};
+    ghost use Rattle.guarded.specs.Watches.{Answers, IsWatched, asks_far, asks_marks, sight};
 
     ghost goes_on = { λ look. look.goes_on };
 
-    ghost asked = { λ question old new. Answers question (sight old.given old.watch old.goes_on old.readings.items)
-        (sight new.given new.watch new.goes_on new.readings.items) };
+    ghost asked = { λ question old new. Answers question (sight old.given old.far_recorded old.near_recorded old.watch old.goes_on old.readings.items)
+        (sight new.given new.far_recorded new.near_recorded new.watch new.goes_on new.readings.items) };
 
     ghost lists = { λ look change. asks_far look.watch change };
+
+    ghost saw = { λ side listing old new. (new.goes_on ≡ true → old.goes_on ≡ true) × (new.goes_on ≡ true → HasSeen listing.items
+        (on_side old.far_recorded old.near_recorded side) (on_side new.far_recorded new.near_recorded side)) };
+
+    ghost looks = { λ look side uid. asks_marks look.watch look.far_recorded look.near_recorded side uid };
 
     fn reads(&mut self, state: &SyncState, pending: Option<&Journal>)
         ensures given { self.new.given ≡ given_by state.now (option_copied pending.entry) }
@@ -256,6 +304,9 @@ impl<R: Files + Clock + AllocGlobal + Clone + Drop> Guard for NearLook<R> {
     {
         self.given = FarGiven::by(state, pending);
         let alloc = self.rt.alloc();
+        if self.note_recorded(state).is_err() {
+            self.note(Objection::Unlooked(Trouble::Other));
+        }
         match pending {
             Some(journal) => {
                 let removals = Removals::of(alloc, &journal.plan);
@@ -268,8 +319,8 @@ impl<R: Files + Clock + AllocGlobal + Clone + Drop> Guard for NearLook<R> {
     fn may_open(&mut self, validity: u32, next: u32) -> bool
         ensures answer { result ≡ self.new.goes_on }
         ensures asked { Answers (MayOpen validity next)
-            (sight self.old.given self.old.watch self.old.goes_on self.old.readings.items)
-            (sight self.new.given self.new.watch self.new.goes_on self.new.readings.items) }
+            (sight self.old.given self.old.far_recorded self.old.near_recorded self.old.watch self.old.goes_on self.old.readings.items)
+            (sight self.new.given self.new.far_recorded self.new.near_recorded self.new.watch self.new.goes_on self.new.readings.items) }
         ensures again { result ≡ (self.old.goes_on && is_none (is_again self.old.given validity next)) }
     {
         if let Some(known) = self.given.again(validity, next) {
@@ -282,8 +333,8 @@ impl<R: Files + Clock + AllocGlobal + Clone + Drop> Guard for NearLook<R> {
     fn may_begin(&mut self, plan: &Plan) -> bool
         ensures answer { result ≡ self.new.goes_on }
         ensures asked { Answers (MayBegin plan.now)
-            (sight self.old.given self.old.watch self.old.goes_on self.old.readings.items)
-            (sight self.new.given self.new.watch self.new.goes_on self.new.readings.items) }
+            (sight self.old.given self.old.far_recorded self.old.near_recorded self.old.watch self.old.goes_on self.old.readings.items)
+            (sight self.new.given self.new.far_recorded self.new.near_recorded self.new.watch self.new.goes_on self.new.readings.items) }
         ensures clear { result ≡ true → self.new.watch.is_clear ≡ true }
         ensures removals { result ≡ true → AreRemovals plan.now.steps plan.now.notes self.new.watch.removals }
         ensures logged { result ≡ true → self.new.watch.logged ≡ 0 }
@@ -301,15 +352,21 @@ impl<R: Files + Clock + AllocGlobal + Clone + Drop> Guard for NearLook<R> {
         self.watch.logged = step;
     }
 
-    // It is made only after a look that found nothing.
+    // It is made only after a look that found nothing, but for one that clears flags, which removes nothing.
     fn may_change(&mut self, change: Change, uid: Uid) -> bool
         ensures answer { result ≡ self.new.goes_on }
         ensures asked { Answers (MayChange change uid)
-            (sight self.old.given self.old.watch self.old.goes_on self.old.readings.items)
-            (sight self.new.given self.new.watch self.new.goes_on self.new.readings.items) }
-        ensures clear { result ≡ true → self.new.watch.is_clear ≡ true }
+            (sight self.old.given self.old.far_recorded self.old.near_recorded self.old.watch self.old.goes_on self.old.readings.items)
+            (sight self.new.given self.new.far_recorded self.new.near_recorded self.new.watch self.new.goes_on self.new.readings.items) }
         ensures went_on { result ≡ true → self.old.goes_on ≡ true }
     {
+        if let Change::RemoveFlags(_) = change {
+            return self.goes_on;
+        }
+        if let Some(side) = self.marks_restored(change, uid) {
+            self.note(Objection::Restored(side, uid.get()));
+            return self.goes_on;
+        }
         let removes = self.watch.removals.removes_far(change, uid);
         if !self.is_due(removes) {
             return self.goes_on;
@@ -317,6 +374,27 @@ impl<R: Files + Clock + AllocGlobal + Clone + Drop> Guard for NearLook<R> {
         self.look();
         self.looked(removes);
         self.goes_on
+    }
+
+    fn asks_marks(&self, side: Side, uid: Uid) -> bool
+        ensures { result ≡ asks_marks self.now.watch self.now.far_recorded self.now.near_recorded side uid }
+    {
+        self.watch.removals.marks_for_gone(side, uid) && self.recorded(side).asks(uid)
+    }
+
+    fn all_spared(&self) -> Spared {
+        Spared::of(u32::MAX, Vec::new(self.rt.alloc()))
+    }
+
+    fn sees(&mut self, side: Side, listing: &Listing) {
+        let alloc = self.rt.alloc();
+        let seen = match side {
+            Side::Far => self.far_recorded.see(alloc, listing),
+            Side::Near => self.near_recorded.see(alloc, listing),
+        };
+        if seen.is_err() {
+            self.note(Objection::Unlooked(Trouble::Other));
+        }
     }
 
     fn asks_far(&self, change: Change) -> bool
@@ -330,8 +408,8 @@ impl<R: Files + Clock + AllocGlobal + Clone + Drop> Guard for NearLook<R> {
     fn may_remove(&mut self, far: &Listing) -> bool
         ensures answer { result ≡ self.new.goes_on }
         ensures asked { Answers (MayRemove far.now)
-            (sight self.old.given self.old.watch self.old.goes_on self.old.readings.items)
-            (sight self.new.given self.new.watch self.new.goes_on self.new.readings.items) }
+            (sight self.old.given self.old.far_recorded self.old.near_recorded self.old.watch self.old.goes_on self.old.readings.items)
+            (sight self.new.given self.new.far_recorded self.new.near_recorded self.new.watch self.new.goes_on self.new.readings.items) }
         ensures listed { let watch = self.old.watch in
             result ≡ (self.old.goes_on && is_none (still_listed watch.removals.expunged watch.logged far.now)) }
     {
@@ -365,5 +443,7 @@ impl<R: Files + Clock + AllocGlobal + Clone + Drop> Guard for NearLook<R> {
             self.objection.set(Some(Objection::GivenAgain(uid)));
         }
         self.goes_on = true;
+        self.far_recorded.forget();
+        self.near_recorded.forget();
     }
 }

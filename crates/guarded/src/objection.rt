@@ -1,6 +1,7 @@
 //! Why a run is not to go on.
 
 use device::trouble::Trouble;
+use mailcore::side::Side;
 use maildir::folder::FileName;
 
 /// Why a run is not to go on.
@@ -12,6 +13,8 @@ pub enum Objection {
     Kept(u32, FileName),
     /// The far mailbox lists the message of this UID, which the plan has expunged.
     Undeleted(u32),
+    /// The message of this side with this UID, whose counterpart is gone, was marked as deleted as this was, and is not marked any more.
+    Restored(Side, u32),
     /// Whether one is there cannot be looked up: the system said this of the folder.
     Unlooked(Trouble),
     /// The far mailbox lists the message of this UID, and does not give it.

@@ -2,9 +2,9 @@
 
 ghost use Rattle.std.specs.Prelude.{◌≡◌, [], IfOk};
 ghost use Rattle.std.specs.List.{filter_map};
-ghost use Rattle.guarded.specs.Dues.{after, always, until, later, gone_by, dropped_near, marked_by, marked_far, set_by, expunged_by, expunged_near, marks_by};
+ghost use Rattle.guarded.specs.Dues.{after, always, until, later, gone_by, dropped_near, marked_by, marked_far, set_by, expunged_by, expunged_near, marks_by, near_marks_by};
 ghost use Rattle.guarded.specs.Dues.{dropped_by, expunged_of, gone_by_steps, gone_of, last_of, marked_in, marked_of, set_of};
-ghost use Rattle.guarded.specs.Removals.{AreRemovals, removes_far};
+ghost use Rattle.guarded.specs.Removals.{AreRemovals, marks_for_gone, removes_far};
 
 use crate::due::Due;
 use crate::guard::Change;
@@ -25,6 +25,8 @@ pub(crate) struct Removals {
     pub(crate) marked: Dues,
     /// The far messages that it marks as deleted since their counterparts are removed.
     pub(crate) marks: Uids,
+    /// The near messages that it marks as deleted since their counterparts are removed.
+    pub(crate) near_marks: Uids,
     /// The far messages that it removes, each once it is removed.
     pub(crate) expunged: Dues,
 }
@@ -32,12 +34,13 @@ pub(crate) struct Removals {
 impl Removals {
     /// Nothing is removed.
     pub(crate) fn none(alloc: Global) -> Self
-        ensures { result ≡ record { gone = []; marked = []; marks = []; expunged = [] } }
+        ensures { result ≡ record { gone = []; marked = []; marks = []; near_marks = []; expunged = [] } }
     {
         Removals {
             gone: Dues::none(alloc),
             marked: Dues::none(alloc),
             marks: Uids::none(alloc),
+            near_marks: Uids::none(alloc),
             expunged: Dues::none(alloc),
         }
     }
@@ -52,12 +55,24 @@ impl Removals {
         let gone = gone_of(alloc, steps, plan.notes.as_slice(), &expunged)?;
         let marked = marked_of(alloc, steps, &expunged, &set)?;
         let marks = marks_of(alloc, steps)?;
+        let near_marks = near_marks_of(alloc, steps)?;
         Ok(Removals {
             gone: Dues::sorted(gone),
             marked: Dues::sorted(marked),
             marks: Uids::sorted(marks),
+            near_marks: Uids::sorted(near_marks),
             expunged,
         })
+    }
+
+    /// Whether a message of this side is marked as deleted since its counterpart is removed.
+    pub(crate) fn marks_for_gone(&self, side: Side, uid: Uid) -> bool
+        ensures { result ≡ marks_for_gone self.now side uid }
+    {
+        match side {
+            Side::Far => self.marks.has(uid),
+            Side::Near => self.near_marks.has(uid),
+        }
     }
 
     /// Whether a call removes a far message, or marks it since its counterpart is removed.
@@ -163,6 +178,13 @@ fn marks_of(alloc: Global, steps: &[Step]) -> Result<Vec<Uid>, AllocError>
     ensures { IfOk result (λ uids. uids.items ≡ filter_map marks_by steps.now) }
 {
     steps.iter().filter_map(marks_by).collect(alloc)
+}
+
+/// The near messages that these steps mark as deleted since their counterparts are removed.
+fn near_marks_of(alloc: Global, steps: &[Step]) -> Result<Vec<Uid>, AllocError>
+    ensures { IfOk result (λ uids. uids.items ≡ filter_map near_marks_by steps.now) }
+{
+    steps.iter().filter_map(near_marks_by).collect(alloc)
 }
 
 /// The last step for which the near message of a step is asked about: the far one that it marks may be removed by a later one.
@@ -302,6 +324,20 @@ fn marks_by(step: &Step) -> Option<Uid>
             far,
             ..
         } => Some(far),
+        _ => None,
+    }
+}
+
+/// The near message that a step marks as deleted since its counterpart is removed.
+fn near_marks_by(step: &Step) -> Option<Uid>
+    ensures { result ≡ near_marks_by step.now }
+{
+    match *step {
+        Step::Gone {
+            direction: Direction::Pull,
+            near,
+            ..
+        } => Some(near),
         _ => None,
     }
 }

@@ -328,3 +328,25 @@ no_zero n z o = omega arith
 pub other_no_row : (raw : List ℕ) → IsFetch raw → ((first_word raw ≡ codes "*") × (is_number (second_word raw) ≡ false)) ⊎ (first_word raw ≡ []) → LacksItems (after_event raw)
 other_no_row raw f (inl h) = absurd (false≢true (sym h.1 ∙ f.number))
 other_no_row raw f (inr h) = absurd (no_zero (length (first_word raw)) (ap length h) (ap length f.star))
+
+-- ---- two rows of a message
+
+or_assoc : (a b c : Option (List ℕ)) → option_or (option_or a b) c ≡ option_or a (option_or b c)
+or_assoc None b c = refl
+or_assoc (Some x) b c = refl
+
+value_after : (name : ItemName) (old new : List Item) → value_of name (old ++ new) ≡ option_or (value_of name new) (value_of name old)
+value_after name [] new = sym (or_none (value_of name new))
+value_after name (item ∷ old) new =
+    ap (λ (o : Option (List ℕ)). option_or o (cond (same_name name (name_of item.name)) (let o : Option (List ℕ) = Some item.value in o) None)) (value_after name old new)
+    ∙ or_assoc (value_of name new) (value_of name old) (cond (same_name name (name_of item.name)) (let o : Option (List ℕ) = Some item.value in o) None)
+
+holds_by : (name : ItemName) (old new : List Item) (earlier later : Option (Bor (List ℕ))) → Holds name old earlier → Holds name new later
+    → value_of name (old ++ new) ≡ option_or (value_of name new) (value_of name old) → Holds name (old ++ new) (option_or later earlier)
+holds_by name old new None None e l v = v ∙ (ap (λ (o : Option (List ℕ)). option_or o (value_of name old)) l ∙ e)
+holds_by name old new (Some w) None e l v = v ∙ (ap (λ (o : Option (List ℕ)). option_or o (value_of name old)) l ∙ e)
+holds_by name old new earlier (Some w) e l v = v ∙ ap (λ (o : Option (List ℕ)). option_or o (value_of name old)) l
+
+pub holds_after : (name : ItemName) (old new : List Item) (earlier later : Option (Bor (List ℕ))) → Holds name old earlier → Holds name new later
+    → Holds name (old ++ new) (option_or later earlier)
+holds_after name old new earlier later e l = holds_by name old new earlier later e l (value_after name old new)

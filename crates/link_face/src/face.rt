@@ -16,6 +16,7 @@ use crate::incoming::Incoming;
 use crate::ready::Ready;
 use crate::room::Room;
 use crate::sent::Sent;
+use crate::told::Told;
 use crate::turning::{Turn, turned};
 use crate::words::Words;
 use device::stop_count::StopCount;
@@ -39,6 +40,8 @@ pub(crate) struct Face {
     pub(crate) sent: Sent,
     /// How much may still come in answer to what was sent last.
     pub(crate) room: Room,
+    /// What was told of messages in answer to it.
+    told: Told,
     /// Whether a command was sent with another mailbox name, or a LIST reply was replaced or left out because of its name, on any connection.
     pub(crate) renamed: bool,
     /// Whether a connection was made, and no call over it has failed.
@@ -59,6 +62,7 @@ impl Face {
             ready: Ready::new(alloc),
             sent: Sent::new(),
             room: Room::whole(),
+            told: Told::new(alloc),
             renamed: false,
             is_open: false,
             stops: StopCount::new(),
@@ -80,6 +84,7 @@ impl Face {
         self.ready.clear();
         self.sent = Sent::new();
         self.room = Room::whole();
+        self.told.clear();
         self.is_open = false;
     }
 
@@ -104,8 +109,10 @@ impl Face {
         self.sent.note(bytes);
         self.room = Room::whole();
         if is_octets {
+            self.told.clear();
             return Ok(None);
         }
+        self.told.begin(bytes);
         let turned = with_far_name(self.alloc, bytes)?;
         self.renamed = self.renamed || turned.is_some();
         Ok(turned)
@@ -123,6 +130,7 @@ impl Face {
     {
         self.sent.note_copy(copy);
         self.room = Room::whole();
+        self.told.clear();
     }
 
     /// Turns replies until one is ready. Returns whether one is; if not, more has to come.
@@ -173,6 +181,9 @@ impl Face {
         ensures steady { OnOk result (self.new.stops ≡ self.old.stops) }
         ensures stopped { IsErrOf result LinkFault.Stopped → self.old.stops < self.new.stops }
     {
+        if !self.note_told(extent)? {
+            return Err(self.lose());
+        }
         match extent {
             Extent::Begun => return Ok(false),
             Extent::Heard(len) => self.keep(len)?,
@@ -221,8 +232,51 @@ impl Face {
         match turned(self.alloc, self.incoming.front(len)) {
             Ok(Turn::Keep) => self.keep(len),
             Ok(Turn::Replace(bytes)) => self.replace(len, bytes),
-            Ok(Turn::Omit) => self.replace(len, Vec::new(self.alloc)),
+            Ok(Turn::Omit) => self.join(len),
             Ok(Turn::Stop) => Err(self.lose()),
+            Err(AllocError) => Err(LinkFault::NoMemory),
+        }
+    }
+
+    /// Makes nothing ready instead of the reply of so many bytes at the front, or the row of a message that it tells whole with an
+    /// earlier one. After an error nothing more is read of this connection.
+    fn join(&mut self, len: usize) -> Result<(), LinkFault>
+        requires within { len ≤ length self.old.incoming }
+        requires none { self.old.ready ≡ [] }
+        ensures failed { OnErr result (Untouched self.old self.new) }
+        ensures rest { OnOk result (self.old.incoming ≡ take len self.old.incoming ++ self.new.incoming) }
+        ensures renamed { self.new.renamed ≡ self.old.renamed }
+        ensures ready { OnOk result (IsTurned self.new.ready) }
+        ensures room { OnOk result (CountsReply self.new.ready self.old.room self.new.room true) }
+        ensures opened { self.new.is_open ≡ true → self.old.is_open ≡ true }
+        ensures counts { self.old.stops ≤ self.new.stops }
+        ensures steady { OnOk result (self.new.stops ≡ self.old.stops) }
+        ensures stopped { IsErrOf result LinkFault.Stopped → self.old.stops < self.new.stops }
+    {
+        let answer = match self.told.joined(self.incoming.front(len)) {
+            Ok(Turn::Replace(bytes)) => self.replace(len, bytes),
+            Ok(Turn::Stop) => Err(self.lose()),
+            Ok(_) => self.replace(len, Vec::new(self.alloc)),
+            Err(AllocError) => Err(LinkFault::NoMemory),
+        };
+        self.is_open = self.is_open && answer.is_ok();
+        answer
+    }
+
+    /// Notes which message the reply at the front tells, if it has come. False: it must not be heard, since a message is told by half.
+    fn note_told(&mut self, extent: Extent) -> Result<bool, LinkFault>
+        requires looks { Looks self.old.incoming extent }
+        ensures same { Untouched self.old self.new }
+        ensures room { self.new.room ≡ self.old.room }
+        ensures opened { self.new.is_open ≡ self.old.is_open }
+        ensures stops { self.new.stops ≡ self.old.stops }
+        ensures err { IsErrOf result LinkFault.Stopped → ⊥ }
+    {
+        let (Extent::Heard(len) | Extent::Whole(len)) = extent else {
+            return Ok(true);
+        };
+        match self.told.note(self.incoming.front(len)) {
+            Ok(may_be_heard) => Ok(may_be_heard),
             Err(AllocError) => Err(LinkFault::NoMemory),
         }
     }

@@ -24,5 +24,6 @@ mod run;
 mod sent;
 mod status;
 mod token;
+mod told;
 pub mod turning;
 pub mod words;

@@ -35,11 +35,11 @@ pub(crate) enum ItemName {
 /// The values of the items of a FETCH reply that commands ask for. Of two of a name the first counts.
 #[derive(Clone, Copy)]
 pub(crate) struct FetchRow<'a> {
-    uid: Option<&'a [u8]>,
-    flags: Option<&'a [u8]>,
-    size: Option<&'a [u8]>,
-    body: Option<&'a [u8]>,
-    head: Option<&'a [u8]>,
+    pub(crate) uid: Option<&'a [u8]>,
+    pub(crate) flags: Option<&'a [u8]>,
+    pub(crate) size: Option<&'a [u8]>,
+    pub(crate) body: Option<&'a [u8]>,
+    pub(crate) head: Option<&'a [u8]>,
 }
 
 impl<'a> FetchRow<'a> {
@@ -80,6 +80,30 @@ impl<'a> FetchRow<'a> {
             ItemName::Head => self.head = self.head.or(Some(value)),
             ItemName::OtherName => {}
         }
+    }
+
+    /// These items, and those of an earlier row of the message that are not among them.
+    #[tactic(auto, using(crate::proofs::RowLemmas::holds_after))]
+    pub(crate) fn after(&self, earlier: &FetchRow<'a>) -> FetchRow<'a>
+        ensures { (old new : List Item) → IsRowOf old earlier.now → IsRowOf new self.now → IsRowOf (old ++ new) result }
+    {
+        FetchRow {
+            uid: self.uid.or(earlier.uid),
+            flags: self.flags.or(earlier.flags),
+            size: self.size.or(earlier.size),
+            body: self.body.or(earlier.body),
+            head: self.head.or(earlier.head),
+        }
+    }
+
+    /// Whether a UID is among them.
+    pub(crate) fn has_uid(&self) -> bool {
+        self.uid.is_some()
+    }
+
+    /// The UID, or 4294967295 if it is greater. None: there is none, or it cannot be read.
+    pub(crate) fn uid_number(&self) -> Option<u32> {
+        number_of(self.uid?)
     }
 
     /// Whether the octets of a whole message are among them.

@@ -163,7 +163,7 @@ fn numbered(alloc: Global, number: &[u8], event: &[u8], rest: &[u8]) -> Result<T
 /// What a client hears of a row with all items of one of its commands. It is never left out: where one of their values cannot be read, the
 /// connection is given up.
 #[tactic(auto, using(crate::proofs::RowLemmas::gives_row_if))]
-fn whole_row(alloc: Global, number: &[u8], row: FetchRow<'_>) -> Result<Turn, AllocError>
+pub(crate) fn whole_row(alloc: Global, number: &[u8], row: FetchRow<'_>) -> Result<Turn, AllocError>
     ensures heard { IfOk result IsHeard }
     ensures row { (items : List Item) → IsRowOf items row.entry → IfOk result (GivesRow number.now items) }
 {

@@ -80,6 +80,7 @@ fn refused_text(
             let store = String::from_str(alloc, place.store)?;
             Ok(StopCause::Undeleted(store, uid))
         }
+        Objection::Restored(side, uid) => Ok(StopCause::Restored(side, uid)),
         Objection::Unlooked(trouble) => {
             let folder = String::from_str(alloc, place.folder)?;
             Ok(StopCause::Disk(folder, trouble))

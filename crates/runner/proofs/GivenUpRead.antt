@@ -12,7 +12,7 @@ use Rattle.book.specs.Books.{Holds}
 use Rattle.book.specs.LostSides.{Lost}
 use Rattle.book.specs.Shelves.{Files}
 use Rattle.outside.specs.Devices.{Device, box}
-use Rattle.outside.specs.Opened.{IsHeld, Opened, journal_in, journal_of}
+use Rattle.outside.specs.Opened.{IsHeld, Opened, journal_in, journal_of, state_of}
 use Rattle.run_states.specs.Openings.{IsIdle}
 use Rattle.runner.specs.Going.{no_journal, number_at}
 use Rattle.runner.specs.declared.fault.RunFault.{RunFault}
@@ -21,10 +21,11 @@ use Rattle.runner.specs.Faults.{RefusedAt}
 use Rattle.runner.specs.Parts.{InStep}
 use Rattle.runner.proofs.PartCalls.{AreReasons}
 use Rattle.runner.proofs.StepParts.{steps_reported}
-use Rattle.runner.specs.GivingUp.{GivesUpRead, GivesUpSo, HoldsLeft, HoldsLeftOf, InLook, IsGivenUp, IsGivenUpRead, KeepsBoxes, LeavesRead, LosesBy, StillPending}
+use Rattle.runner.specs.GivingUp.{GivesUpRead, GivesUpSo, HoldsLeft, HoldsLeftOf, InLook, IsGivenUp, IsGivenUpRead, KeepsBoxes, LeavesRead, LosesBy, NotesCopy, StillPending, TakesBack, TakesBackOf, TakesBackRead, next_copy, with_found}
 use Rattle.runner.proofs.Finding.{same_then}
 use Rattle.book.proofs.KnownBooks.{book_known}
-use Rattle.std.specs.Option.{unwrap_or}
+use Rattle.std.specs.Option.{option_map, unwrap_or}
+use Rattle.mailcore.specs.declared.keywords.Keyword.{Keyword}
 use Rattle.runner.proofs.KeptBoxes.{boxes_next, held_same}
 use Rattle.runner.proofs.GivingUp.{StillOrLeft, left_looked, StillOrLooked, still_looked, ready, ready_state, ready_journal, still_ready}
 
@@ -74,7 +75,7 @@ validity_of (Some o) j side d e h = by_pending o.pending e h
     by_pending Useless e h = cc
     by_pending (Planned w) e h = let same : w.journal ≡ j = cc in ap (λ (k : Journal). plan_validity k.plan side) (sym same) ∙ h
 
-pub read_done : (ours : List ℕ → Bool) (alone : Bool) (v w : ℕ) (opened : Option Opened) (d m d' : Device) (answer : Bool) → KeepsBoxes ours alone d m → BothSame opened m → KeepsBoxes ours alone m d' → IsGivenUpRead ours alone (ready v w opened) m d' Missing
+pub read_done : (ours : List ℕ → Bool) (alone : Bool) (v w : ℕ) (opened : Option Opened) (d m d' : Device) (answer : Bool) → KeepsBoxes ours alone d m → BothSame opened m → (d'.far.validity ≡ m.far.validity) × (d'.near.store.validity ≡ m.near.store.validity) → IsGivenUpRead ours alone (ready v w opened) m d' Missing
     → GivesUpRead {T = Bool} ours alone opened d d' (Ok answer)
 read_done ours alone v w opened d m d' answer before same after k =
     let l = read_ready ours alone v w opened d m d' Missing before k in
@@ -85,8 +86,8 @@ read_done ours alone v w opened d m d' answer before same after k =
       journal_is = l.journal_is;
       gives_up = (
         l.given_up,
-        validity_of opened l.journal Far m l.journal_is same.0 ∙ sym after.far_validity,
-        validity_of opened l.journal Near m l.journal_is same.1 ∙ ap (λ (s : Store). s.validity) (sym after.near),
+        validity_of opened l.journal Far m l.journal_is same.0 ∙ sym after.0,
+        validity_of opened l.journal Near m l.journal_is same.1 ∙ sym after.1,
       );
     }
 
@@ -168,3 +169,57 @@ module _ (ours : List ℕ → Bool) (alone : Bool) (lost : Lost) (opened now : O
   pub left_or_looked : (r : Result (Unit {0}) RunFault) → OnErr r (h1 → IsHeld now m → StillOrLeft lost now d') → OnErr r (h1 → IsHeld opened d → StillOrLooked ours alone opened d d')
   left_or_looked (Ok x) k = tt
   left_or_looked (Err e) k = λ h held. still_looked ours alone lost opened d d' (loses (honest h)) (subst (λ (o : Option Opened). StillOrLeft lost o d') is (k h (held_then h held)))
+
+-- the plan that was read is the one that the files hold
+pub journal_known : (opened : Option Opened) (s : SyncState) (p : Pending) (d m : Device) → IsHeld opened m → m.files ≡ d.files → Holds d.files s p → journal_of opened ≡ journal_in p
+journal_known None s p d m held same h = absurd held
+journal_known (Some o) s p d m held same h =
+    let known = book_known m.files o.state s o.pending p held (subst (λ (f : Files). Holds f s p) (sym same) h) in
+    ap (λ (q : Pending). journal_in q) known.1
+
+-- where the files hold no book, none was read
+pub held_never : (opened : Option Opened) (d m : Device) → IsHeld opened m → m.files ≡ d.files → ((s : SyncState) (p : Pending) → Holds d.files s p → ⊥) → ⊥
+held_never None d m held same never = held
+held_never (Some o) d m held same never = never o.state o.pending (subst (λ (f : Files). Holds f o.state o.pending) same held)
+
+-- ---- the marks that are taken back
+
+module _ (ours : List ℕ → Bool) (alone : Bool) (keywords : List Keyword) where
+  back_from : (s : SyncState) (j : Journal) (d m d' : Device) → KeepsBoxes ours alone d m → TakesBackOf ours alone keywords s j m d' → TakesBackOf ours alone keywords s j d d'
+  back_from s j d m d' boxes k = record {
+    sought = k.sought;
+    same = same_then ours d m k.sought boxes.copies k.same;
+    looked = k.looked;
+    boxes = boxes_next ours alone d m k.looked boxes k.boxes;
+    taken = k.taken;
+  }
+
+  back_noted : (opened now : Option Opened) (d m d' : Device) → NotesCopy ours opened now d → KeepsBoxes ours alone d m → TakesBack ours alone keywords now m d' → TakesBackRead ours alone keywords opened d d'
+  back_noted opened now d m d' n boxes t = λ s j state journal. record {
+    sought = n.sought;
+    same = n.same;
+    looked = t.looked;
+    boxes = boxes_next ours alone d m t.looked boxes t.before;
+    taken = t.taken s (with_found j (next_copy j n.sought)) (n.state ∙ state) (n.journal ∙ ap (λ (o : Option Journal). option_map (λ k. with_found k (next_copy k n.sought)) o) journal);
+  }
+
+  pub back_noted_ok : {T E : Type 0} (opened now : Option Opened) (d m d' : Device) (h0 h1 : Type 0) (r : Result T E) → (h1 → h0) → (h0 → NotesCopy ours opened now d) → (h0 → KeepsBoxes ours alone d m)
+      → OnOk r (h1 → TakesBack ours alone keywords now m d') → OnOk r (h1 → TakesBackRead ours alone keywords opened d d')
+  back_noted_ok opened now d m d' h0 h1 (Ok x) honest n boxes t = λ h. back_noted opened now d m d' (n (honest h)) (boxes (honest h)) (t h)
+  back_noted_ok opened now d m d' h0 h1 (Err e) honest n boxes t = tt
+
+  pub back_ready : (v w : ℕ) (opened now : Option Opened) (d m d' : Device) → now ≡ ready v w opened → KeepsBoxes ours alone d m → TakesBackRead ours alone keywords now m d' → TakesBackRead ours alone keywords opened d d'
+  back_ready v w opened now d m d' is boxes t = λ s j state journal.
+      back_from s j d m d' boxes (t s j (ap (λ (o : Option Opened). state_of o) is ∙ ready_state v w opened ∙ state) (ap (λ (o : Option Opened). journal_of o) is ∙ ready_journal v w opened ∙ journal))
+
+  back_read : (opened : Option Opened) (s : SyncState) (w : WrittenJournal) (d m d' : Device) → IsHeld opened m → m.files ≡ d.files → Holds d.files s (Planned w) → KeepsBoxes ours alone d m
+      → TakesBackRead ours alone keywords opened m d' → TakesBackOf ours alone keywords s w.journal d d'
+  back_read None s w d m d' held same h boxes t = absurd held
+  back_read (Some o) s w d m d' held same h boxes t =
+      let known = book_known m.files o.state s o.pending (Planned w) held (subst (λ (f : Files). Holds f s (Planned w)) (sym same) h) in
+      back_from s w.journal d m d' boxes (t s w.journal (ap (λ (x : SyncState). Some x) known.0) (ap (λ (q : Pending). journal_in q) known.1))
+
+  pub back_by_files : {T E : Type 0} (opened : Option Opened) (s : SyncState) (w : WrittenJournal) (d m d' : Device) (h1 : Type 0) (r : Result T E) → h1 → IsHeld opened m → m.files ≡ d.files → Holds d.files s (Planned w) → KeepsBoxes ours alone d m
+      → OnOk r (h1 → TakesBackRead ours alone keywords opened m d') → OnOk r (TakesBackOf ours alone keywords s w.journal d d')
+  back_by_files opened s w d m d' h1 (Ok x) honest held same h boxes t = back_read opened s w d m d' held same h boxes (t honest)
+  back_by_files opened s w d m d' h1 (Err e) honest held same h boxes t = tt

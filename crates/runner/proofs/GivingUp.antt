@@ -241,6 +241,16 @@ logged_plan (Some o) logged h = by_pending o.pending h
     by_pending Useless h = absurd h
     by_pending (Planned w) h = tt
 
+-- what is logged changes no plan
+pub logged_same : (opened : Option Opened) (logged : Logged) → plan_at (turned (λ p. logged_more p logged) opened) ≡ plan_at opened
+logged_same None logged = refl
+logged_same (Some o) logged = by_pending o.pending
+  where
+    by_pending : (p : Pending) → plan_at (Some (record o { pending = logged_more p logged })) ≡ plan_at (Some (record o { pending = p }))
+    by_pending Missing = refl
+    by_pending Useless = refl
+    by_pending (Planned w) = refl
+
 -- ---- all calls together
 
 -- what is pending still by what was noted

@@ -22,6 +22,7 @@ pub mod Reopening
 pub mod Ends
 pub mod Finding
 pub mod KeptBoxes
+pub mod MarksBack
 pub mod Listings
 pub mod Naming
 pub mod GivingUp

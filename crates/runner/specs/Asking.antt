@@ -10,6 +10,7 @@ use Rattle.rules.specs.declared.plan.Step.{Step}
 use Rattle.rules.specs.declared.plan.Step.TheVariants as step
 use Rattle.law_outcome.specs.Steps.{changed_uid}
 use Rattle.outside.specs.Asked.{Asked, Begun, Cleared, Copied, Read, Removed, Set, Sought}
+use Rattle.outside.specs.Devices.{Named}
 use Rattle.outside.specs.Opened.{Opened}
 use Rattle.run_states.specs.Plans.{first_uid}
 use Rattle.runner.specs.Going.{log_at, no_journal, plan_at}
@@ -131,3 +132,20 @@ pub record Calls {L : Type 0} (noted : L → Asked → L) (steps : List Step) (o
   pub calls : List Asked
   pub now : new ≡ fold noted old calls
   pub each : All (IsCalledBy steps) calls
+
+-- ---- looks, and marks that are taken back
+
+-- the same, or the mark of such a message is to be cleared
+abbrev pub IsLookOr : (may : Named → Type 0) → Asked → Type 0
+IsLookOr may (Read journal) = Unit {0}
+IsLookOr may (Begun plan) = ⊥
+IsLookOr may (Sought side mark from found) = Unit {0}
+IsLookOr may (Copied d uid flags mark) = ⊥
+IsLookOr may (Set side uid flags) = ⊥
+IsLookOr may (Cleared side uid flags) = may (record { side = side; uid = uid }) × (flags ≡ 2 ^ DELETED)
+IsLookOr may (Removed side uid) = ⊥
+
+pub record LooksAndClears {L : Type 0} (noted : L → Asked → L) (may : Named → Type 0) (old new : L) : Type 0 where
+  pub calls : List Asked
+  pub now : new ≡ fold noted old calls
+  pub each : All (IsLookOr may) calls

@@ -1,5 +1,13 @@
 -- What giving up a plan leaves of both mailboxes and of the files.
-use Rattle.std.specs.Prelude.{◌≡◌, ◌≤◌, ◌⊎◌, ◌+◌, ◌++◌, ℕ, Bool, true, List, length, Option, None, Some, Result, Ok, Err}
+use Rattle.std.specs.Prelude.{◌≡◌, ◌≤◌, ◌⊎◌, ◌+◌, ◌++◌, ◌^◌, ◌==◌, ℕ, All, Bool, true, List, [], ◌∷◌, length, map, Option, None, Some, Result, Ok, Err}
+use Rattle.std.specs.List.{filter_map, list_any}
+use Rattle.device.specs.Calls.{Effect}
+use Rattle.mailcore.specs.declared.keywords.Keyword.{Keyword}
+use Rattle.mailcore.specs.declared.side.Side.{Side}
+use Rattle.mailcore.specs.FlagSet.{DELETED}
+use Rattle.mailcore.specs.KeywordNames.{kept}
+use Rattle.mailcore.specs.Operations.{flags_removed}
+use Rattle.outside.specs.BoxCalls.{Names, Turns}
 use Rattle.std.specs.Option.{option_map}
 use Rattle.mailcore.specs.declared.listing.Item.{Item}
 use Rattle.mailcore.specs.declared.mailbox.Message.{Message}
@@ -14,8 +22,9 @@ use Rattle.book.specs.declared.book.Pending.TheVariants.{Missing, Planned}
 use Rattle.book.specs.BookLogs.{with_logged}
 use Rattle.book.specs.GivingUp.{GivesUp}
 use Rattle.book.specs.LostSides.{Lost}
+use Rattle.rules.specs.declared.entry.Entry.{Entry}
 use Rattle.outside.specs.Calls.{Seen}
-use Rattle.outside.specs.Devices.{Device}
+use Rattle.outside.specs.Devices.{Device, Named}
 use Rattle.outside.specs.GoingOn.{Continues}
 use Rattle.book.specs.Books.{Holds, mended}
 use Rattle.mailcore.specs.declared.side.Side.TheVariants.{Far, Near}
@@ -25,7 +34,9 @@ use Rattle.run_states.specs.Plans.{next_of}
 use Rattle.runner.specs.declared.fault.RunFault.{RunFault}
 use Rattle.runner.specs.Faults.{Reasons, ReportsUnread, because, or_refused, or_unread}
 use Rattle.runner.specs.Finding.{FindsSame, copy_at}
-use Rattle.runner.specs.HalfEntries.{lost_at, lost_between, removes_some}
+use Rattle.runner.specs.HalfEntries.{far_items, lost_at, lost_between, near_items}
+use Rattle.runner.specs.Marks.{back_among, marked_on, marks}
+use Rattle.runner.specs.declared.half_entries.Undone.{Undone}
 use Rattle.runner.specs.Parts.{PartOr, Never}
 use Rattle.runner.specs.Validities.{AnswersChanged, ReportsChanged}
 
@@ -44,6 +55,71 @@ pub record KeepsBoxes (ours : List ℕ → Bool) (alone : Bool) (d d' : Device) 
 -- and the files are as they were
 abbrev pub KeepsAll : (ours : List ℕ → Bool) → (alone : Bool) → (d d' : Device) → Type 0
 KeepsAll ours alone d d' = KeepsBoxes ours alone d d' × (d'.files ≡ d.files)
+
+-- ---- marks that are taken back
+
+-- the message is named, and is not marked as deleted any more
+abbrev pub Unmarks : (keywords : List Keyword) → Named → Effect Device
+Unmarks keywords n d d' = Turns n.side n.uid (flags_removed n.uid (kept keywords (2 ^ DELETED))) d d'
+
+-- the same, or it is named alone
+abbrev pub UnmarksOrNot : (keywords : List Keyword) → Named → Effect Device
+UnmarksOrNot keywords n d d' = Unmarks keywords n d d' ⊎ Names n.side n.uid d d'
+
+-- others may add before; this message is turned so, and then the rest
+pub record TurnsFirst (ours : List ℕ → Bool) (alone : Bool) (turns rest : Effect Device) (d d' : Device) : Type 0 where
+  pub mid : Device
+  pub turned : Device
+  pub before : KeepsBoxes ours alone d mid
+  pub first : turns mid turned
+  pub after : rest turned d'
+
+-- These messages are turned so, one after another. Between, both mailboxes are as they were, but for what others added.
+abbrev pub TurnsAll : (ours : List ℕ → Bool) → (alone : Bool) → (turns : Named → Effect Device) → List Named → Effect Device
+TurnsAll ours alone turns [] d d' = KeepsBoxes ours alone d d'
+TurnsAll ours alone turns (n ∷ ns) d d' = TurnsFirst ours alone (turns n) (TurnsAll ours alone turns ns) d d'
+
+abbrev pub named : Side → ℕ → Named
+named side uid = record { side = side; uid = uid }
+
+-- some of these messages are named, one after another, and not marked as deleted any more, or named alone
+pub record TurnsSome (ours : List ℕ → Bool) (alone : Bool) (keywords : List Keyword) (may : Named → Type 0) (d d' : Device) : Type 0 where
+  pub messages : List Named
+  pub each : All may messages
+  pub turned : TurnsAll ours alone (UnmarksOrNot keywords) messages d d'
+
+-- a message of this side that is one of these
+abbrev pub IsOneOf : Side → List ℕ → Named → Type 0
+IsOneOf side uids n = (n.side ≡ side) × (list_any (λ u. u == n.uid) uids ≡ true)
+
+-- a message that a step of the plan marks as deleted
+abbrev pub IsMarkIn : Option Journal → Named → Type 0
+IsMarkIn None n = ⊥
+IsMarkIn (Some j) n = list_any (λ u. u == n.uid) (filter_map (marks n.side) j.plan.steps) ≡ true
+
+-- Both mailboxes are as they were, but for what others added, and for marks that are taken back: of messages that steps of this plan mark as
+-- deleted.
+abbrev pub KeepsButMarks : (ours : List ℕ → Bool) → (alone : Bool) → (keywords : List Keyword) → Option Journal → Effect Device
+KeepsButMarks ours alone keywords journal d d' = TurnsSome ours alone keywords (IsMarkIn journal) d d'
+
+-- those that are found when a plan is given up
+abbrev pub marks_of : Undone → List Named
+marks_of undone = map (named Far) undone.far.items ++ map (named Near) undone.near.items
+
+abbrev pub IsMarkOf : Undone → Named → Type 0
+IsMarkOf undone n = IsOneOf Far undone.far.items n ⊎ IsOneOf Near undone.near.items n
+
+-- the marks that are taken back of a plan, by both mailboxes as they were looked at
+abbrev pub marks_back : Journal → SyncState → Device → List Named
+marks_back j s d = map (named Far) (back_among (marked_on j Far) Far (far_items d) (near_items d) s.entries)
+    ++ map (named Near) (back_among (marked_on j Near) Near (near_items d) (far_items d) s.entries)
+
+-- They are taken back, and no other: by both mailboxes as they were looked at, those of messages that steps which are logged have marked, or the
+-- one after them may have, whose other message is there, and is not marked.
+pub record TakesBack (ours : List ℕ → Bool) (alone : Bool) (keywords : List Keyword) (opened : Option Opened) (d d' : Device) : Type 0 where
+  pub looked : Device
+  pub before : KeepsBoxes ours alone d looked
+  pub taken : (s : SyncState) (j : Journal) → state_of opened ≡ Some s → journal_of opened ≡ Some j → TurnsAll ours alone (Unmarks keywords) (marks_back j s looked) looked d'
 
 -- ---- the copy after the log
 
@@ -107,6 +183,19 @@ pub record IsGivenUp (ours : List ℕ → Bool) (alone : Bool) (before : SyncSta
   pub left : GivesUp (with_found j (next_copy j sought)) (lost_at (with_found j (next_copy j sought)) before looked) before state
   pub held : Holds d'.files state pending
 
+-- The marks of this plan are taken back, and no other, by both mailboxes as they were looked at. Of its next step a copy was sought: it is logged
+-- if it was there. The device on which it was sought has the same copies as this one.
+pub record TakesBackOf (ours : List ℕ → Bool) (alone : Bool) (keywords : List Keyword) (before : SyncState) (j : Journal) (d d' : Device) : Type 0 where
+  pub sought : Device
+  pub same : FindsSame ours d sought
+  pub looked : Device
+  pub boxes : KeepsBoxes ours alone d looked
+  pub taken : TurnsAll ours alone (Unmarks keywords) (marks_back (with_found j (next_copy j sought)) before looked) looked d'
+
+-- the same, by what was read
+abbrev pub TakesBackRead : (ours : List ℕ → Bool) → (alone : Bool) → (keywords : List Keyword) → Option Opened → (d d' : Device) → Type 0
+TakesBackRead ours alone keywords opened d d' = (s : SyncState) (j : Journal) → state_of opened ≡ Some s → journal_of opened ≡ Some j → TakesBackOf ours alone keywords s j d d'
+
 -- the plan is pending still, with at least the steps that were logged
 pub record IsPending (before : SyncState) (j : Journal) (d : Device) : Type 0 where
   pub written : WrittenJournal
@@ -148,19 +237,32 @@ pub record NotesCopy (ours : List ℕ → Bool) (opened now : Option Opened) (d 
 
 -- ---- which entries lose a side
 
--- by what was read, and by these listings
-abbrev pub LosesListed : Option Opened → (far near : List Item) → (lost : Lost) → Type 0
-LosesListed opened far near lost = (s : SyncState) (j : Journal) → state_of opened ≡ Some s → journal_of opened ≡ Some j → lost ≡ lost_between j far near s.entries
+-- by what these listings show of a plan and of these entries: those that lose a side, and the marks that are taken back
+pub record IsUndone (j : Journal) (at_far at_near : List Item) (entries : List Entry) (undone : Undone) : Type 0 where
+  pub lost : undone.lost ≡ lost_between j at_far at_near entries
+  pub far : undone.far.items ≡ back_among (marked_on j Far) Far at_far at_near entries
+  pub near : undone.near.items ≡ back_among (marked_on j Near) Near at_near at_far entries
 
--- by what was read, and by both mailboxes as they were looked at
+-- by what was read, and by these listings
+abbrev pub LosesListed : Option Opened → (far near : List Item) → Undone → Type 0
+LosesListed opened far near undone = (s : SyncState) (j : Journal) → state_of opened ≡ Some s → journal_of opened ≡ Some j → IsUndone j far near s.entries undone
+
+-- each of these marks is one that a step of the plan that was read sets
+abbrev pub AreMarksIn : Option Opened → Undone → Type 0
+AreMarksIn opened undone = (n : Named) → IsMarkOf undone n → IsMarkIn (journal_of opened) n
+
+-- by what was read, and by both mailboxes as they were looked at; since then they are as they were, but for what others added
+pub record UndoneBy (ours : List ℕ → Bool) (alone : Bool) (opened : Option Opened) (d d' : Device) (undone : Undone) : Type 0 where
+  pub looked : Device
+  pub boxes : KeepsBoxes ours alone d looked
+  pub after : KeepsBoxes ours alone looked d'
+  pub undone_is : LosesListed opened (far_items looked) (near_items looked) undone
+
+-- which entries lose a side by them
 pub record LosesBy (ours : List ℕ → Bool) (alone : Bool) (opened : Option Opened) (d : Device) (lost : Lost) : Type 0 where
   pub looked : Device
   pub boxes : KeepsBoxes ours alone d looked
   pub lost_is : (s : SyncState) (j : Journal) → state_of opened ≡ Some s → journal_of opened ≡ Some j → lost ≡ lost_at j s looked
-
--- whether the plan that was read has removed a message, or found one removed
-abbrev pub RemovesSome : Option Opened → Bool → Type 0
-RemovesSome opened removes = (j : Journal) → journal_of opened ≡ Some j → removes ≡ removes_some j
 
 -- both boxes were opened, and no torn line stands after the plan
 pub record IsReady (old new : Option Opened) : Type 0 where

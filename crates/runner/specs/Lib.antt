@@ -17,5 +17,6 @@ pub mod Passes
 pub mod PassStages
 pub mod AttemptStages
 pub mod Sources
+pub mod Marks
 pub mod HalfEntries
 pub mod GivingUp

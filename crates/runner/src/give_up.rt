@@ -1,6 +1,6 @@
 //! A plan that has become wrong is given up: neither mailbox is changed, and what it has copied is recorded.
 
-ghost use Rattle.std.specs.Prelude.{◌≡◌, ◌⊎◌, false, is_some, true, Some, OnOk, OnErr, IfOk};
+ghost use Rattle.std.specs.Prelude.{◌≡◌, ◌⊎◌, ◌^◌, [], ◌∷◌, false, is_some, map, true, Option, Some, OnOk, OnErr, IfOk};
 ghost use Rattle.mailcore.specs.Operations.{marked_from};
 ghost use Rattle.rules.specs.declared.state.SyncState.{SyncState as State};
 ghost use Rattle.sync_state.specs.declared.journal.WrittenJournal.{WrittenJournal};
@@ -10,24 +10,27 @@ ghost use Rattle.book.specs.declared.book.Pending.TheVariants.{Missing, Planned}
 ghost use Rattle.book.specs.Books.{Holds, mended};
 ghost use Rattle.book.specs.BookLogs.{logged_more};
 ghost use Rattle.book.specs.LostSides.{AreRising};
-ghost use Rattle.outside.specs.Asked.{Read, after_look};
+ghost use Rattle.outside.specs.Asked.{Cleared, Read, after_look};
+ghost use Rattle.mailcore.specs.FlagSet.{DELETED};
+ghost use Rattle.sync_state.specs.declared.journal.Journal.{Journal};
 ghost use Rattle.outside.specs.Devices.{box};
 ghost use Rattle.outside.specs.Opened.{IsBook, IsHeld, journal_in, journal_of, turned};
 ghost use Rattle.run_states.specs.Openings.{IsIdle};
 ghost use Rattle.run_states.specs.Plans.{first_uid as first_of};
-ghost use Rattle.runner.specs.Asking.{Looks};
+ghost use Rattle.runner.specs.Asking.{Looks, LooksAndClears};
 ghost use Rattle.runner.specs.Before.{HasPlan};
 ghost use Rattle.runner.specs.Faults.{ReportsUnread, because, or_refused, or_unread};
-ghost use Rattle.runner.specs.GivingUp.{Counted, GivesUpRead, GivesUpSo, HoldsLeft, HoldsLeftOf, InLook, IsReady, KeepsAll, KeepsBoxes, LeavesRead, NotesCopy, StillPending, giving_up_reasons};
+ghost use Rattle.runner.specs.GivingUp.{Counted, GivesUpRead, GivesUpSo, HoldsLeft, HoldsLeftOf, InLook, IsMarkIn, IsMarkOf, IsOneOf, IsReady, KeepsAll, KeepsBoxes, KeepsButMarks, LeavesRead, NotesCopy, StillPending, TakesBack, TakesBackOf, TakesBackRead, TurnsAll, TurnsSome, Unmarks, giving_up_reasons, marks_of, named};
 ghost use Rattle.runner.specs.Going.{AreOpen, CopiesUnder, FitsNext, IsGoing, next_at, number_at, plan_at};
 ghost use Rattle.runner.specs.Parts.{IsStuck, Never};
 ghost use Rattle.runner.specs.Validities.{AnswersChanged, BothSame, HasSame, IsKept, IsOther, IsSame, OpensBoth, OpensBox, ReportsChange, ReportsOther};
 
 use crate::fault::{RunFault, call_fault, step_fault};
-use crate::half_entries::lost_sides;
+use crate::half_entries::{Undone, look_both};
 use crate::opening::recorded_validity;
-use crate::pending::{first_uid, next_step};
+use crate::pending::{first_uid, next_number, next_step};
 use book::lost_sides::LostSides;
+use mailcore::flags::{Flag, Flags};
 use mailcore::side::{Direction, Side};
 use mailcore::tuid::Tuid;
 use mailcore::uid::Uid;
@@ -165,6 +168,7 @@ fn seek_and_log<O: Outside>(
     ensures was_honest { O.honest outside.new → O.honest outside.old }
     ensures keywords { O.keywords outside.new ≡ O.keywords outside.old }
     ensures plan { OnOk result (HasPlan (O.opened outside.new)) }
+    ensures same_plan { OnOk result (plan_at (O.opened outside.new) ≡ plan_at (O.opened outside.old)) }
     ensures notes { OnOk result (O.honest outside.new → NotesCopy O.ours (O.opened outside.old) (O.opened outside.new)
         (O.seen outside.old).device) }
     ensures held { OnOk result (O.honest outside.new → IsHeld (O.opened outside.old) (O.seen outside.old).device
@@ -191,6 +195,7 @@ fn note_step<O: Outside>(outside: &mut O, number: usize, step: Step) -> Result<(
     ensures was_honest { O.honest outside.new → O.honest outside.old }
     ensures keywords { O.keywords outside.new ≡ O.keywords outside.old }
     ensures plan { OnOk result (HasPlan (O.opened outside.new)) }
+    ensures same_plan { OnOk result (plan_at (O.opened outside.new) ≡ plan_at (O.opened outside.old)) }
     ensures notes { OnOk result (O.honest outside.new → NotesCopy O.ours (O.opened outside.old) (O.opened outside.new)
         (O.seen outside.old).device) }
     ensures held { OnOk result (O.honest outside.new → IsHeld (O.opened outside.old) (O.seen outside.old).device
@@ -221,6 +226,7 @@ fn note_copy<O: Outside>(outside: &mut O) -> Result<(), RunFault>
     ensures was_honest { O.honest outside.new → O.honest outside.old }
     ensures keywords { O.keywords outside.new ≡ O.keywords outside.old }
     ensures plan { OnOk result (HasPlan (O.opened outside.new)) }
+    ensures same_plan { OnOk result (plan_at (O.opened outside.new) ≡ plan_at (O.opened outside.old)) }
     ensures notes { OnOk result (O.honest outside.new → NotesCopy O.ours (O.opened outside.old) (O.opened outside.new)
         (O.seen outside.old).device) }
     ensures held { OnOk result (O.honest outside.new → IsHeld (O.opened outside.old) (O.seen outside.old).device
@@ -259,8 +265,87 @@ fn leave<O: Outside>(outside: &mut O, lost: &LostSides) -> Result<(), RunFault>
     }
 }
 
-/// Looks which entries lose a side, and leaves the plan.
-fn look_and_leave<O: Outside>(alloc: Global, outside: &mut O) -> Result<(), RunFault>
+/// Takes the mark of a message back. A refusal is reported of the step of this number.
+fn take_one_back<O: Outside>(
+    outside: &mut O,
+    number: usize,
+    side: Side,
+    uid: Uid,
+) -> Result<(), RunFault>
+    requires boxes { AreOpen (O.opened outside.old) }
+    requires whole { (O.seen outside.old).is_broken ≡ false }
+    ensures was_honest { O.honest outside.new → O.honest outside.old }
+    ensures keywords { O.keywords outside.new ≡ O.keywords outside.old }
+    ensures opened { O.opened outside.new ≡ O.opened outside.old }
+    ensures back { OnOk result (O.honest outside.new → TurnsAll O.ours O.alone (Unmarks (O.keywords outside.old)) (named side uid ∷ [])
+        (O.seen outside.old).device (O.seen outside.new).device) }
+    ensures boxes { O.honest outside.new → TurnsSome O.ours O.alone (O.keywords outside.old) (λ n. n ≡ named side uid)
+        (O.seen outside.old).device (O.seen outside.new).device }
+    ensures files { O.honest outside.new → (O.seen outside.new).device.files ≡ (O.seen outside.old).device.files }
+    ensures counted { Counted (InLook number) (O.honest outside.new) (O.seen outside.old) (O.seen outside.new) result }
+    ensures asked { O.asked outside.new ≡ O.noted (O.asked outside.old) (Cleared side uid (2 ^ DELETED)) }
+{
+    match outside.remove_flags(side, uid, Flags::only(Flag::Deleted)) {
+        Ok(()) => Ok(()),
+        Err(fault) => Err(step_fault(fault, number)),
+    }
+}
+
+/// Takes the marks of these messages back, one after another.
+fn take_back<O: Outside>(
+    outside: &mut O,
+    number: usize,
+    side: Side,
+    uids: &[Uid],
+) -> Result<(), RunFault>
+    requires boxes { AreOpen (O.opened outside.old) }
+    requires whole { (O.seen outside.old).is_broken ≡ false }
+    ensures was_honest { O.honest outside.new → O.honest outside.old }
+    ensures keywords { O.keywords outside.new ≡ O.keywords outside.old }
+    ensures opened { O.opened outside.new ≡ O.opened outside.old }
+    ensures back { OnOk result (O.honest outside.new → TurnsAll O.ours O.alone (Unmarks (O.keywords outside.old)) (map (named side) uids.now)
+        (O.seen outside.old).device (O.seen outside.new).device) }
+    ensures boxes { O.honest outside.new → TurnsSome O.ours O.alone (O.keywords outside.old) (IsOneOf side uids.now)
+        (O.seen outside.old).device (O.seen outside.new).device }
+    ensures files { O.honest outside.new → (O.seen outside.new).device.files ≡ (O.seen outside.old).device.files }
+    ensures counted { Counted (InLook number) (O.honest outside.new) (O.seen outside.old) (O.seen outside.new) result }
+    ensures asked { LooksAndClears O.noted (IsOneOf side uids.now) (O.asked outside.old) (O.asked outside.new) }
+{
+    for uid in uids {
+        take_one_back(outside, number, side, *uid)?;
+    }
+    Ok(())
+}
+
+/// Takes these marks back, far before near.
+fn take_all_back<O: Outside>(
+    outside: &mut O,
+    number: usize,
+    undone: &Undone,
+) -> Result<(), RunFault>
+    requires boxes { AreOpen (O.opened outside.old) }
+    requires whole { (O.seen outside.old).is_broken ≡ false }
+    ensures was_honest { O.honest outside.new → O.honest outside.old }
+    ensures keywords { O.keywords outside.new ≡ O.keywords outside.old }
+    ensures opened { O.opened outside.new ≡ O.opened outside.old }
+    ensures back { OnOk result (O.honest outside.new → TurnsAll O.ours O.alone (Unmarks (O.keywords outside.old)) (marks_of undone.now)
+        (O.seen outside.old).device (O.seen outside.new).device) }
+    ensures boxes { O.honest outside.new → TurnsSome O.ours O.alone (O.keywords outside.old) (IsMarkOf undone.now)
+        (O.seen outside.old).device (O.seen outside.new).device }
+    ensures files { O.honest outside.new → (O.seen outside.new).device.files ≡ (O.seen outside.old).device.files }
+    ensures counted { Counted (InLook number) (O.honest outside.new) (O.seen outside.old) (O.seen outside.new) result }
+    ensures asked { LooksAndClears O.noted (IsMarkOf undone.now) (O.asked outside.old) (O.asked outside.new) }
+{
+    take_back(outside, number, Side::Far, &undone.far)?;
+    take_back(outside, number, Side::Near, &undone.near)
+}
+
+/// Looks which entries lose a side, takes marks back, and leaves the plan. A refusal is reported of the step of this number.
+fn look_and_leave<O: Outside>(
+    alloc: Global,
+    outside: &mut O,
+    number: usize,
+) -> Result<(), RunFault>
     requires plan { HasPlan (O.opened outside.old) }
     requires boxes { AreOpen (O.opened outside.old) }
     requires whole { (O.seen outside.old).is_broken ≡ false }
@@ -271,12 +356,16 @@ fn look_and_leave<O: Outside>(alloc: Global, outside: &mut O) -> Result<(), RunF
     ensures left { OnErr result (O.honest outside.new → IsHeld (O.opened outside.old) (O.seen outside.old).device
         → StillPending (O.opened outside.old) (O.seen outside.new).device ⊎ ((pending : Pending) × IsIdle pending
         × HoldsLeft O.ours O.alone (O.opened outside.old) pending (O.seen outside.old).device (O.seen outside.new).device)) }
-    ensures boxes { O.honest outside.new → KeepsBoxes O.ours O.alone (O.seen outside.old).device (O.seen outside.new).device }
-    ensures counted { Counted Never (O.honest outside.new) (O.seen outside.old) (O.seen outside.new) result }
-    ensures asked { O.asked outside.new ≡ O.asked outside.old }
+    ensures back { OnOk result (O.honest outside.new → TakesBack O.ours O.alone (O.keywords outside.old) (O.opened outside.old)
+        (O.seen outside.old).device (O.seen outside.new).device) }
+    ensures boxes { O.honest outside.new → KeepsButMarks O.ours O.alone (O.keywords outside.old) (journal_of (O.opened outside.old))
+        (O.seen outside.old).device (O.seen outside.new).device }
+    ensures counted { Counted (InLook number) (O.honest outside.new) (O.seen outside.old) (O.seen outside.new) result }
+    ensures asked { LooksAndClears O.noted (IsMarkIn (journal_of (O.opened outside.old))) (O.asked outside.old) (O.asked outside.new) }
 {
-    let lost = lost_sides(alloc, outside)?;
-    leave(outside, &lost)
+    let undone = look_both(alloc, outside)?;
+    take_all_back(outside, number, &undone)?;
+    leave(outside, &undone.lost)
 }
 
 /// Opens both boxes. `ValidityChanged`: a UIDVALIDITY is not the plan's.
@@ -318,7 +407,7 @@ fn get_ready<O: Outside>(outside: &mut O) -> Result<(), RunFault>
     mend_plan(outside)
 }
 
-/// Logs the copy that the step after the logged ones may have made, looks which entries lose a side, and leaves the plan.
+/// Logs the copy that the step after the logged ones may have made, looks which entries lose a side, takes marks back, and leaves the plan.
 fn finish_log<O: Outside>(alloc: Global, outside: &mut O) -> Result<(), RunFault>
     requires going { IsGoing (O.opened outside.old) }
     requires whole { (O.seen outside.old).is_broken ≡ false }
@@ -326,13 +415,17 @@ fn finish_log<O: Outside>(alloc: Global, outside: &mut O) -> Result<(), RunFault
     ensures keywords { O.keywords outside.new ≡ O.keywords outside.old }
     ensures gives_up { O.honest outside.new → IsHeld (O.opened outside.old) (O.seen outside.old).device
         → LeavesRead O.ours O.alone (O.opened outside.old) (O.seen outside.old).device (O.seen outside.new).device result }
-    ensures boxes { O.honest outside.new → KeepsBoxes O.ours O.alone (O.seen outside.old).device (O.seen outside.new).device }
+    ensures back { OnOk result (O.honest outside.new → TakesBackRead O.ours O.alone (O.keywords outside.old) (O.opened outside.old)
+        (O.seen outside.old).device (O.seen outside.new).device) }
+    ensures boxes { O.honest outside.new → KeepsButMarks O.ours O.alone (O.keywords outside.old) (journal_of (O.opened outside.old))
+        (O.seen outside.old).device (O.seen outside.new).device }
     ensures counted { Counted (InLook (number_at (O.opened outside.old))) (O.honest outside.new) (O.seen outside.old) (O.seen outside.new)
         result }
-    ensures asked { Looks O.noted (O.asked outside.old) (O.asked outside.new) }
+    ensures asked { LooksAndClears O.noted (IsMarkIn (journal_of (O.opened outside.old))) (O.asked outside.old) (O.asked outside.new) }
 {
+    let number = next_number(outside);
     note_copy(outside)?;
-    look_and_leave(alloc, outside)
+    look_and_leave(alloc, outside, number)
 }
 
 /// Gives up the plan that was read.
@@ -344,12 +437,15 @@ fn leave_plan<O: Outside>(alloc: Global, outside: &mut O) -> Result<bool, RunFau
     ensures answer { IfOk result (λ given_up. given_up ≡ true) }
     ensures gives_up { O.honest outside.new → IsHeld (O.opened outside.old) (O.seen outside.old).device
         → GivesUpRead O.ours O.alone (O.opened outside.old) (O.seen outside.old).device (O.seen outside.new).device result }
-    ensures boxes { O.honest outside.new → KeepsBoxes O.ours O.alone (O.seen outside.old).device (O.seen outside.new).device }
+    ensures back { OnOk result (O.honest outside.new → TakesBackRead O.ours O.alone (O.keywords outside.old) (O.opened outside.old)
+        (O.seen outside.old).device (O.seen outside.new).device) }
+    ensures boxes { O.honest outside.new → KeepsButMarks O.ours O.alone (O.keywords outside.old) (journal_of (O.opened outside.old))
+        (O.seen outside.old).device (O.seen outside.new).device }
     ensures counted { Counted (or_refused (λ step. step ≡ number_at (O.opened outside.old)) (because (λ at. ReportsChange
         (O.honest outside.new) O.alone (O.opened outside.old) (O.seen outside.old).device (O.seen outside.new).device at
         × AnswersChanged (O.opened outside.new) at) ⊥)) (O.honest outside.new)
         (O.seen outside.old) (O.seen outside.new) result }
-    ensures asked { Looks O.noted (O.asked outside.old) (O.asked outside.new) }
+    ensures asked { LooksAndClears O.noted (IsMarkIn (journal_of (O.opened outside.old))) (O.asked outside.old) (O.asked outside.new) }
 {
     get_ready(outside)?;
     match finish_log(alloc, outside) {
@@ -359,19 +455,32 @@ fn leave_plan<O: Outside>(alloc: Global, outside: &mut O) -> Result<bool, RunFau
 }
 
 /// Gives up the plan of the next run; true where one was pending. What it has copied is recorded, and the next run plans anew.
-/// Neither mailbox is changed. `ValidityChanged`: a UIDVALIDITY is not the plan's. `BadState(0)`: a copy has a UID that is taken.
+/// Marks that it has set are taken back where the other message is there, and is not marked; nothing else is changed. `ValidityChanged`: a UIDVALIDITY is not the plan's. `BadState(0)`: a copy has a UID that is taken.
 ///
 /// After an error the plan is still pending, or was given up, and this can be called again, once the outside was reopened.
 pub fn give_up<O: Outside>(alloc: Global, outside: &mut O) -> Result<bool, RunFault>
     ensures was_honest { O.honest outside.new → O.honest outside.old }
     ensures keywords { O.keywords outside.new ≡ O.keywords outside.old }
 
-    // Whatever others do meanwhile, and whatever calls answer: it reads the journal and looks for copies; it asks for no message to be
-    // copied, changed or removed.
-    ensures asked { Looks O.noted (O.asked outside.old) (O.asked outside.new) }
+    // Whatever others do meanwhile, and whatever calls answer: it reads the journal and looks for copies; and it asks for the mark of a message
+    // to be cleared that a step of the plan which was read marks as deleted. It asks for no message to be copied or
+    // removed, or changed otherwise.
+    ensures asked { (journal : Option Journal) × LooksAndClears O.noted (IsMarkIn journal) (O.noted (O.asked outside.old) (Read journal))
+        (O.asked outside.new) }
 
-    // Whatever the answer, both mailboxes are as they were, but for what others added.
-    ensures boxes { O.honest outside.new → KeepsBoxes O.ours O.alone (O.seen outside.old).device (O.seen outside.new).device }
+    // Whatever the answer, both mailboxes are as they were, but for what others added, and for such marks.
+    ensures boxes { O.honest outside.new → (s : State) (p : Pending) → Holds (O.seen outside.old).device.files s p
+        → KeepsButMarks O.ours O.alone (O.keywords outside.old) (journal_in p) (O.seen outside.old).device (O.seen outside.new).device }
+
+    // Where the files hold no book, no mark is taken back either.
+    ensures unread { O.honest outside.new → ((s : State) (p : Pending) → Holds (O.seen outside.old).device.files s p → ⊥)
+        → KeepsBoxes O.ours O.alone (O.seen outside.old).device (O.seen outside.new).device }
+
+    // If a plan is given up, exactly those marks are taken back whose message a step of the plan has marked, or may have, and whose other
+    // message is there, and is not marked.
+    ensures back { O.honest outside.new → (s : State) (w : WrittenJournal) → Holds (O.seen outside.old).device.files s (Planned w)
+        → OnOk result (TakesBackOf O.ours O.alone (O.keywords outside.old) s w.journal (O.seen outside.old).device
+        (O.seen outside.new).device) }
 
     // It answers whether a plan was pending.
     ensures answer { O.honest outside.new → (s : State) (p : Pending) → Holds (O.seen outside.old).device.files s p

@@ -1,24 +1,27 @@
-//! Which entries of a plan that is given up lose a side: the plan has removed their message there, or found it removed, and their other one
-//! was undeleted since.
+//! What is found when a plan is given up: which entries lose a side, since their message there has gone, and their other one was undeleted; of
+//! which no mark is recorded; and which marks are taken back.
 
-ghost use Rattle.std.specs.Prelude.{◌≡◌, ◌==◌, ℕ, IfErr, IfOk, false};
-ghost use Rattle.std.specs.List.{list_any};
+ghost use Rattle.std.specs.Prelude.{◌≡◌, ℕ, IfErr, IfOk, false};
 ghost use Rattle.std.specs.List.Sorted.{IsNonDecreasing, IsPermutation};
 ghost use Rattle.mailcore.specs.Listed.{IsRising};
 ghost use Rattle.rules.specs.Scene.{flags_at};
 ghost use Rattle.book.specs.LostSides.{AreRising};
 ghost use Rattle.runner.specs.Before.{HasPlan};
-ghost use Rattle.runner.specs.GivingUp.{Counted, KeepsAll, LosesBy, LosesListed, RemovesSome};
+ghost use Rattle.runner.specs.GivingUp.{AreMarksIn, Counted, IsUndone, KeepsAll, UndoneBy, LosesListed};
 ghost use Rattle.runner.specs.Going.{AreOpen};
-ghost use Rattle.runner.specs.HalfEntries.{expunged_on, far_items, gone_on, is_expunge, is_gone, lacks_mark, logged, loses, lost_among, lost_between, near_items, removed_on, removes_some, tried};
+ghost use Rattle.mailcore.specs.declared.side.Side.TheVariants.{Far, Near};
+ghost use Rattle.runner.specs.HalfEntries.{expunged_on, far_items, gone_on, loses, lost_among, lost_between, near_items, removed_on};
+ghost use Rattle.runner.specs.Marks.{back_among, marked_on, marks_by, unmarked_among};
 ghost use Rattle.runner.specs.Parts.{Never};
 
 use crate::fault::{RunFault, call_fault};
+use crate::marks::{Marked, back_among, is_among, lacks_mark, marked_on, marks, unmarked_among};
 use book::lost_sides::LostSides;
 use mailcore::flags::Flag;
 use mailcore::listing::{Item, Listing};
 use mailcore::side::{Direction, Side};
 use mailcore::spared::Spared;
+use mailcore::uid::Uid;
 use outside::outside::Outside;
 use planner::searches::item_with;
 use rules::entry::Entry;
@@ -26,26 +29,6 @@ use rules::plan::Step;
 use rules::state::SyncState;
 use std::alloc::{AllocError, Global};
 use sync_state::journal::Journal;
-
-/// Whether a step removes a message.
-fn is_expunge(step: &Step) -> bool
-    ensures { result ≡ is_expunge step.now }
-{
-    match *step {
-        Step::Expunge { .. } => true,
-        Step::New { .. } | Step::Gone { .. } | Step::Flags { .. } => false,
-    }
-}
-
-/// Whether a step was called for since a message had gone.
-fn is_gone(step: &Step) -> bool
-    ensures { result ≡ is_gone step.now }
-{
-    match *step {
-        Step::Gone { .. } => true,
-        Step::New { .. } | Step::Flags { .. } | Step::Expunge { .. } => false,
-    }
-}
 
 /// The message of this side that a step removes.
 fn expunged_on(side: Side, step: &Step) -> Option<u32>
@@ -93,32 +76,7 @@ fn gone_on(side: Side, step: &Step) -> Option<u32>
     }
 }
 
-/// Whether a step that is logged, or the one after them, which may be done, removes a message.
-fn tries_expunge(journal: &Journal) -> bool
-    ensures { result ≡ list_any is_expunge (tried journal.now) }
-{
-    let count = journal.log.as_slice().len() + 1;
-    let steps = journal.plan.steps.as_slice();
-    steps.iter().take(count).any(|step| is_expunge(step))
-}
-
-/// Whether a step that is logged was called for since a message had gone.
-fn logs_gone(journal: &Journal) -> bool
-    ensures { result ≡ list_any is_gone (logged journal.now) }
-{
-    let count = journal.log.as_slice().len();
-    let steps = journal.plan.steps.as_slice();
-    steps.iter().take(count).any(|step| is_gone(step))
-}
-
-/// Whether the plan has removed a message, or found one removed.
-fn removes_some(journal: &Journal) -> bool
-    ensures { result ≡ removes_some journal.now }
-{
-    tries_expunge(journal) || logs_gone(journal)
-}
-
-/// The messages of this side that the plan has removed, or found removed, in the order of its steps.
+/// The messages of this side that the plan has removed, or found removed, or has marked, so that whoever expunges removes them.
 fn removed_unsorted(alloc: Global, journal: &Journal, side: Side) -> Result<Vec<u32>, AllocError>
     ensures { IfOk result (λ removed. removed.items ≡ removed_on journal.now side) }
 {
@@ -132,10 +90,15 @@ fn removed_unsorted(alloc: Global, journal: &Journal, side: Side) -> Result<Vec<
         .iter()
         .take(logged)
         .filter_map(|step| gone_on(side, step));
-    expunged.chain(gone).collect(alloc)
+    let marked = steps
+        .iter()
+        .take(logged + 1)
+        .filter_map(|step| marks(side, step));
+    let others = gone.chain(marked);
+    expunged.chain(others).collect(alloc)
 }
 
-/// The messages of this side that the plan has removed, or found removed, by rising UIDs.
+/// The same by rising UIDs.
 fn removed_on(alloc: Global, journal: &Journal, side: Side) -> Result<Vec<u32>, AllocError>
     ensures same { IfOk result (λ removed. IsPermutation (removed_on journal.now side) removed.items) }
     ensures in_order { IfOk result (λ removed. IsNonDecreasing removed.items) }
@@ -145,27 +108,8 @@ fn removed_on(alloc: Global, journal: &Journal, side: Side) -> Result<Vec<u32>, 
     Ok(removed)
 }
 
-/// Whether a message is listed, and not marked as deleted.
-fn lacks_mark(items: &[Item], uid: u32) -> bool
-    requires rising { IsRising items.now }
-    ensures { result ≡ lacks_mark (flags_at items.now uid) }
-{
-    match item_with(items, uid) {
-        Some(item) => !item.flags.has(Flag::Deleted),
-        None => false,
-    }
-}
-
-/// Whether a UID is one of these, which rise.
-fn is_among(uids: &[u32], uid: u32) -> bool
-    requires { IsNonDecreasing uids.now }
-    ensures { result ≡ list_any (λ u. u == uid) uids.now }
-{
-    uids.binary_search(&uid).is_ok()
-}
-
-/// Whether an entry loses this side: its message there is one of those that the plan has removed, or found removed, it is not listed, and the
-/// other one is listed, and was undeleted.
+/// Whether an entry loses this side: its message there is not listed, and the other one is listed, and was undeleted. It records that both were
+/// marked as deleted, or the plan has removed its message there, or found it removed, or has marked it.
 fn loses(removed: &[u32], side: Side, own: &[Item], others: &[Item], entry: &Entry) -> bool
     requires removed { IsNonDecreasing removed.now }
     requires own { IsRising own.now }
@@ -175,7 +119,7 @@ fn loses(removed: &[u32], side: Side, own: &[Item], others: &[Item], entry: &Ent
     entry.is_full()
         && item_with(own, entry.number(side)).is_none()
         && lacks_mark(others, entry.number(side.other()))
-        && is_among(removed, entry.number(side))
+        && (entry.flags.has(Flag::Deleted) || is_among(removed, entry.number(side)))
 }
 
 /// The far UIDs of the entries that lose this side, by what the plan has removed there, and by the listing of this side and that of the
@@ -255,7 +199,7 @@ fn list_near<O: Outside>(alloc: Global, outside: &mut O) -> Result<Listing, RunF
     }
 }
 
-/// The entries that lose a side, by both listings.
+/// The entries that lose a side, and those of which no mark is recorded, by both listings.
 fn lost_between(
     alloc: Global,
     state: &SyncState,
@@ -268,78 +212,115 @@ fn lost_between(
 {
     let lost_far = lost_on(alloc, state, journal, Side::Far, far, near)?;
     let lost_near = lost_on(alloc, state, journal, Side::Near, near, far)?;
-    Ok(LostSides::new(lost_far, lost_near))
+    let unmarked = unmarked_in(alloc, state, journal, far, near)?;
+    Ok(LostSides::new(lost_far, lost_near, unmarked))
 }
 
-/// The entries that lose a side, by what was read, and by these listings.
-fn lost_by<O: Outside>(
+/// The far UIDs of the entries of which no mark is recorded, by both listings.
+fn unmarked_in(
+    alloc: Global,
+    state: &SyncState,
+    journal: &Journal,
+    far: &Listing,
+    near: &Listing,
+) -> Result<Vec<u32>, AllocError>
+    ensures unmarked { IfOk result (λ unmarked. unmarked.items ≡ unmarked_among (marks_by journal.now Far) (marks_by journal.now Near)
+        far.now.items near.now.items state.now.entries) }
+    ensures rising { IfOk result (λ unmarked. IsNonDecreasing unmarked.items) }
+{
+    let marked_far = Marked::by(alloc, journal, Side::Far)?;
+    let marked_near = Marked::by(alloc, journal, Side::Near)?;
+    let (far, near) = (far.items.as_slice(), near.items.as_slice());
+    unmarked_among(alloc, state, &marked_far, &marked_near, far, near)
+}
+
+/// The messages of this side whose marks are taken back, by the listing of this side and that of the other one.
+fn back_on(
+    alloc: Global,
+    state: &SyncState,
+    journal: &Journal,
+    side: Side,
+    own: &Listing,
+    others: &Listing,
+) -> Result<Vec<Uid>, AllocError>
+    ensures { IfOk result (λ back. back.items
+        ≡ back_among (marked_on journal.now side) side own.now.items others.now.items state.now.entries) }
+{
+    let marked = marked_on(alloc, journal, side)?;
+    back_among(alloc, state, &marked, side, own.items.as_slice(), others.items.as_slice())
+}
+
+/// What is found when a plan is given up.
+#[derive(Drop)]
+pub(crate) struct Undone {
+    /// The entries that lose a side, and those of which no mark is recorded.
+    pub(crate) lost: LostSides,
+    /// The far messages whose marks are taken back.
+    pub(crate) far: Vec<Uid>,
+    /// The near ones.
+    pub(crate) near: Vec<Uid>,
+}
+
+/// What both listings show.
+fn undone_between(
+    alloc: Global,
+    state: &SyncState,
+    journal: &Journal,
+    far: &Listing,
+    near: &Listing,
+) -> Result<Undone, AllocError>
+    ensures undone { IfOk result (IsUndone journal.now far.now.items near.now.items state.now.entries) }
+    ensures rising { IfOk result (λ undone. AreRising undone.lost) }
+{
+    Ok(Undone {
+        lost: lost_between(alloc, state, journal, far, near)?,
+        far: back_on(alloc, state, journal, Side::Far, far, near)?,
+        near: back_on(alloc, state, journal, Side::Near, near, far)?,
+    })
+}
+
+/// What both listings show of the plan that was read.
+fn undone_by<O: Outside>(
     alloc: Global,
     outside: &O,
     far: &Listing,
     near: &Listing,
-) -> Result<LostSides, RunFault>
+) -> Result<Undone, RunFault>
     requires plan { HasPlan (O.opened outside.now) }
-    ensures lost { IfOk result (λ lost. LosesListed (O.opened outside.now) far.now.items near.now.items lost) }
-    ensures rising { IfOk result AreRising }
+    ensures undone { IfOk result (LosesListed (O.opened outside.now) far.now.items near.now.items) }
+    ensures rising { IfOk result (λ undone. AreRising undone.lost) }
     ensures fault { IfErr result (λ fault. fault ≡ RunFault.NoMemory) }
 {
     let Some(journal) = outside.pending() else {
-        return Ok(LostSides::none(alloc));
+        return Ok(Undone {
+            lost: LostSides::none(alloc),
+            far: Vec::new(alloc),
+            near: Vec::new(alloc),
+        });
     };
-    match lost_between(alloc, outside.state(), journal, far, near) {
-        Ok(lost) => Ok(lost),
+    match undone_between(alloc, outside.state(), journal, far, near) {
+        Ok(undone) => Ok(undone),
         Err(_) => Err(RunFault::NoMemory),
     }
 }
 
-/// Whether the plan that is pending has removed a message, or found one removed.
-fn has_removed_some<O: Outside>(outside: &O) -> bool
-    requires plan { HasPlan (O.opened outside.now) }
-    ensures { RemovesSome (O.opened outside.now) result }
-{
-    match outside.pending() {
-        Some(journal) => removes_some(journal),
-        None => false,
-    }
-}
-
-/// Lists both mailboxes, and answers the entries that lose a side, in rising order.
-fn look_for_lost<O: Outside>(alloc: Global, outside: &mut O) -> Result<LostSides, RunFault>
-    requires plan { HasPlan (O.opened outside.old) }
-    requires boxes { AreOpen (O.opened outside.old) }
-    ensures was_honest { O.honest outside.new → O.honest outside.old }
-    ensures keywords { O.keywords outside.new ≡ O.keywords outside.old }
-    ensures opened { O.opened outside.new ≡ O.opened outside.old }
-    ensures lost { IfOk result (λ lost. O.honest outside.new → LosesBy O.ours O.alone (O.opened outside.old) (O.seen outside.old).device
-        lost) }
-    ensures rising { IfOk result AreRising }
-    ensures kept { O.honest outside.new → KeepsAll O.ours O.alone (O.seen outside.old).device (O.seen outside.new).device }
-    ensures counted { Counted Never (O.honest outside.new) (O.seen outside.old) (O.seen outside.new) result }
-    ensures asked { O.asked outside.new ≡ O.asked outside.old }
-{
-    let far = list_far(outside)?;
-    let near = list_near(alloc, outside)?;
-    lost_by(alloc, outside, &far, &near)
-}
-
-/// The entries that lose a side, in rising order. Nothing is listed where the plan has removed no message and found none removed.
-pub(crate) fn lost_sides<O: Outside>(alloc: Global, outside: &mut O) -> Result<LostSides, RunFault>
+/// Lists both mailboxes, and answers which entries lose a side, of which no mark is recorded, and which marks are taken back.
+pub(crate) fn look_both<O: Outside>(alloc: Global, outside: &mut O) -> Result<Undone, RunFault>
     requires plan { HasPlan (O.opened outside.old) }
     requires boxes { AreOpen (O.opened outside.old) }
     requires whole { (O.seen outside.old).is_broken ≡ false }
     ensures was_honest { O.honest outside.new → O.honest outside.old }
     ensures keywords { O.keywords outside.new ≡ O.keywords outside.old }
     ensures opened { O.opened outside.new ≡ O.opened outside.old }
-    ensures lost { IfOk result (λ lost. O.honest outside.new → LosesBy O.ours O.alone (O.opened outside.old) (O.seen outside.old).device
-        lost) }
-    ensures rising { IfOk result AreRising }
+    ensures undone { IfOk result (λ undone. O.honest outside.new → UndoneBy O.ours O.alone (O.opened outside.old) (O.seen outside.old).device
+        (O.seen outside.new).device undone) }
+    ensures marks { IfOk result (AreMarksIn (O.opened outside.old)) }
+    ensures rising { IfOk result (λ undone. AreRising undone.lost) }
     ensures kept { O.honest outside.new → KeepsAll O.ours O.alone (O.seen outside.old).device (O.seen outside.new).device }
     ensures counted { Counted Never (O.honest outside.new) (O.seen outside.old) (O.seen outside.new) result }
     ensures asked { O.asked outside.new ≡ O.asked outside.old }
 {
-    if has_removed_some(outside) {
-        look_for_lost(alloc, outside)
-    } else {
-        Ok(LostSides::none(alloc))
-    }
+    let far = list_far(outside)?;
+    let near = list_near(alloc, outside)?;
+    undone_by(alloc, outside, &far, &near)
 }

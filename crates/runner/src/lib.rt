@@ -7,6 +7,7 @@ pub mod copying;
 pub mod fault;
 pub mod give_up;
 mod half_entries;
+mod marks;
 mod old_messages;
 pub mod opening;
 pub mod pass;

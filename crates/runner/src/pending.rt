@@ -2,7 +2,7 @@
 
 ghost use Rattle.std.specs.Prelude.{◌≡◌};
 ghost use Rattle.run_states.specs.Plans.{first_uid};
-ghost use Rattle.runner.specs.Going.{HasUntorn, NextAt, plan_at};
+ghost use Rattle.runner.specs.Going.{HasUntorn, NextAt, number_at, plan_at};
 
 use mailcore::side::Side;
 use outside::outside::Outside;
@@ -31,4 +31,15 @@ pub(crate) fn next_step<O: Outside>(outside: &O) -> Option<(usize, Step)>
     let logged = journal.log.as_slice().len();
     let step = *journal.plan.steps.as_slice().get(logged)?;
     Some((logged + 1, step))
+}
+
+/// The number of the step that is next, counted from 1, or of one after the last.
+pub(crate) fn next_number<O: Outside>(outside: &O) -> usize
+    requires going { HasUntorn (O.opened outside.now) }
+    ensures { result ≡ number_at (O.opened outside.now) }
+{
+    match outside.pending() {
+        Some(journal) => journal.log.as_slice().len() + 1,
+        None => 1,
+    }
 }

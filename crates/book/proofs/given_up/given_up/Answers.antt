@@ -7,10 +7,10 @@ use Rattle.book.proofs.given_up.given_up.Goals as goal
 pub from_vec-requires : goal.from_vec-requires
 from_vec-requires c =
     let left : AreLeft c.args.journal.now c.args.lost.now c.args.old.now.entries c.sort.new.list.items =
-    left_so c.args.journal.now c.args.lost.now c.args.old.now.entries c.push_all.new.list.items c.note_log.new.list.items c.halve.new.list.items c.push_copies.new.list.items c.sort.new.list.items
+    left_so c.args.journal.now c.args.lost.now c.args.old.now.entries c.push_all.new.list.items c.note_log.new.list.items c.unmark.new.list.items c.halve.new.list.items c.push_copies.new.list.items c.sort.new.list.items
     c.as_slice-steps.result.now c.as_slice-log.result.now c.requires.fits c.as_slice.ensures.pairs c.requires.entries c.requires.agrees c.as_slice-steps.ensures c.as_slice-log.ensures
     (c.in_ok-push_all.ensures ∙ ap (λ (l : List Entry). l ++ c.as_slice.result.now) c.new-list.ensures.items ∙ c.as_slice.ensures.all)
-    c.note_log.ensures c.halve.ensures c.in_ok-push_copies.ensures c.sort.ensures.same c.sort.ensures.in_order in
+    c.note_log.ensures c.unmark.ensures c.halve.ensures c.in_ok-push_copies.ensures c.sort.ensures.same c.sort.ensures.in_order in
     let are = left.are in
     are.pairs
 
@@ -18,10 +18,10 @@ pub returns-clause-has_text : goal.returns-clause-has_text
 returns-clause-has_text c =
     let plan = c.requires.fits.plan in
     let left : AreLeft c.args.journal.now c.args.lost.now c.args.old.now.entries c.sort.new.list.items =
-    left_so c.args.journal.now c.args.lost.now c.args.old.now.entries c.push_all.new.list.items c.note_log.new.list.items c.halve.new.list.items c.push_copies.new.list.items c.sort.new.list.items
+    left_so c.args.journal.now c.args.lost.now c.args.old.now.entries c.push_all.new.list.items c.note_log.new.list.items c.unmark.new.list.items c.halve.new.list.items c.push_copies.new.list.items c.sort.new.list.items
     c.as_slice-steps.result.now c.as_slice-log.result.now c.requires.fits c.as_slice.ensures.pairs c.requires.entries c.requires.agrees c.as_slice-steps.ensures c.as_slice-log.ensures
     (c.in_ok-push_all.ensures ∙ ap (λ (l : List Entry). l ++ c.as_slice.result.now) c.new-list.ensures.items ∙ c.as_slice.ensures.all)
-    c.note_log.ensures c.halve.ensures c.in_ok-push_copies.ensures c.sort.ensures.same c.sort.ensures.in_order in
+    c.note_log.ensures c.unmark.ensures c.halve.ensures c.in_ok-push_copies.ensures c.sort.ensures.same c.sort.ensures.in_order in
     let are = left.are in
     record {
       run = record { positive = omega (arith, c.requires.next); fits = plan.run };
@@ -36,10 +36,10 @@ returns-clause-has_text c =
 pub returns-clause-gives_up : goal.returns-clause-gives_up
 returns-clause-gives_up c =
     let left : AreLeft c.args.journal.now c.args.lost.now c.args.old.now.entries c.sort.new.list.items =
-    left_so c.args.journal.now c.args.lost.now c.args.old.now.entries c.push_all.new.list.items c.note_log.new.list.items c.halve.new.list.items c.push_copies.new.list.items c.sort.new.list.items
+    left_so c.args.journal.now c.args.lost.now c.args.old.now.entries c.push_all.new.list.items c.note_log.new.list.items c.unmark.new.list.items c.halve.new.list.items c.push_copies.new.list.items c.sort.new.list.items
     c.as_slice-steps.result.now c.as_slice-log.result.now c.requires.fits c.as_slice.ensures.pairs c.requires.entries c.requires.agrees c.as_slice-steps.ensures c.as_slice-log.ensures
     (c.in_ok-push_all.ensures ∙ ap (λ (l : List Entry). l ++ c.as_slice.result.now) c.new-list.ensures.items ∙ c.as_slice.ensures.all)
-    c.note_log.ensures c.halve.ensures c.in_ok-push_copies.ensures c.sort.ensures.same c.sort.ensures.in_order in
+    c.note_log.ensures c.unmark.ensures c.halve.ensures c.in_ok-push_copies.ensures c.sort.ensures.same c.sort.ensures.in_order in
     record {
       run = refl;
       far_validity = refl;

@@ -12,7 +12,7 @@ pub returns-then-is_full : goal.returns-then-is_full
 returns-then-is_full c =
     let e = c.args.entry.now in
     let lost = c.on.result.now in
-    let rising : IsNonDecreasing lost = subst (λ (l : List ℕ). IsNonDecreasing l) (sym c.on.ensures) (c.requires.rising c.args.side) in
+    let rising : IsNonDecreasing lost = subst (λ (l : List ℕ). IsNonDecreasing l) (sym c.on.ensures) (c.requires.rising.0 c.args.side) in
     let full : is_full e ≡ true = sym c.is_full.ensures ∙ c.if-is_full.true in
     c.is_ok.ensures.value
     ∙ found_where_it_stands lost c.number.result c.binary_search.result rising c.binary_search.ensures.position

@@ -8,10 +8,13 @@ use Rattle.book.specs.Shelves.{Files}
 use Rattle.runner.proofs.Readings.{none_of, some_of}
 use Rattle.runner.proofs.KeptBoxes.{held_same}
 use Rattle.runner.proofs.GivingUp.{goes_nowhere}
-use Rattle.runner.proofs.GivenUpRead.{answer_known, answered, by_files, none_pending, number_held, some_pending}
+use Rattle.runner.proofs.GivenUpRead.{answer_known, answered, back_by_files, by_files, held_never, journal_known, none_pending, number_held, some_pending}
 use Rattle.runner.proofs.PartCalls.{left_reported, part_after, part_reported}
 use Rattle.runner.proofs.Validities.{files_changed}
-use Rattle.runner.proofs.Looking.{looks_read, looks_then}
+use Rattle.outside.specs.Opened.{journal_in, journal_of}
+use Rattle.runner.specs.GivingUp.{IsMarkIn, KeepsButMarks}
+use Rattle.runner.proofs.Looking.{clears_none}
+use Rattle.runner.proofs.MarksBack.{some_after, some_none}
 use Rattle.runner.proofs.give_up.give_up.Goals as goal
 
 pub returns-then-is_some-clause-gives_up : goal.returns-then-is_some-clause-gives_up
@@ -100,10 +103,67 @@ returns-in_err-read_book-clause-gives_up g c = λ honest s w h.
     rw e.1 (inl (record { written = w; goes_on = goes_nowhere w.journal; held = before }))
 
 pub returns-in_err-read_book-clause-asked : goal.returns-in_err-read_book-clause-asked
-returns-in_err-read_book-clause-asked g c = looks_read g.O.Outside.noted _ _ _ c.read_book.ensures.asked
+returns-in_err-read_book-clause-asked g c =
+    let journal = journal_of (g.O.Outside.opened c.read_book.new.outside) in
+    (journal, clears_none g.O.Outside.noted (IsMarkIn journal) _ _ c.read_book.ensures.asked)
 
 pub returns-then-is_some-clause-asked : goal.returns-then-is_some-clause-asked
-returns-then-is_some-clause-asked g c = looks_then g.O.Outside.noted _ _ _ (looks_read g.O.Outside.noted _ _ _ c.read_book.ensures.asked) c.leave_plan.ensures.asked
+returns-then-is_some-clause-asked g c =
+    let journal = journal_of (g.O.Outside.opened c.read_book.new.outside) in
+    (journal, rw c.read_book.ensures.asked at c.leave_plan.ensures.asked)
 
 pub returns-else-is_some-clause-asked : goal.returns-else-is_some-clause-asked
-returns-else-is_some-clause-asked g c = looks_read g.O.Outside.noted _ _ _ c.read_book.ensures.asked
+returns-else-is_some-clause-asked g c =
+    let journal = journal_of (g.O.Outside.opened c.read_book.new.outside) in
+    (journal, clears_none g.O.Outside.noted (IsMarkIn journal) _ _ c.read_book.ensures.asked)
+
+pub returns-in_err-read_book-clause-boxes : goal.returns-in_err-read_book-clause-boxes
+returns-in_err-read_book-clause-boxes g c = λ honest s p h. let kept = c.read_book.ensures.kept honest in
+    some_none g.O.Outside.ours g.O.Outside.alone (g.O.Outside.keywords c.args.outside.now) (IsMarkIn (journal_in p)) _ _ kept.0
+
+pub returns-else-is_some-clause-boxes : goal.returns-else-is_some-clause-boxes
+returns-else-is_some-clause-boxes g c = λ honest s p h. let kept = c.read_book.ensures.kept honest in
+    some_none g.O.Outside.ours g.O.Outside.alone (g.O.Outside.keywords c.args.outside.now) (IsMarkIn (journal_in p)) _ _ kept.0
+
+pub returns-then-is_some-clause-boxes : goal.returns-then-is_some-clause-boxes
+returns-then-is_some-clause-boxes g c = λ honest s p h.
+    let ours = g.O.Outside.ours in
+    let alone = g.O.Outside.alone in
+    let keywords = g.O.Outside.keywords c.args.outside.now in
+    let d = (g.O.Outside.seen c.args.outside.now).device in
+    let m = (g.O.Outside.seen c.read_book.new.outside).device in
+    let d' = (g.O.Outside.seen c.leave_plan.new.outside).device in
+    let h1 = c.leave_plan.ensures.was_honest honest in
+    let kept = c.read_book.ensures.kept h1 in
+    let held = c.in_ok-read_book.ensures.held h1 in
+    some_after ours alone keywords (IsMarkIn (journal_in p)) d m d' kept.0
+    (subst (λ (j : Option Journal). KeepsButMarks ours alone keywords j m d') (journal_known (g.O.Outside.opened c.read_book.new.outside) s p d m held kept.1 h)
+    (rw c.read_book.ensures.keywords at (c.leave_plan.ensures.boxes honest)))
+
+pub returns-in_err-read_book-clause-unread : goal.returns-in_err-read_book-clause-unread
+returns-in_err-read_book-clause-unread g c = λ honest never. let kept = c.read_book.ensures.kept honest in kept.0
+
+pub returns-else-is_some-clause-unread : goal.returns-else-is_some-clause-unread
+returns-else-is_some-clause-unread g c = λ honest never. let kept = c.read_book.ensures.kept honest in kept.0
+
+pub returns-then-is_some-clause-unread : goal.returns-then-is_some-clause-unread
+returns-then-is_some-clause-unread g c = λ honest never.
+    let h1 = c.leave_plan.ensures.was_honest honest in
+    let kept = c.read_book.ensures.kept h1 in
+    absurd (held_never (g.O.Outside.opened c.read_book.new.outside) (g.O.Outside.seen c.args.outside.now).device (g.O.Outside.seen c.read_book.new.outside).device (c.in_ok-read_book.ensures.held h1) kept.1 never)
+
+pub returns-then-is_some-clause-back : goal.returns-then-is_some-clause-back
+returns-then-is_some-clause-back g c = λ honest s w h.
+    let h1 = c.leave_plan.ensures.was_honest honest in
+    let kept = c.read_book.ensures.kept h1 in
+    back_by_files g.O.Outside.ours g.O.Outside.alone (g.O.Outside.keywords c.args.outside.now) (g.O.Outside.opened c.read_book.new.outside) s w
+    (g.O.Outside.seen c.args.outside.now).device (g.O.Outside.seen c.read_book.new.outside).device (g.O.Outside.seen c.leave_plan.new.outside).device _ c.leave_plan.result
+    honest (c.in_ok-read_book.ensures.held h1) kept.1 h kept.0 (rw c.read_book.ensures.keywords at c.leave_plan.ensures.back)
+
+pub returns-else-is_some-clause-back : goal.returns-else-is_some-clause-back
+returns-else-is_some-clause-back g c = λ honest s w h.
+    let none : is_some c.pending.result ≡ false = grind (arith, common_steps) in
+    let kept = c.read_book.ensures.kept honest in
+    let held = c.in_ok-read_book.ensures.held honest in
+    absurd (none_pending (g.O.Outside.opened c.read_book.new.outside) s w (g.O.Outside.seen c.args.outside.now).device (g.O.Outside.seen c.read_book.new.outside).device held kept.1 h
+    (none_of _ c.pending.result _ c.pending.ensures none))

@@ -2,9 +2,10 @@ use Rattle.std.proofs.Common.{◌∙◌, ap, subst, sym, Option, Some}
 use Rattle.sync_state.specs.declared.journal.Logged.TheVariants.{Copied}
 use Rattle.book.specs.BookLogs.{logged_more}
 use Rattle.outside.specs.Opened.{Opened, turned}
+use Rattle.runner.specs.Going.{plan_at}
 use Rattle.runner.specs.GivingUp.{NotesCopy}
 use Rattle.rules.specs.declared.plan.Step.TheVariants as step
-use Rattle.runner.proofs.GivingUp.{notes_found, notes_none, ok_then}
+use Rattle.runner.proofs.GivingUp.{logged_same, notes_found, notes_none, ok_then}
 use Rattle.runner.proofs.PartCalls.{part_after}
 use Rattle.runner.proofs.Looking.{looks_for}
 use Rattle.runner.proofs.give_up.seek_and_log.Goals as goal
@@ -49,3 +50,11 @@ returns-in-Some-clause-asked g c = rw c.log_copy.ensures.asked (looks_for g.O.Ou
 
 pub returns-in-None-clause-asked : goal.returns-in-None-clause-asked
 returns-in-None-clause-asked g c = looks_for g.O.Outside.noted _ _ _ _ _ c.look.result c.look.ensures.asked
+
+pub returns-in-Some-clause-same_plan : goal.returns-in-Some-clause-same_plan
+returns-in-Some-clause-same_plan g c =
+    let opened = g.O.Outside.opened c.args.outside.now in
+    ok_then c.log_copy.result _ _ (λ e. ap (λ (o : Option Opened). plan_at o) (e ∙ ap (λ (o : Option Opened). turned (λ p. logged_more p (Copied c.in-Some.copy)) o) c.look.ensures.opened) ∙ logged_same opened (Copied c.in-Some.copy)) c.log_copy.ensures.opened
+
+pub returns-in-None-clause-same_plan : goal.returns-in-None-clause-same_plan
+returns-in-None-clause-same_plan g c = ap (λ (o : Option Opened). plan_at o) c.look.ensures.opened
