@@ -31,6 +31,8 @@ NO_PERMISSION = "no permission. Let yourself read and write it, and run again"
 FULL = "the disk is full. Make room, and run again"
 READ_ONLY = "the file system is read-only"
 GONE = "it is gone. Run again"
+NOT_SWITCHED = ("isync's state of this mailbox is not in place: run mbsync-from-isync --switch first. "
+                "Without it each message would come twice")
 
 
 def make_socket(path):
@@ -207,6 +209,47 @@ def is_removed(told, side):
     return told[:4] == [1, "all:INBOX", "ran", f"mbsync: all:a: absent {side}"] and all(line.startswith("  ") for line in told[4:]) and len(told) > 4
 
 
+def not_switched(tally):
+    """isync's state was converted, and is not in place: no first run is made there."""
+    with Edge(ONE, TWO, create="Both") as scene:
+        scene.run("c")
+        scene.server.boxes["a"] = Box([TWO])
+        os.rename(scene.path("inbox/.mbsyncstate"), scene.path("inbox/.mbsyncstate.from-isync"))
+        before = [scene.own(), scene.sides()]
+        told = ["mbsync: %s:INBOX: cannot open " + scene.path("inbox/.mbsyncstate"), "  " + NOT_SWITCHED]
+        tally.same("no first run where isync's state is not in place", scene.run("c"), [1, "c:INBOX", told[0] % "c", told[1]])
+        tally.same("the next mailbox follows", scene.run("all"),
+                   [1, "all:INBOX", "all:a", "new pull 1 -> 1", "ran", told[0] % "all", told[1]])
+        tally.same("nothing is copied or changed", [scene.own(), scene.sides()], before)
+        os.rename(scene.path("inbox/.mbsyncstate.from-isync"), scene.path("inbox/.mbsyncstate"))
+        tally.same("in place, it is taken", scene.run("c"), [0, "c:INBOX", "ran"])
+        scene.write("inbox/.mbsyncstate.from-isync", b"of an earlier day")
+        tally.same("beside a state it does not matter", scene.run("c"), [0, "c:INBOX", "ran"])
+        os.remove(scene.path("inbox/.mbsyncstate.from-isync"))
+        os.remove(scene.path("inbox/.mbsyncstate"))
+        got = scene.run("c")
+        tally.same("a state that is not there is a first run, with a notice", [got[0], got[-1]],
+                   [0, f"mbsync: first run over {scene.path('inbox')}: files with UIDs (,U=) count as new messages: 2"])
+
+
+def in_no_pair(tally):
+    """A near message that was removed on both sides is put back under its name: no run sends it, which is told."""
+    with Edge(ONE, TWO) as scene:
+        scene.run("c")
+        scene.run("c")
+        path = scene.near().path_of(2)[0]
+        os.rename(path, scene.path("away"))
+        del scene.inbox().messages[2]
+        tally.same("a message is removed on both sides", scene.run("c"), [0, "c:INBOX", "ran"])
+        os.rename(scene.path("away"), path)
+        told = f"mbsync: 1 messages of {scene.path('inbox')} are in no pair and are not sent: ,U=2 (take ,U=.. out of a name to send it)"
+        for _ in range(2):
+            tally.same("put back, it is told", scene.run("c"), [0, "c:INBOX", "ran", told])
+        os.rename(path, scene.path("inbox/cur/back:2,"))
+        tally.same("without ,U= in its name it is sent", scene.run("c"), [0, "c:INBOX", "new push 3 -> 3", "ran"])
+        tally.same("each message is there once", scene.sides(), [{1: ("", near_text(ONE)), 3: ("", near_text(TWO))}, {1: ("", ONE), 3: ("", TWO)}])
+
+
 def removed_far(tally):
     """A mailbox that was synchronised is removed on the server."""
     with Edge(ONE, create="Both") as scene:
@@ -328,7 +371,8 @@ def no_permission(tally):
             scene.leave_root()
             kept = os.stat(scene.path(part)).st_mode & 0o777
             os.chmod(scene.path(part), mode)
-            told = stopped(f"{scene.path(named)}: {NO_PERMISSION}") if named else [1, "mbsync: cannot open " + scene.path(part), "  " + NO_PERMISSION]
+            lock = ["c:INBOX", "mbsync: c:INBOX: cannot open " + scene.path("inbox/.mbsyncstate.lock"), "  " + NO_PERMISSION]
+            told = stopped(f"{scene.path(named)}: {NO_PERMISSION}") if named else [1, *lock]
             tally.same(f"{part} without permission is told", scene.run("c"), told)
             os.chmod(scene.path(part), kept)
             tally.same("nothing is lost", scene.sides(), [near(ONE, TWO), far(ONE, TWO, THREE)])
@@ -340,13 +384,36 @@ def no_permission(tally):
         for name in ("a", "b"):
             scene.server.boxes[name].add(THREE)
         scene.leave_root()
+        os.mkdir(scene.path("mail/lost+found"), 0o700 if os.geteuid() == 0 else 0)
+        left_out = [f"mbsync: left out, since it may not be read: {scene.path('mail/' + name)}" for name in ("a", "lost+found")]
         os.chmod(scene.path("mail/a"), 0)
-        told = [1, "mbsync: cannot open " + scene.path("mail/a"), "  " + NO_PERMISSION]
-        tally.same("a folder of Path without permission is told, not passed over", [scene.run("all"), scene.run("-l", "all")], [told, told])
+        told = sorted(["mbsync: all:a: cannot open " + scene.path("mail/a/.mbsyncstate"), "  " + NO_PERMISSION, *left_out])
+        got = scene.run("all")
+        tally.same("a folder of Path without permission is told, and the next mailbox follows", [got[:4], sorted(got[4:])],
+                   [[1, "all:b", "new pull 2 -> 2", "ran"], told])
+        got = scene.run("-l", "all")
+        tally.same("it is listed by its far side", [got[:3], sorted(got[3:])], [[0, "all:a", "all:b"], left_out])
+        tally.same("a channel without patterns does not speak of it", scene.run("c"), [0, "c:INBOX", "new pull 1 -> 1", "ran"])
         os.chmod(scene.path("mail/a"), 0o700)
-        lines = ["all:a", "new pull 2 -> 2", "ran", "all:b", "new pull 2 -> 2", "ran"]
+        lines = ["all:a", "new pull 2 -> 2", "ran", "all:b", "ran", left_out[1]]
         tally.same("with permission each mailbox is synchronised", scene.run("all"), [0, *lines])
     return None
+
+
+def folder_in_the_way(tally):
+    """Something stands where a near folder is to be made."""
+    things = {"file": lambda path: open(path, "xb").close(), "fifo": os.mkfifo, "link that leads nowhere": lambda path: os.symlink("nowhere", path),
+              "circle of links": lambda path: os.symlink("a", path)}
+    for name, make in things.items():
+        with Edge(ONE, patterns="*", create="Both") as scene:
+            scene.server.boxes.update(a=Box([TWO]), b=Box([TWO]))
+            os.makedirs(scene.path("mail"))
+            make(scene.path("mail/a"))
+            got = scene.run("all", most=QUICK)
+            tally.same(f"a {name} in the way of a folder: the next mailbox follows", got[:4], [1, "all:b", "new pull 1 -> 1", "ran"])
+            tally.same("the line names channel and mailbox", got[4].startswith("mbsync: all:a: cannot open " + scene.path("mail/a")), True)
+            os.remove(scene.path("mail/a"))
+            tally.same("put right, it is synchronised", scene.run("all"), [0, "all:a", "new pull 1 -> 1", "ran", "all:b", "ran"])
 
 
 def resize(path, pages):
@@ -444,8 +511,8 @@ def closed_streams(tally):
             tally.same("and the messages", scene.sides(), [near(ONE), far(ONE)])
 
 
-SCENES = [odd_names, odd_name_with_uid, things_without_uid, things_with_unknown_uid, things_with_known_uid, flags_for_a_thing, in_the_way,
-          things_for_our_files, removed_far, removed_near, earlier_server, no_look, no_permission, full_disk, read_only_disk, closed_streams,
+SCENES = [not_switched, in_no_pair, odd_names, odd_name_with_uid, things_without_uid, things_with_unknown_uid, things_with_known_uid, flags_for_a_thing, in_the_way,
+          things_for_our_files, removed_far, removed_near, earlier_server, no_look, no_permission, folder_in_the_way, full_disk, read_only_disk, closed_streams,
           *server_edges.SCENES, *session_edges.SCENES]
 
 

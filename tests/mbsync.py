@@ -160,6 +160,9 @@ def the_lock(tally):
         got = other.run("c")
         tally.same("the first process is at work", first.poll(), None)
         tally.same("a second one finds the lock", [line for line in got if not str(line).startswith("  ")], [1, "c:INBOX", "mbsync: c:INBOX: locked"])
+        way_out = [f"  process {first.pid} holds the lock of this mailbox: run again when it has ended",
+                   f"  if ps -p {first.pid} shows an mbsync that waits for a silent server, kill it: the next run resumes its work"]
+        tally.same("it names the process that holds it, and the way out", [line for line in got if str(line).startswith("  ")], way_out)
         first.send_signal(signal.SIGKILL)
         first.communicate()
         count = len(scene.near_messages())
@@ -169,7 +172,9 @@ def the_lock(tally):
         tally.same("all messages are there once", len(scene.near_messages()), 200)
         with open(scene.path("inbox/.mbsyncstate.lock"), "rb") as file:
             fcntl.flock(file, fcntl.LOCK_EX)
-            tally.same("a lock that another program holds", scene.run("c")[-1 - ("  " == scene.run("c")[-1][:2])], "mbsync: c:INBOX: locked")
+            got = scene.run("c")
+            tally.same("a lock that another program holds", [line for line in got if str(line)[:2] != "  "], [1, "c:INBOX", "mbsync: c:INBOX: locked"])
+            tally.same("it is named too", f"  process {os.getpid()} holds" in got[3], True)
         tally.same("then nothing to do", scene.run("c"), [0, "c:INBOX", "ran"])
 
 
@@ -252,7 +257,8 @@ def messages_that_do_not_fit(tally):
     with Scene(ONE) as scene:
         scene.near().add("1.nul", b"Subject: nul\n\na\0b\n", frozenset())
         tally.same("a NUL is not sent", scene.run("c"), [0, "c:INBOX", "new pull 1 -> 2", "unfit near 1", "ran", UNFIT_NEAR])
-        tally.same("and is skipped from then on", scene.run("c"), [0, "c:INBOX", "ran"])
+        told = f"mbsync: 1 messages of {scene.path('inbox')} are in no pair and are not sent: ,U=1 (take ,U=.. out of a name to send it)"
+        tally.same("and is skipped from then on", scene.run("c"), [0, "c:INBOX", "ran", told])
 
 
 def a_message_that_cannot_be_read(tally):

@@ -37,7 +37,7 @@ Create Near
 Sync %s
 Expunge %s
 """ + "".join(f"Keyword {line}\n" for line in KEYWORD_LINES)
-UNFINISHED = "mbworld: %s: unfinished run\n  run mbsync %s first: it completes that run, and plans nothing new\n"
+UNFINISHED = "mbworld: %s: unfinished run\n  run mbsync %s first: it completes that run, or says what is in its way\n"
 
 
 def called(*words, text=b"", home=None):
@@ -238,8 +238,9 @@ def faults(tally, programs):
         tally.same("bodies are those that are stored", (status, err, text.splitlines()[3]), (0, "", b'f 1 - "Subject: one\\0d\\0a\\0d\\0aThe first.\\0d\\0a"'))
         with open(scene.path(f"inbox/{LOCK}"), "wb") as lock:
             fcntl.flock(lock, fcntl.LOCK_EX)
-            tally.same("a lock that is held", told("locked", "c"),
-                       (1, b"", "mbworld: c: locked\n  another process synchronises this box: run again when it has ended\n"))
+            status, text, err = told("locked", "c")
+            tally.same("a lock that is held", (status, text, err.splitlines()[:2]),
+                       (1, b"", ["mbworld: c: locked", f"  process {os.getpid()} holds the lock of this mailbox: run again when it has ended"]))
         path = os.path.join(os.fsencode(scene.path("inbox/new")), b"n\xff")
         with open(path, "wb") as file:
             file.write(ONE)
@@ -266,6 +267,18 @@ def stores(tally, scene, told):
     tally.same("a server that was put back", told("put back", "c"), (1, b"", f"mbworld: c: stopped\n{known}"))
     serve_again(scene, [ONE, TWO, ONE])
     tally.same("put right, it is read", told("put right", "c")[0], 0)
+    os.rmdir(scene.path("inbox/tmp"))
+    status, _, err = told("a former run had it", "all:INBOX")
+    tally.same("a mailbox that a former run had is not created again", (status, err.splitlines()[:2]),
+               (1, ["mbworld: all:INBOX: absent near", "  a former run has synchronised it, but cur, new or tmp is missing: "
+                    "create it again if it was empty, else put it back with its messages"]))
+    os.mkdir(scene.path("inbox/tmp"))
+    with open(scene.path("inbox/.mbsyncstate"), encoding="ascii") as file:
+        state = file.read()
+    scene.write("inbox/.mbsyncstate", re.sub(r"(?m)^run .*$", f"run {2 ** 64 - 1}", state).encode())
+    status, text, err = told("the greatest run number", "c")
+    tally.same("after the greatest run number no run follows", (status, text, err.splitlines()[0]), (1, b"", "mbworld: c: bad state 2"))
+    scene.write("inbox/.mbsyncstate", state.encode())
     os.remove(scene.path("inbox/.uidvalidity"))
     tally.same("a fault of the folder", told("fault near", "c"),
                (1, b"", "mbworld: c: store fault near 4\n  .uidvalidity is damaged, too low, or missing beside files with UIDs: "
@@ -273,6 +286,22 @@ def stores(tally, scene, told):
     scene.server.stop()
     tally.same("no server", told("no server", "c"),
                (1, b"", "mbworld: c: cannot open far\n  the server of IMAPStore far cannot be reached (connection refused): check its Host and Port, and run again\n"))
+
+
+def undeleted(tally, programs):
+    """A message was marked on both sides, removed at the server, and undeleted here: the run objects, and mbplan cannot know of that."""
+    with Scene(ONE, TWO) as scene:
+        scene.run("c")
+        scene.near().set_flags(1, "", "T")
+        scene.run("c")
+        with scene.far() as far:
+            far.ask(b"UID EXPUNGE 1")
+        scene.near().set_flags(1, "T", "")
+        status, text, err = called(programs["mbworld"], "c", home=scene.home)
+        told = "mbworld: c: message 1 was undeleted here, and is gone at the server: mbsync stops there, and leaves it alone\n"
+        tally.same("at which message the run objects is told", (status, err), (0, told))
+        tally.same("the plan would mark it", called(programs["mbplan"], text=text)[:2], (0, b"gone pull 1 1\n"))
+        tally.same("mbsync does not", [scene.run("c")[0], scene.near_messages()[1][0]], [1, ""])
 
 
 def main():
@@ -290,6 +319,8 @@ def main():
         command_lines(tally, programs)
     with tally.scene("faults"):
         faults(tally, programs)
+    with tally.scene("undeleted"):
+        undeleted(tally, programs)
     with tally.scene("rounds"):
         rounds(tally, programs, words.seed, words.rounds)
     tally.end()

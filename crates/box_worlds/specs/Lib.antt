@@ -1,2 +1,3 @@
 pub mod Spared
+pub mod Undeleted
 pub mod Unread

@@ -7,4 +7,5 @@ mod mailbox_parts;
 pub mod near_files;
 mod near_part;
 pub mod reader;
+mod undeleted;
 pub mod unread;

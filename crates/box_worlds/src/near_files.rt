@@ -1,6 +1,6 @@
 //! Reads the world of a mailbox whose near side is a folder and a shelf.
 
-use crate::reader::WorldReader;
+use crate::reader::{WorldReader, WorldText};
 use crate::unread::UnreadWorld;
 use book::book::Book;
 use book::shelf::Shelf;
@@ -28,7 +28,7 @@ impl WorldReader<'_> {
         far: &mut M,
         files: NearFiles<F, S>,
         fresh: NonZeroU32,
-    ) -> (NearFiles<F, S>, Result<String, UnreadWorld>) {
+    ) -> (NearFiles<F, S>, Result<WorldText, UnreadWorld>) {
         let keywords = match self.options.keywords.try_clone(self.alloc) {
             Ok(keywords) => keywords,
             Err(AllocError) => return (files, Err(UnreadWorld::Run(RunFault::NoMemory))),
@@ -49,7 +49,7 @@ impl WorldReader<'_> {
         self,
         files: NearFiles<F, S>,
         fresh: NonZeroU32,
-    ) -> (NearFiles<F, S>, Result<String, UnreadWorld>) {
+    ) -> (NearFiles<F, S>, Result<WorldText, UnreadWorld>) {
         let keywords = match self.options.keywords.try_clone(self.alloc) {
             Ok(keywords) => keywords,
             Err(AllocError) => return (files, Err(UnreadWorld::Run(RunFault::NoMemory))),

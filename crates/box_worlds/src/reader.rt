@@ -1,12 +1,15 @@
 //! Reads the world of a mailbox.
 
-ghost use Rattle.std.specs.Prelude.{◌≡◌, true, None};
+ghost use Rattle.std.specs.Prelude.{◌≡◌, ◌-◌, ◌^◌, true, None, IfOk, OnOk};
+ghost use Rattle.std.specs.List.{filter_map};
 ghost use Rattle.mail_sides.specs.NearSides.{seen_of};
 ghost use Rattle.guarded.specs.Given.{given_by, is_again};
+ghost use Rattle.box_worlds.specs.Undeleted.{undeleted_in};
 ghost use Rattle.box_worlds.specs.Unread.{unless_anew};
 
 use crate::bodies::Bodies;
 use crate::mailbox_parts::empty_mailbox;
+use crate::undeleted::{BothMessages, undeleted_among};
 use crate::unread::UnreadWorld;
 use book::book::Book;
 use book::shelf::Shelf;
@@ -14,10 +17,12 @@ use guarded::given::FarGiven;
 use mail_sides::near_side::NearSide;
 use mailcore::mailbox::StoredMailbox;
 use mailcore::side::Side;
+use mailcore::uid::Uid;
 use maildir::folder::Folder;
 use outside::mailbox::Mailbox as OpenMailbox;
 use rules::options::Options;
 use rules::state::SyncState;
+use runner::fault::RunFault;
 use std::alloc::{AllocError, Global};
 use std::num::NonZeroU32;
 use worlds::world::WaitingFile;
@@ -35,6 +40,15 @@ pub struct WorldReader<'a> {
     pub options: &'a Options,
     /// What the world has as the bytes of its messages.
     pub bodies: Bodies,
+}
+
+/// A world as a text.
+#[derive(Drop)]
+pub struct WorldText {
+    /// The text.
+    pub text: String,
+    /// The messages that were undeleted, and whose counterparts are gone: the run objects at these, and does not mark them as its plan says.
+    pub undeleted: Vec<(Side, Uid)>,
 }
 
 /// The mailboxes of a world, and what waits.
@@ -55,7 +69,7 @@ impl WorldReader<'_> {
         far: &mut M,
         near: &mut NearSide<F>,
         book: &mut Book<S>,
-    ) -> Result<String, UnreadWorld>
+    ) -> Result<WorldText, UnreadWorld>
         ensures far { M.alone ≡ true → M.honest far.new → (M.seen far.new).stored ≡ (M.seen far.old).stored }
         ensures near { F.visitors.alone ≡ true → F.honest near.new.near.folder → (seen_of near.new).stored ≡ (seen_of near.old).stored }
         ensures files { S.honest book.new.shelf → (S.seen book.new.shelf).stored ≡ (S.seen book.old.shelf).stored }
@@ -78,7 +92,7 @@ impl WorldReader<'_> {
         self,
         near: &mut NearSide<F>,
         book: &mut Book<S>,
-    ) -> Result<String, UnreadWorld>
+    ) -> Result<WorldText, UnreadWorld>
         ensures near { F.visitors.alone ≡ true → F.honest near.new.near.folder → (seen_of near.new).stored ≡ (seen_of near.old).stored }
         ensures files { S.honest book.new.shelf → (S.seen book.new.shelf).stored ≡ (S.seen book.old.shelf).stored }
     {
@@ -99,7 +113,7 @@ impl WorldReader<'_> {
         self,
         far: &mut M,
         fresh: NonZeroU32,
-    ) -> Result<String, UnreadWorld>
+    ) -> Result<WorldText, UnreadWorld>
         ensures far { M.alone ≡ true → M.honest far.new → (M.seen far.new).stored ≡ (M.seen far.old).stored }
     {
         let state = SyncState::none(self.alloc);
@@ -113,7 +127,7 @@ impl WorldReader<'_> {
     }
 
     /// The same of one that is to be made on both sides.
-    pub fn text_without_both(self, fresh: NonZeroU32) -> Result<String, AllocError> {
+    pub fn text_without_both(self, fresh: NonZeroU32) -> Result<WorldText, AllocError> {
         let parts = WorldParts {
             far: empty_mailbox(self.alloc, UNMADE_VALIDITY)?,
             near: empty_mailbox(self.alloc, fresh.get())?,
@@ -123,7 +137,10 @@ impl WorldReader<'_> {
     }
 
     /// The text of a world of these parts, and of what the last run recorded.
-    fn written(self, parts: &WorldParts, state: &SyncState) -> Result<String, AllocError> {
+    fn written(self, parts: &WorldParts, state: &SyncState) -> Result<WorldText, AllocError>
+        ensures undeleted { IfOk result (λ world. world.undeleted.items
+            ≡ filter_map (undeleted_in self.entry.options.now.cells.gone parts.now.far.messages parts.now.near.messages) state.now.entries) }
+    {
         let mut text = String::new(self.alloc);
         write_options(&mut text, self.options)?;
         let world = WrittenWorld {
@@ -133,16 +150,26 @@ impl WorldReader<'_> {
             state,
         };
         write_parts(&mut text, &world)?;
-        Ok(text)
+        let messages = BothMessages {
+            far: parts.far.messages.as_slice(),
+            near: parts.near.messages.as_slice(),
+        };
+        let undeleted = undeleted_among(self.alloc, self.options.cells.gone, messages, state)?;
+        Ok(WorldText { text, undeleted })
     }
 }
 
-/// Opens a book. `Unfinished`: a plan is pending in it.
+/// Opens a book. `BadState(2)`: the last run that it records has the greatest number, so none follows. `Unfinished`: a plan is pending in
+/// it.
 fn open_planless<S: Shelf>(book: &mut Book<S>) -> Result<(), UnreadWorld>
-    ensures { S.honest book.new.shelf → (S.seen book.new.shelf).stored ≡ (S.seen book.old.shelf).stored }
+    ensures same { S.honest book.new.shelf → (S.seen book.new.shelf).stored ≡ (S.seen book.old.shelf).stored }
+    ensures last { OnOk result (book.new.state.run ≡ 2 ^ 64 - 1 → ⊥) }
 {
     book.reopen();
     book.enter()?;
+    if book.state().run == u64::MAX {
+        return Err(UnreadWorld::Run(RunFault::BadState(2)));
+    }
     match book.pending() {
         Some(_) => Err(UnreadWorld::Unfinished),
         None => Ok(()),

@@ -66,7 +66,7 @@ names_of answer = option_map (λ names. names.items) (result_ok answer)
 abbrev pub outcome_of_fault : StoreFault → Outcome
 outcome_of_fault (CannotOpen path reason) = Unopened
 outcome_of_fault (Server store why) = Unopened
-outcome_of_fault Locked = Failed
+outcome_of_fault (Locked holder) = Failed
 outcome_of_fault (Box fault) = Failed
 
 -- it ends as its answer says, or its fault

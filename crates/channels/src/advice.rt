@@ -55,10 +55,7 @@ pub fn advise_on<E: Write>(err: &mut E, fault: &BoxFailure) -> io::Result<()> {
         BoxFailure::Removed(side) => advise_removed(err, *side),
         BoxFailure::CannotOpen(_, reason) => writeln!(err, "  {reason}"),
         BoxFailure::Server(store, why) => advise_server(err, store.as_str(), *why),
-        BoxFailure::Locked => writeln!(
-            err,
-            "  another process synchronises this box: run again when it has ended"
-        ),
+        BoxFailure::Locked(holder) => advise_locked(err, *holder),
         BoxFailure::Refused(number, step) => advise_refused(err, *number, step.as_ref()),
         BoxFailure::Stopped(cause) => advise_stop(err, cause),
         BoxFailure::LeftOut(_) => writeln!(
@@ -96,6 +93,21 @@ fn report_stale<E: Write>(err: &mut E, fault: &BoxFailure) -> io::Result<()> {
             "  message {uid} was undeleted here, and is gone at the server: it stays here alone"
         ),
         _ => write!(err, "  an unfinished run goes by other Keyword lines"),
+    }
+}
+
+/// Reports which process holds the lock of a mailbox, and what to do if it never ends.
+fn advise_locked<E: Write>(err: &mut E, holder: Option<u32>) -> io::Result<()> {
+    match holder {
+        Some(process) => writeln!(
+            err,
+            "  process {process} holds the lock of this mailbox: run again when it has ended\n  \
+             if ps -p {process} shows an mbsync that waits for a silent server, kill it: the next run resumes its work"
+        ),
+        None => writeln!(
+            err,
+            "  another process synchronises this box: run again when it has ended"
+        ),
     }
 }
 

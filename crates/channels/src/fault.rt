@@ -22,8 +22,8 @@ pub enum BoxFailure {
     CannotOpen(String, &'static str),
     /// The server of the IMAP store of this name does not open.
     Server(String, ConnectFault),
-    /// Another process holds its lock.
-    Locked,
+    /// Another process holds its lock: the one of this number, if it is known.
+    Locked(Option<u32>),
     /// The server said no to a step: its number, counted from 1, and the step, if it could be read again.
     Refused(usize, Option<Step>),
     /// The run was stopped by this.
@@ -91,7 +91,7 @@ impl BoxFailure {
             | BoxFailure::Removed(_)
             | BoxFailure::CannotOpen(..)
             | BoxFailure::Server(..)
-            | BoxFailure::Locked
+            | BoxFailure::Locked(_)
             | BoxFailure::Refused(..)
             | BoxFailure::GivenAgain(..)
             | BoxFailure::LeftOut(_)
@@ -111,7 +111,7 @@ impl BoxFailure {
             | BoxFailure::Removed(_)
             | BoxFailure::CannotOpen(..)
             | BoxFailure::Server(..)
-            | BoxFailure::Locked
+            | BoxFailure::Locked(_)
             | BoxFailure::Refused(..)
             | BoxFailure::LeftOut(_)
             | BoxFailure::AtStep(..) => false,
@@ -150,7 +150,7 @@ impl BoxFailure {
             BoxFailure::Absent(_)
             | BoxFailure::Removed(_)
             | BoxFailure::CannotOpen(..)
-            | BoxFailure::Locked
+            | BoxFailure::Locked(_)
             | BoxFailure::GivenAgain(..)
             | BoxFailure::LeftOut(_) => false,
         }
@@ -177,7 +177,7 @@ impl From<StoreFault> for BoxFailure {
         match fault {
             StoreFault::CannotOpen(name, reason) => BoxFailure::CannotOpen(name, reason),
             StoreFault::Server(store, why) => BoxFailure::Server(store, why),
-            StoreFault::Locked => BoxFailure::Locked,
+            StoreFault::Locked(holder) => BoxFailure::Locked(holder),
             StoreFault::Box(fault) => BoxFailure::Run(fault),
         }
     }

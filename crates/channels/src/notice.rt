@@ -11,4 +11,11 @@ pub enum Notice {
     Unnamed(String),
     /// The server of the IMAP store of this name says this to its users (the code ALERT: RFC 9051, section 7.1).
     Alert(String, String),
+    /// This process may not read what stands at this path below the path of a near store: no mailbox in there is synchronised.
+    Unread(String),
+    /// The first run over the folder of this path finds so many files with UIDs, which count as new messages.
+    FirstRun(String, usize),
+    /// So many messages of the folder of this path are in no pair, and not new: no run sends them. What stands in the names of the first
+    /// ones, each with a space after it.
+    Unpaired(String, usize, String),
 }

@@ -134,7 +134,7 @@ impl fmt::Display for BoxFaultText<'_> {
             BoxFailure::CannotOpen(name, _) | BoxFailure::Server(name, _) => {
                 write!(f, "cannot open {name}")
             }
-            BoxFailure::Locked => f.write_str("locked"),
+            BoxFailure::Locked(_) => f.write_str("locked"),
             BoxFailure::Refused(number, _) => write!(f, "refused step {number}"),
             BoxFailure::Stopped(_) => write!(f, "{}", RunFault::Stopped),
             BoxFailure::GivenAgain(..) => write!(f, "{}", RunFault::BadState(0)),
@@ -167,6 +167,24 @@ impl fmt::Display for NoticeText<'_> {
             Notice::Alert(store, text) => {
                 let (store, text) = (store.as_str(), text.as_str());
                 write!(f, "mbsync: alert from {store}: {text}")
+            }
+            Notice::Unread(path) => {
+                let path = path.as_str();
+                write!(f, "mbsync: left out, since it may not be read: {path}")
+            }
+            Notice::FirstRun(folder, count) => {
+                let folder = folder.as_str();
+                write!(
+                    f,
+                    "mbsync: first run over {folder}: files with UIDs (,U=) count as new messages: {count}"
+                )
+            }
+            Notice::Unpaired(folder, count, first) => {
+                let (folder, first) = (folder.as_str(), first.as_str());
+                write!(
+                    f,
+                    "mbsync: {count} messages of {folder} are in no pair and are not sent: {first}(take ,U=.. out of a name to send it)"
+                )
             }
         }
     }

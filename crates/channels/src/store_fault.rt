@@ -50,9 +50,9 @@ pub enum StoreFault {
     /// The same of the server of the IMAP store of this name.
     #[error("cannot open {0}")]
     Server(String, ConnectFault),
-    /// Another process holds the lock of the near mailbox.
+    /// Another process holds the lock of the near mailbox: the one of this number, if it is known.
     #[error("locked")]
-    Locked,
+    Locked(Option<u32>),
     /// A call has this fault, reported as that of a run: `Stopped`; `StoreFault` with the side and the number of a box's fault, as 2 of the
     /// far side where the server says no; `NoMemory`.
     #[error("{0}")]

@@ -17,3 +17,4 @@ mod see_marks;
 mod sorted;
 mod still_listed;
 mod stop_refused;
+mod unpaired;

@@ -14,6 +14,7 @@ use crate::objection::Objection;
 use crate::recorded::Recorded;
 use crate::removals::Removals;
 use crate::still_listed::still_listed;
+use crate::unpaired::Unpaired;
 use device::history::History;
 use device::trouble::Trouble;
 use mailcore::listing::Listing;
@@ -89,6 +90,8 @@ pub struct NearLook<R: Files + AllocGlobal + Clone + Drop> {
     far_recorded: Recorded,
     /// The near ones.
     near_recorded: Recorded,
+    /// The near messages that no run sends.
+    unpaired: Unpaired,
     /// What is watched of the plan that is pending.
     watch: Watch,
     /// When the last look was made before a message was marked or removed.
@@ -109,18 +112,26 @@ impl<R: Files + AllocGlobal + Clone + Drop> NearLook<R> {
         let watch = Watch::over(Removals::none(rt.alloc()), 0);
         let alloc = rt.alloc();
         let (far_recorded, near_recorded) = (Recorded::none(alloc), Recorded::none(alloc));
+        let unpaired = Unpaired::none(alloc);
         NearLook {
             rt,
             folder,
             given: FarGiven::nothing(),
             far_recorded,
             near_recorded,
+            unpaired,
             watch,
             looked_at: None,
             readings: History::new(),
             objection: Cell::new(None),
             goes_on: true,
         }
+    }
+
+    /// The near messages that are in no pair and not new, by the first listing of the last run that was planned. Where memory was wanting
+    /// there are none.
+    pub fn unpaired(&self) -> &[Uid] {
+        self.unpaired.found()
     }
 
     /// Takes out why the run did not go on. None: nothing was refused.
@@ -163,10 +174,7 @@ impl<R: Files + AllocGlobal + Clone + Drop> NearLook<R> {
         match change {
             Change::AddFlags(side)
                 if self.watch.removals.marks_for_gone(side, uid)
-                    && self.recorded(side).is_restored(uid) =>
-            {
-                Some(side)
-            }
+                    && self.recorded(side).is_restored(uid) => { Some(side) }
             _ => None,
         }
     }
@@ -311,8 +319,12 @@ impl<R: Files + Clock + AllocGlobal + Clone + Drop> Guard for NearLook<R> {
             Some(journal) => {
                 let removals = Removals::of(alloc, &journal.plan);
                 self.watch(removals, journal.log.as_slice().len());
+                self.unpaired = Unpaired::none(alloc);
             }
-            None => self.watch(Ok(Removals::none(alloc)), 0),
+            None => {
+                self.watch(Ok(Removals::none(alloc)), 0);
+                self.unpaired = Unpaired::by(alloc, state).unwrap_or(Unpaired::none(alloc));
+            }
         }
     }
 
@@ -390,7 +402,10 @@ impl<R: Files + Clock + AllocGlobal + Clone + Drop> Guard for NearLook<R> {
         let alloc = self.rt.alloc();
         let seen = match side {
             Side::Far => self.far_recorded.see(alloc, listing),
-            Side::Near => self.near_recorded.see(alloc, listing),
+            Side::Near => {
+                let _ = self.unpaired.see(alloc, listing);
+                self.near_recorded.see(alloc, listing)
+            }
         };
         if seen.is_err() {
             self.note(Objection::Unlooked(Trouble::Other));

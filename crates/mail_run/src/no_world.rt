@@ -112,7 +112,7 @@ impl NoWorld {
             ),
             NoWorld::Unfinished => writeln!(
                 err,
-                "mbworld: {mailbox}: unfinished run\n  run mbsync {channel} first: it completes that run, and plans nothing new"
+                "mbworld: {mailbox}: unfinished run\n  run mbsync {channel} first: it completes that run, or says what is in its way"
             ),
             NoWorld::Failed(failure) => {
                 writeln!(err, "mbworld: {mailbox}: {}", BoxFaultText(failure))?;

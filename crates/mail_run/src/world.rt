@@ -6,11 +6,12 @@ use crate::world_box::{ChannelBoxes, NamedBox, named_box};
 use crate::world_line::{HELP, WorldLine};
 use crate::world_stores::WorldStores;
 use box_worlds::bodies::Bodies;
-use box_worlds::reader::WorldReader;
+use box_worlds::reader::{WorldReader, WorldText};
 use channels::scope::options_of;
 use channels::stores::Stores;
 use mail_stores::mail_stores::MailStores;
 use mail_stores::server::RealLink;
+use mailcore::side::Side;
 use near_places::lock::LockFiles;
 use std::alloc::Global;
 use std::io;
@@ -107,7 +108,7 @@ fn print_world<S: WorldStores + Drop, O: Write, E: Write>(
     let mut stores = stores;
     let read = world_text(alloc, named, bodies, &mut stores);
     let status = match read {
-        Ok(text) => status_of(print(out, text.as_str()), 0),
+        Ok(world) => status_of(print_read(out, err, mailbox, &world), 0),
         Err(fault) => {
             let words = server_words(&fault, &mut stores);
             status_of(fault.report(err, mailbox, named, words.as_deref()), 1)
@@ -121,13 +122,34 @@ fn print_world<S: WorldStores + Drop, O: Write, E: Write>(
     }
 }
 
+/// Prints a world, and at which messages the run over it objects: mbplan does not know of that.
+fn print_read<O: Write, E: Write>(
+    out: &mut O,
+    err: &mut E,
+    mailbox: &str,
+    world: &WorldText,
+) -> io::Result<()> {
+    for (side, uid) in &world.undeleted {
+        let (here, there) = match side {
+            Side::Far => ("at the server", "here"),
+            Side::Near => ("here", "at the server"),
+        };
+        let uid = uid.get();
+        writeln!(
+            err,
+            "mbworld: {mailbox}: message {uid} was undeleted {here}, and is gone {there}: mbsync stops there, and leaves it alone"
+        )?;
+    }
+    print(out, world.text.as_str())
+}
+
 /// The text of the world of a mailbox.
 fn world_text<S: WorldStores>(
     alloc: Global,
     named: NamedBox<'_>,
     bodies: Bodies,
     stores: &mut S,
-) -> Result<String, NoWorld> {
+) -> Result<WorldText, NoWorld> {
     let listed = ChannelBoxes::of(alloc, named.of, stores)?;
     let Some(place) = listed.place(named) else {
         return Err(NoWorld::unplaced(named));
@@ -140,7 +162,7 @@ fn world_text<S: WorldStores>(
         bodies,
     };
     match stores.read_world(place, absent, reader) {
-        Ok(Ok(text)) => Ok(text),
+        Ok(Ok(world)) => Ok(world),
         Ok(Err(unread)) => Err(NoWorld::unread(alloc, place, unread, stores)),
         Err(fault) => Err(NoWorld::from(fault)),
     }

@@ -99,8 +99,8 @@ impl ChannelBoxes {
         }
     }
 
-    /// The sides on which a mailbox is absent: a run makes it there. `Absent`: it does not, since Create does not cover this side.
-    /// `Removed`: it does not, since a former run has synchronised the mailbox.
+    /// The sides on which a mailbox is absent: a run makes it there. `Removed`: it does not, since a former run has synchronised the mailbox.
+    /// `Absent`: it does not, since Create does not cover this side, and no former run is known.
     pub(crate) fn absent<S: Stores>(
         &self,
         place: ChannelBox<'_>,
@@ -113,7 +113,10 @@ impl ChannelBoxes {
             near: !stands_in(&self.near, place.near),
         };
         if let Some(side) = uncovered(absent, place.of.channel.create) {
-            return Err(NoWorld::Failed(BoxFailure::Absent(side)));
+            return Err(NoWorld::Failed(match stores.has_state(place) {
+                Ok(true) => BoxFailure::Removed(side),
+                Ok(false) | Err(_) => BoxFailure::Absent(side),
+            }));
         }
         if (absent.far || absent.near) && stores.has_state(place)? {
             let side = if absent.far { Side::Far } else { Side::Near };

@@ -1,6 +1,6 @@
 //! Stores that read worlds of their mailboxes.
 
-use box_worlds::reader::WorldReader;
+use box_worlds::reader::{WorldReader, WorldText};
 use box_worlds::unread::UnreadWorld;
 use channels::channel_box::ChannelBox;
 use channels::store_fault::StoreFault;
@@ -23,7 +23,7 @@ pub(crate) trait WorldStores: Stores {
         place: ChannelBox<'_>,
         absent: Sides,
         reader: WorldReader<'_>,
-    ) -> Result<Result<String, UnreadWorld>, StoreFault>;
+    ) -> Result<Result<WorldText, UnreadWorld>, StoreFault>;
 }
 
 impl<
@@ -37,7 +37,7 @@ impl<
         place: ChannelBox<'_>,
         absent: Sides,
         reader: WorldReader<'_>,
-    ) -> Result<Result<String, UnreadWorld>, StoreFault> {
+    ) -> Result<Result<WorldText, UnreadWorld>, StoreFault> {
         self.world(place, absent, reader)
     }
 }

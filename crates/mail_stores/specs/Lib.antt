@@ -1,4 +1,5 @@
 pub mod Addresses
+pub mod Former
 pub mod Lent
 pub mod Listed
 pub mod Loans

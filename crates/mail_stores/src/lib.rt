@@ -23,4 +23,5 @@ mod reported;
 pub mod server;
 mod sessions;
 pub mod store_link;
+mod with_uid;
 pub mod world;

@@ -1,6 +1,6 @@
 //! The real stores: servers over TCP, and folders of a disk.
 
-ghost use Rattle.std.specs.Prelude.{◌≡◌, [], IfOk, OnErr, string_bytes};
+ghost use Rattle.std.specs.Prelude.{◌≡◌, [], false, IfOk, OnErr, string_bytes};
 ghost use Rattle.channels.specs.Asked.{place_of};
 ghost use Rattle.channels.specs.Lendings.{IsLent, Lends};
 ghost use Rattle.channels.specs.Listings.{far_listings, near_listings};
@@ -9,6 +9,7 @@ ghost use Rattle.mail_stores.specs.Loans.{HaveKept, lent_of};
 ghost use Rattle.mail_stores.specs.Placed.{AllStood, AllStood-prop, AreOf};
 ghost use Rattle.mail_stores.specs.Records.{none_asked};
 ghost use Rattle.mail_stores.specs.Reached.{AreIn};
+ghost use Rattle.near_places.specs.Former.{is_unswitched};
 ghost use Rattle.std.specs.Int.NonZero.{non_zero_u32_get};
 
 use crate::last_box::LastBox;
@@ -26,6 +27,7 @@ use channels::stores::Work;
 use imap_client::waits::Waits;
 use mailcore::keywords::Keywords;
 use maildir::disk_folder::DiskFolder;
+use near_places::former::FormerRuns;
 use near_places::home::Home;
 use near_places::lock::{Lock, LockFault, LockFiles};
 use runner::progress::Progress;
@@ -100,7 +102,8 @@ impl<
         }
     }
 
-    /// Takes the lock of a mailbox, opens both sides, and does this over them. The session stands then, if it goes on.
+    /// Takes the lock of a mailbox, opens both sides, and does this over them. The session stands then, if it goes on. `Refused`: isync's
+    /// state was converted, and no state is in place.
     #[tactic(auto, using(crate::proofs::PlacedLemmas::are_of))]
     pub(crate) fn work_in<W: Work + Drop>(
         &mut self,
@@ -116,22 +119,27 @@ impl<
         let folder = self.open.reach.folder_of(place)?;
         let path = folder.as_str();
         let lock = Lock::take(&self.open.reach.rt, path)?;
+        let former = self.open.reach.former_runs(path)?;
         let keywords = work.keywords().try_clone(self.open.reach.rt.alloc())?;
+        self.open.note_former(path, former);
         let sides = self.open.open_sides(place, path, &keywords)?;
-        Ok(self.work_locked(place, path, &lock, sides, keywords, work))
+        Ok(self.work_locked(place, path, &lock, former, sides, keywords, work))
     }
 
-    /// Does this over both sides of a mailbox, the near one in this folder, which this lock is for, and notes how it ended.
+    /// Does this over both sides of a mailbox, the near one in this folder, which this lock is for, and notes how it ended. Of former runs
+    /// these are there: isync's state does not wait to be put in place.
     fn work_locked<W: Work + Drop>(
         &mut self,
         place: ChannelBox<'_>,
         folder: &str,
         lock: &Lock<R::File>,
+        _former: FormerRuns,
         sides: RealSides<R, L>,
         keywords: Keywords,
         work: W,
     ) -> W::Answer
         requires lock { string_bytes lock.now.folder ≡ folder.now }
+        requires former { is_unswitched _former ≡ false }
         requires near { AreIn folder.now sides.sides.folder sides.sides.shelf sides.guard.folder }
         requires placed { AreOf L.address self.old.open.reach.home (place_of place) sides.sides }
         requires map { sides.sides.far.far.keywords ≡ keywords }

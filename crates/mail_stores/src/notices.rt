@@ -7,9 +7,14 @@ ghost use Rattle.mail_stores.specs.Notices.{IsFor};
 use crate::asked::{Asked, escaped};
 use channels::channel_box::ChannelStores;
 use channels::notice::Notice;
+use config::config::Boxes;
 use link_face::words::Words;
+use mailcore::uid::Uid;
 use std::alloc::{AllocError, Global};
 use std::mem;
+
+/// How many messages are named that no run sends.
+const SHOWN: usize = 3;
 
 /// What is to be printed beside faults.
 #[derive(Drop)]
@@ -23,7 +28,7 @@ pub(crate) struct Notices {
     channel: String,
     /// The mailboxes that were noted, in order: store, colon, name.
     skipped: Vec<String>,
-    /// The files that were noted, in order.
+    /// The files that were noted, and the folders, in order.
     unnamed: Vec<String>,
 }
 
@@ -41,7 +46,7 @@ impl Notices {
     }
 
     /// Takes out what is to be printed over a channel. A mailbox that is left out, and that the channel could not choose, waits for one that
-    /// could.
+    /// could; what may not be read waits for one with patterns.
     pub(crate) fn take(&mut self, of: ChannelStores<'_>) -> Vec<Notice>
         ensures { All (IsFor (joined_of of.entry)) result.items }
     {
@@ -116,11 +121,69 @@ impl Notices {
         Ok(())
     }
 
+    /// Notes what may not be read below the path of a near store, each once. Where memory runs out some is not.
+    pub(crate) fn leave_unread(&mut self, paths: &[String]) {
+        for path in paths {
+            let _ = self.try_leave_unread(path.as_str());
+        }
+    }
+
+    fn try_leave_unread(&mut self, path: &str) -> Result<(), AllocError> {
+        let path = escaped(self.alloc, path.as_bytes())?;
+        if add_once(&mut self.unnamed, path.clone()?)? {
+            self.coming.push(Notice::Unread(path))?;
+        }
+        Ok(())
+    }
+
+    /// Notes that the first run over this folder finds so many files with UIDs, if it finds any. Where memory runs out it does not.
+    pub(crate) fn begin(&mut self, folder: &str, count: usize) {
+        if count > 0 {
+            let _ = self.try_begin(folder, count);
+        }
+    }
+
+    fn try_begin(&mut self, folder: &str, count: usize) -> Result<(), AllocError> {
+        let folder = String::from_str(self.alloc, folder)?;
+        self.coming.push(Notice::FirstRun(folder, count))?;
+        Ok(())
+    }
+
+    /// Notes the messages of this folder that are in no pair and not new, once for a folder. Where memory runs out they are not.
+    pub(crate) fn leave_unpaired(&mut self, folder: &str, uids: &[Uid]) {
+        if !uids.is_empty() {
+            let _ = self.try_leave_unpaired(folder, uids);
+        }
+    }
+
+    fn try_leave_unpaired(&mut self, folder: &str, uids: &[Uid]) -> Result<(), AllocError> {
+        let folder = String::from_str(self.alloc, folder)?;
+        if add_once(&mut self.unnamed, folder.clone()?)? {
+            let first = first_named(self.alloc, uids)?;
+            self.coming
+                .push(Notice::Unpaired(folder, uids.len(), first))?;
+        }
+        Ok(())
+    }
+
     fn alert(&mut self, store: &str, text: String) -> Result<(), AllocError> {
         let store = String::from_str(self.alloc, store)?;
         self.coming.push(Notice::Alert(store, text))?;
         Ok(())
     }
+}
+
+/// What stands in the names of the first of these messages.
+fn first_named(alloc: Global, uids: &[Uid]) -> Result<String, AllocError> {
+    let mut text = String::new(alloc);
+    for uid in uids.iter().take(SHOWN) {
+        let number = uid.get();
+        text.push_str(format!(in alloc; ",U={number} ")?.as_str())?;
+    }
+    if uids.len() > SHOWN {
+        text.push_str(".. ")?;
+    }
+    Ok(text)
 }
 
 /// Adds a text to texts in order, if it is not there; true where it was not.
@@ -140,6 +203,8 @@ fn is_for(of: ChannelStores<'_>, notice: &Notice) -> bool
 {
     match notice {
         Notice::Skipped(store, name) => of.could_choose(store.as_str(), name.as_str()),
-        Notice::Unnamed(_) | Notice::Alert(..) => true,
+        Notice::Unread(_) => matches!(of.channel.boxes, Boxes::Matching(_)),
+        Notice::Unnamed(_) | Notice::Alert(..) | Notice::FirstRun(..) | Notice::Unpaired(..) =>
+            true,
     }
 }

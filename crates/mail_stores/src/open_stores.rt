@@ -1,11 +1,12 @@
 //! What is open of the real stores: sessions with servers over TCP, and folders of a disk.
 
-ghost use Rattle.std.specs.Prelude.{◌≡◌, IfOk};
+ghost use Rattle.std.specs.Prelude.{◌≡◌, true, IfOk};
 ghost use Rattle.channels.specs.Boxes.{Rises};
 ghost use Rattle.mail_stores.specs.Addresses.{address_of};
 ghost use Rattle.mail_stores.specs.Listed.{Finds, Lists, listed_at, synchronised_at};
 ghost use Rattle.mail_stores.specs.Placed.{LeadsTo};
 ghost use Rattle.mail_stores.specs.Reached.{AreIn, IsAccount};
+ghost use Rattle.near_places.specs.Former.{has_begun};
 
 use crate::address::address_of;
 use crate::asked::Asked;
@@ -18,6 +19,7 @@ use crate::reported::{list_fault, lock_fault, make_fault, ordered, unlisted, unr
 use crate::server::{AskFault, is_word};
 use crate::sessions::{FarListing, Sessions};
 use crate::store_link::LinkOver;
+use crate::with_uid::count_with_uid;
 use channels::channel_box::ChannelBox;
 use channels::store_fault::{ListFault, StoreFault};
 use config::config::{ImapStore, MaildirStore};
@@ -31,6 +33,7 @@ use mailcore::keywords::Keywords;
 use mailcore::mailbox_name::MailboxName;
 use mailcore::side::Side;
 use near_places::boxes::NearBoxes;
+use near_places::former::FormerRuns;
 use near_places::lock::{LockFault, LockFiles};
 use near_places::looks::Looks;
 use near_places::refusal::PlaceRefusal;
@@ -179,6 +182,7 @@ impl<
         for name in &found.skipped {
             self.notices.skip(store.name.as_str(), name.as_str());
         }
+        self.notices.leave_unread(&found.unread);
         let alloc = self.reach.rt.alloc();
         let NearBoxes { names, looks, .. } = found;
         match NearNames::of(alloc, names) {
@@ -291,7 +295,21 @@ impl<
         }
     }
 
-    /// Notes what stopped the run over a mailbox, and which files it left out or alone.
+    /// Notes how many files in this folder have UIDs, where the run over it is the first one.
+    pub(crate) fn note_former(&mut self, folder: &str, former: FormerRuns)
+        ensures reach { self.new.reach ≡ self.old.reach }
+        ensures begun { has_begun former ≡ true → self.new ≡ self.old }
+    {
+        if former.has_begun() {
+            return;
+        }
+        // What cannot be read is reported by the run.
+        if let Ok(count) = count_with_uid(&self.reach.rt, folder) {
+            self.notices.begin(folder, count);
+        }
+    }
+
+    /// Notes what stopped the run over a mailbox, and which files it left out or alone, and which no run sends.
     pub(crate) fn note_end(&mut self, place: ChannelBox<'_>, folder: &str, sides: &RealSides<R, L>)
         ensures reach { self.new.reach ≡ self.old.reach }
     {
@@ -308,6 +326,7 @@ impl<
         };
         self.notices
             .leave_alone(path_texts(alloc, folder, sides.folder.unspelled()));
+        self.notices.leave_unpaired(folder, guard.unpaired());
     }
 
     /// Keeps the session of the far side of a mailbox at this store, if it goes on.

@@ -1,8 +1,9 @@
 //! How the mailboxes of a configuration are reached: servers over TCP, and folders of a disk.
 
-ghost use Rattle.std.specs.Prelude.{◌≡◌, IfOk, string_bytes};
+ghost use Rattle.std.specs.Prelude.{◌≡◌, false, IfOk, string_bytes};
 ghost use Rattle.mail_stores.specs.Addresses.{address_of};
 ghost use Rattle.mail_stores.specs.Reached.{AreIn, IsAccount};
+ghost use Rattle.near_places.specs.Former.{is_unswitched};
 ghost use Rattle.near_places.specs.Paths.{folder_of};
 ghost use Rattle.near_places.specs.Trees.{AreBoxes};
 
@@ -11,8 +12,7 @@ use crate::guarded_work::GuardedSides;
 use crate::notes::ServerNotes;
 use crate::server::{AskFault, link_to, log_in};
 use crate::store_link::LinkOver;
-use book::disk_shelf::{DiskShelf, name_of};
-use book::shelf;
+use book::disk_shelf::DiskShelf;
 use channels::channel_box::ChannelBox;
 use config::config::{ImapStore, MaildirStore};
 use device::DeviceFault;
@@ -23,20 +23,19 @@ use mail_sides::logged_in::LoggedIn;
 use mailcore::keywords::Keywords;
 use maildir::disk_folder::DiskFolder;
 use near_places::boxes::{NearBoxes, near_boxes, near_folder};
+use near_places::former::FormerRuns;
 use near_places::home::Home;
 use near_places::lock::{LockFault, LockFiles};
 use near_places::names::has_own_part;
 use near_places::refusal::{OWN_PART, PlaceRefusal};
 use std::alloc::AllocError;
-use std::fs;
-use std::io::ErrorKind;
 use std::net::Net;
 use std::num::NonZeroU32;
 use std::rt::{Clock, Files};
 
 /// Why a near folder was not made.
 const NOT_MADE: &str =
-    "it could not be made. Let yourself write in the folder above it, and run again";
+    "it could not be made: something else stands there, or you may not write above it. Mend that, and run again";
 
 /// Why nobody can log in.
 const UNSENDABLE: &str =
@@ -86,26 +85,21 @@ impl<R: Net + LockFiles + Clock + AllocGlobal + Clone + Drop, W: Waits + Copy> R
         near_boxes(&self.rt, &self.home, store)
     }
 
-    /// Whether a former run has begun in the folder of a near mailbox: its state is there, or the journal that a first run leaves where it
-    /// was interrupted. A validity alone is none of these: nothing was copied then.
+    /// Whether a former run has begun in the folder of a near mailbox. `Refused`: it stands where no run may be the first (`former_runs`).
     pub(crate) fn has_state(&self, place: ChannelBox<'_>) -> Result<bool, LockFault> {
         let folder = self.folder_of(place)?;
-        Ok(
-            self.has_file(folder.as_str(), shelf::ShelfFile::State)?
-                || self.has_file(folder.as_str(), shelf::ShelfFile::Journal)?,
-        )
+        Ok(self.former_runs(folder.as_str())?.has_begun())
     }
 
-    /// Whether a file of a book is in a folder.
-    fn has_file(&self, folder: &str, file: shelf::ShelfFile) -> Result<bool, LockFault> {
-        let alloc = self.rt.alloc();
-        let name = name_of(file);
-        let path = format!(in alloc; "{folder}/{name}")?;
-        match fs::symlink_metadata(&self.rt, path.as_str()) {
-            Ok(_) => Ok(true),
-            Err(error) if error.kind() == ErrorKind::NotFound => Ok(false),
-            Err(error) => Err(LockFault::Refused(PlaceRefusal::at(alloc, path.as_str(), &error))),
-        }
+    /// What former runs have left in this folder. `Refused`: isync's state was converted, and no state is in place
+    /// (`FormerRuns::refuse_unswitched`).
+    pub(crate) fn former_runs(&self, folder: &str) -> Result<FormerRuns, LockFault>
+        ensures { IfOk result (λ runs. is_unswitched runs ≡ false) }
+    {
+        let runs = FormerRuns::in_folder(&self.rt, folder).map_err(LockFault::Refused)?;
+        runs.refuse_unswitched(self.rt.alloc(), folder)
+            .map_err(LockFault::Refused)?;
+        Ok(runs)
     }
 
     /// Makes the folder of a near mailbox, with those above it.

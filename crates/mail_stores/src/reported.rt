@@ -47,7 +47,7 @@ fn store_fault(refusal: PlaceRefusal) -> StoreFault {
 /// A lock that is not taken.
 pub(crate) fn lock_fault(fault: LockFault) -> StoreFault {
     match fault {
-        LockFault::Held => StoreFault::Locked,
+        LockFault::Held(holder) => StoreFault::Locked(holder),
         LockFault::Refused(refusal) => store_fault(refusal),
     }
 }

@@ -10,7 +10,7 @@ use crate::reported::lock_fault;
 use crate::store_link::LinkOver;
 use book::disk_shelf::DiskShelf;
 use box_worlds::near_files::NearFiles;
-use box_worlds::reader::WorldReader;
+use box_worlds::reader::{WorldReader, WorldText};
 use box_worlds::unread::UnreadWorld;
 use channels::channel_box::ChannelBox;
 use channels::store_fault::StoreFault;
@@ -39,7 +39,7 @@ impl<
         place: ChannelBox<'_>,
         absent: Sides,
         reader: WorldReader<'_>,
-    ) -> Result<Result<String, UnreadWorld>, StoreFault> {
+    ) -> Result<Result<WorldText, UnreadWorld>, StoreFault> {
         self.open.world(place, absent, reader)
     }
 }
@@ -55,7 +55,7 @@ impl<
         place: ChannelBox<'_>,
         absent: Sides,
         reader: WorldReader<'_>,
-    ) -> Result<Result<String, UnreadWorld>, StoreFault>
+    ) -> Result<Result<WorldText, UnreadWorld>, StoreFault>
         ensures reach { self.new.reach ≡ self.old.reach }
     {
         self.last = LastBox::none(self.reach.rt.alloc());
@@ -77,11 +77,12 @@ impl<
         &mut self,
         place: ChannelBox<'_>,
         reader: WorldReader<'_>,
-    ) -> Result<Result<String, UnreadWorld>, LockFault>
+    ) -> Result<Result<WorldText, UnreadWorld>, LockFault>
         ensures reach { self.new.reach ≡ self.old.reach }
     {
         let folder = self.reach.folder_of(place)?;
         let _lock = Lock::take_made(&self.reach.rt, folder.as_str())?;
+        self.reach.former_runs(folder.as_str())?;
         let files = self.near_files(folder.as_str())?;
         let keywords = &reader.options.keywords;
         let mut far = self.far_side(place, keywords).map_err(LockFault::Refused)?;
@@ -96,7 +97,7 @@ impl<
         &mut self,
         place: ChannelBox<'_>,
         reader: WorldReader<'_>,
-    ) -> Result<Result<String, UnreadWorld>, LockFault>
+    ) -> Result<Result<WorldText, UnreadWorld>, LockFault>
         ensures reach { self.new.reach ≡ self.old.reach }
     {
         let keywords = &reader.options.keywords;
@@ -112,11 +113,12 @@ impl<
         &mut self,
         place: ChannelBox<'_>,
         reader: WorldReader<'_>,
-    ) -> Result<Result<String, UnreadWorld>, LockFault>
+    ) -> Result<Result<WorldText, UnreadWorld>, LockFault>
         ensures reach { self.new.reach ≡ self.old.reach }
     {
         let folder = self.reach.folder_of(place)?;
         let _lock = Lock::take_made(&self.reach.rt, folder.as_str())?;
+        self.reach.former_runs(folder.as_str())?;
         let files = self.near_files(folder.as_str())?;
         let (files, read) = reader.text_of_near(files, self.reach.fresh);
         self.note_world(place, folder.as_str(), &files);

@@ -1,3 +1,4 @@
+pub mod Former
 pub mod Names
 pub mod Paths
 pub mod Refusals

@@ -10,9 +10,9 @@ abbrev pub Reports : (path : List ℕ) → PlaceRefusal → Type 0
 Reports path (CannotOpen reported reason) = string_bytes reported ≡ path
 Reports path NoMemory = ⊤
 
--- of a lock that another process holds nothing more is reported; else the path of its file is
+-- of a lock that another process holds, this process is reported, if it is known; else the path of its file is
 abbrev pub ReportsLock : (path : List ℕ) → LockFault → Type 0
-ReportsLock path Held = ⊤
+ReportsLock path (Held holder) = ⊤
 ReportsLock path (Refused refusal) = Reports path refusal
 
 abbrev pub reported_of_memory : LockFault

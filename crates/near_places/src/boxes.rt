@@ -25,11 +25,12 @@ pub struct NearBoxes {
     /// The names of those under its path that are left out: the way from there to theirs, where a byte that is no plain character stands
     /// as a backslash and two digits. They are beyond the limits, or have a part that is a mailbox's own ([`has_own_part`]), or the name
     /// means INBOX, which stands in the folder of Inbox. The three folders of a mailbox are not looked into, so what is below them is
-    /// missing here. So is a name outside UTF-8, which cannot be had from the system, what stands below a name of more than 255 bytes,
-    /// and what this process may not read.
+    /// missing here. So is a name outside UTF-8, which cannot be had from the system, and what stands below a name of more than 255 bytes.
     ///
     /// [`has_own_part`]: crate::names::has_own_part
     pub skipped: Vec<String>,
+    /// The paths of what this process may not read below its path: no mailbox in there is known.
+    pub unread: Vec<String>,
     /// What the system was asked for them, with its answers. In each tree of folders where it would answer so, `names` are exactly the
     /// names of its mailboxes, apart from those that are left out.
     pub looks: Looks,
@@ -38,8 +39,10 @@ pub struct NearBoxes {
 /// The mailboxes of a store: INBOX, if a mailbox stands in the folder of Inbox; and those under its path, by the bytes of their names. A
 /// mailbox is a folder with `cur`, `new` and `tmp`. The folder of Inbox is INBOX alone, also where it stands under the path.
 ///
-/// `CannotOpen`: a folder cannot be read, or the system does not say what stands at a path; this is the path. Nothing of what is left out
-/// comes to that.
+/// What this process may not read in the folder of Inbox may be a mailbox, so INBOX is there: a run over it says what is in the way.
+///
+/// `CannotOpen`: the path of the store cannot be read, or the system does not say what stands at a path; this is the path. Nothing of what
+/// is left out comes to that.
 pub fn near_boxes<R: Files + AllocGlobal + Clone + Drop>(
     rt: &R,
     home: &Home,
@@ -53,16 +56,18 @@ pub fn near_boxes<R: Files + AllocGlobal + Clone + Drop>(
     let FolderNames {
         mut within,
         mut beyond,
+        unread,
         mut looks,
     } = boxes_under(rt, root, inbox.as_str())?;
     within.sort()?;
     beyond.sort()?;
-    let has_inbox = looks.is_mailbox(rt, inbox.as_str())?;
+    let has_inbox = looks.is_mailbox(rt, inbox.as_str(), true, &mut Vec::new(alloc))?;
     let mut names = first_names(alloc, has_inbox, within.len())?;
     add_names(&mut names, within)?;
     Ok(NearBoxes {
         names,
         skipped: beyond,
+        unread,
         looks,
     })
 }

@@ -2,7 +2,9 @@
 #![tactic(auto)]
 
 pub mod boxes;
+pub mod former;
 pub mod fresh;
+mod holder;
 pub mod home;
 pub mod lock;
 pub mod looks;

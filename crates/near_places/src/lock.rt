@@ -3,6 +3,7 @@
 ghost use Rattle.std.specs.Prelude.{◌≡◌, ◌++◌, IfErr, IfOk, IfSome, codes, string_bytes};
 ghost use Rattle.near_places.specs.Refusals.{ReportsLock, reported_of_memory};
 
+use crate::holder::holder_of;
 use crate::refusal::PlaceRefusal;
 use std::alloc::{AllocError, AllocFailed};
 use std::fs::{File, OpenOptions, TryLockError};
@@ -21,9 +22,9 @@ const FILE_MODE: u32 = 0o600;
 /// Why a lock is not taken.
 #[derive(Debug, Drop, Error)]
 pub enum LockFault {
-    /// Another process holds it.
+    /// Another process holds it: the one of this number, if it is known.
     #[error("locked")]
-    Held,
+    Held(Option<u32>),
     /// Its file does not open.
     #[error("{0}")]
     Refused(PlaceRefusal),
@@ -115,7 +116,7 @@ impl<F> Lock<F> {
                 _file: file,
                 folder,
             }),
-            Err(TryLockError::WouldBlock) => Err(LockFault::Held),
+            Err(TryLockError::WouldBlock) => Err(LockFault::Held(holder_of(rt, &file))),
             Err(TryLockError::Error(error)) => Err(refused(rt, path, &error)),
         }
     }

@@ -1,12 +1,14 @@
 //! What the system says of folders, and a record of it.
 
-ghost use Rattle.std.specs.Prelude.{◌≡◌, List, [], ◌∷◌, map, MatchResult, string_bytes};
+ghost use Rattle.std.specs.Prelude.{◌≡◌, ◌++◌, false, true, List, [], ◌∷◌, map, IfErr, IfOk, IsErr, MatchResult, Ok, string_bytes};
 ghost use Rattle.std.specs.Borrow.{ftrue};
+ghost use Rattle.std.specs.IoError.{error_kind};
 ghost use Rattle.near_places.specs.Trees.{IsLater, Look};
 ghost use Rattle.near_places.specs.Trees.Look.{FolderAt, NamesIn, BoxAt};
 
 use crate::refusal::PlaceRefusal;
 use device::disk::Disk;
+use std::alloc::Global;
 use std::io::ErrorKind;
 use std::marker::Model;
 use std::os::unix::fs::MetadataExt;
@@ -67,33 +69,60 @@ impl Looks {
         Ok(found)
     }
 
+    /// The same of what stands below the path of a store. What this process may not ask for counts as no folder, and its path is added to
+    /// those that are unread.
+    pub(crate) fn folder_below<R: Files + AllocGlobal>(
+        &mut self,
+        rt: &R,
+        path: &str,
+        unread: &mut Vec<String>,
+    ) -> Result<Option<Identity>, PlaceRefusal>
+        ensures later { IsLater self.old.looks self.new.looks }
+        ensures noted { MatchResult result (λ found. self.new.looks ≡ FolderAt path.now found ∷ self.old.looks)
+            (λ _. self.new.looks ≡ self.old.looks) }
+    {
+        let answer = identity_at(rt, path);
+        let found = unless_unread(rt.alloc(), path, answer, None, true, unread)?;
+        note(self, path.as_bytes(), &found);
+        Ok(found)
+    }
+
     /// The names in a folder. One outside UTF-8 is missing: it is beyond the limits of the name of a mailbox, and the system cannot be
-    /// asked for it. None where the folder was just removed. `CannotOpen`: the folder cannot be read.
+    /// asked for it. None where the folder was just removed. If this process may not read it, and it may be skipped, there are none either,
+    /// and its path is added to those that are unread. `CannotOpen`: the folder cannot be read otherwise.
     pub(crate) fn names_in<R: Files + AllocGlobal + Clone + Drop>(
         &mut self,
         rt: &R,
         path: &str,
+        may_skip: bool,
+        unread: &mut Vec<String>,
     ) -> Result<Vec<String>, PlaceRefusal>
         ensures later { IsLater self.old.looks self.new.looks }
         ensures noted { MatchResult result (λ names. self.new.looks ≡ NamesIn path.now (map string_bytes names.items) ∷ self.old.looks)
             (λ _. self.new.looks ≡ self.old.looks) }
     {
-        let names = names_in(rt, path)?;
+        let alloc = rt.alloc();
+        let answer = names_in(rt, path);
+        let names = unless_unread(alloc, path, answer, Vec::new(alloc), may_skip, unread)?;
         note(self, path.as_bytes(), &names);
         Ok(names)
     }
 
-    /// Whether a mailbox is at a path. `CannotOpen`: the system does not say so.
+    /// Whether a mailbox is at a path: where this process may not ask, `if_unread`, and the path is added to those that are unread.
+    /// `CannotOpen`: the system does not say so.
     pub(crate) fn is_mailbox<R: Files + AllocGlobal + Clone + Drop>(
         &mut self,
         rt: &R,
         path: &str,
+        if_unread: bool,
+        unread: &mut Vec<String>,
     ) -> Result<bool, PlaceRefusal>
         ensures later { IsLater self.old.looks self.new.looks }
         ensures noted { MatchResult result (λ is_box. self.new.looks ≡ BoxAt path.now is_box ∷ self.old.looks)
             (λ _. self.new.looks ≡ self.old.looks) }
     {
-        let is_box = is_mailbox(rt, path)?;
+        let answer = is_mailbox(rt, path);
+        let is_box = unless_unread(rt.alloc(), path, answer, if_unread, true, unread)?;
         note(self, path.as_bytes(), &is_box);
         Ok(is_box)
     }
@@ -105,6 +134,32 @@ fn note<T>(looks: &mut Looks, _path: &[u8], _answer: &T)
     ensures { looks.new.looks ≡ this ∷ looks.old.looks }
 {
     *looks = looks.and();
+}
+
+/// What the system answered of this path. If this process has no permission to ask, and the path may be skipped, `otherwise` takes the
+/// place of an answer, and the path is added to those that are unread. `CannotOpen`: another error, or the path may not be skipped.
+fn unless_unread<T: Drop>(
+    alloc: Global,
+    path: &str,
+    answer: io::Result<T>,
+    otherwise: T,
+    may_skip: bool,
+    unread: &mut Vec<String>,
+) -> Result<T, PlaceRefusal>
+    ensures read { IfOk answer (λ found. (result ≡ Ok found) × (unread.new ≡ unread.old)) }
+    ensures unread { may_skip ≡ true → IfErr answer (λ error. error_kind error ≡ ErrorKind.PermissionDenied → IfOk result (λ found.
+        (found ≡ otherwise) × (map string_bytes unread.new.items ≡ map string_bytes unread.old.items ++ path.now ∷ []))) }
+    ensures refused { IfErr answer (λ error. (may_skip ≡ true → error_kind error ≡ ErrorKind.PermissionDenied → ⊥)
+        → IsErr result × (unread.new ≡ unread.old)) }
+{
+    match answer {
+        Ok(found) => Ok(found),
+        Err(error) if may_skip && error.kind() == ErrorKind::PermissionDenied => {
+            unread.push(String::from_str(alloc, path)?)?;
+            Ok(otherwise)
+        }
+        Err(error) => Err(PlaceRefusal::at(alloc, path, &error)),
+    }
 }
 
 /// Whether the same folder is at both paths.
@@ -120,6 +175,13 @@ pub(crate) fn is_same_folder<R: Files + AllocGlobal>(
 }
 
 fn folder_at<R: Files + AllocGlobal>(rt: &R, path: &str) -> Result<Option<Identity>, PlaceRefusal> {
+    match identity_at(rt, path) {
+        Ok(found) => Ok(found),
+        Err(error) => Err(PlaceRefusal::at(rt.alloc(), path, &error)),
+    }
+}
+
+fn identity_at<R: Files + AllocGlobal>(rt: &R, path: &str) -> io::Result<Option<Identity>> {
     match fs::metadata(rt, path) {
         Ok(found) if found.is_dir() => Ok(Some(Identity {
             device: found.dev(),
@@ -127,7 +189,7 @@ fn folder_at<R: Files + AllocGlobal>(rt: &R, path: &str) -> Result<Option<Identi
         })),
         Ok(_) => Ok(None),
         Err(error) if is_nothing(error.kind()) => Ok(None),
-        Err(error) => Err(PlaceRefusal::at(rt.alloc(), path, &error)),
+        Err(error) => Err(error),
     }
 }
 
@@ -136,36 +198,38 @@ fn is_nothing(kind: ErrorKind) -> bool {
     kind == ErrorKind::NotFound || kind == ErrorKind::FilesystemLoop
 }
 
-fn names_in<R: Files + AllocGlobal + Clone + Drop>(
-    rt: &R,
-    path: &str,
-) -> Result<Vec<String>, PlaceRefusal> {
+fn names_in<R: Files + AllocGlobal + Clone + Drop>(rt: &R, path: &str) -> io::Result<Vec<String>> {
     let alloc = rt.alloc();
     let mut names = Vec::new(alloc);
     let entries = match fs::read_dir(rt, path) {
         Ok(entries) => entries,
         // It was just removed.
         Err(error) if error.kind() == ErrorKind::NotFound => return Ok(names),
-        Err(error) => return Err(PlaceRefusal::at(alloc, path, &error)),
+        Err(error) => return Err(error),
     };
     for entry in entries {
         match entry {
             Ok(entry) => names.push(String::from_str(alloc, entry.file_name())?)?,
             // A name outside UTF-8 cannot be had.
             Err(error) if error.kind() == ErrorKind::InvalidFilename => {}
-            Err(error) => return Err(PlaceRefusal::at(alloc, path, &error)),
+            Err(error) => return Err(error),
         }
     }
     Ok(names)
 }
 
-fn is_mailbox<R: Files + AllocGlobal + Clone + Drop>(
-    rt: &R,
-    path: &str,
-) -> Result<bool, PlaceRefusal> {
-    match has_parts(rt, path) {
-        Ok(answer) => Ok(answer),
-        Err(error) => Err(PlaceRefusal::at(rt.alloc(), path, &error)),
+/// Whether a folder has the three parts of a mailbox. Where it can be read, and nothing in it be asked for, its names say so.
+fn is_mailbox<R: Files + AllocGlobal + Clone + Drop>(rt: &R, folder: &str) -> io::Result<bool> {
+    match has_parts(rt, folder) {
+        Err(error) if error.kind() == ErrorKind::PermissionDenied => {
+            let names = names_in(rt, folder)?;
+            Ok(
+                PARTS
+                    .iter()
+                    .all(|part| names.iter().any(|name| name.as_str() == *part)),
+            )
+        }
+        answer => answer,
     }
 }
 

@@ -24,6 +24,8 @@ pub(crate) struct FolderNames {
     pub(crate) within: Vec<String>,
     /// The others, escaped.
     pub(crate) beyond: Vec<String>,
+    /// The paths of what this process may not read.
+    pub(crate) unread: Vec<String>,
     /// What the system was asked for them, with its answers.
     pub(crate) looks: Looks,
 }
@@ -35,6 +37,7 @@ impl FolderNames {
         FolderNames {
             within: Vec::new(alloc),
             beyond: Vec::new(alloc),
+            unread: Vec::new(alloc),
             looks: Looks::new(),
         }
     }
@@ -69,8 +72,9 @@ impl FolderNames {
 /// The names of the mailboxes under a folder whose path ends with a slash. None where it is not there.
 ///
 /// The folder of Inbox is no mailbox under the root, whatever way leads to it; mailboxes below it are. What stands below a name of more
-/// than 255 bytes is left out. A symlink is what it leads to; one that leads to a folder above itself is left out. `CannotOpen`: a folder
-/// cannot be read; one whose name is beyond the limits comes to nothing then.
+/// than 255 bytes is left out. A symlink is what it leads to; one that leads to a folder above itself is left out. So is, below the root,
+/// what this process may not read, and its path is noted. `CannotOpen`: a folder cannot be read otherwise; one whose name is beyond the
+/// limits comes to nothing then.
 pub(crate) fn boxes_under<R: Files + AllocGlobal + Clone + Drop>(
     rt: &R,
     root: String,
@@ -173,7 +177,13 @@ impl TreeWalk {
             → GainedIn tree start.now folder.now (tree.names (string_bytes start.now.root ++ string_bytes folder.now.way)) self.old self.new) }
     {
         let path = path_of(rt.alloc(), start, folder.way.as_str())?;
-        let parts = self.names.looks.names_in(rt, path.as_str())?;
+        let names = &mut self.names;
+        let parts = names.looks.names_in(
+            rt,
+            path.as_str(),
+            !folder.way.is_empty(),
+            &mut names.unread,
+        )?;
         for part in parts {
             self.look(rt, start, folder, part.as_str())?;
         }
@@ -219,7 +229,10 @@ impl TreeWalk {
             → GainedAt tree start.now (string_bytes name) above.now.above.items self.old self.new) }
     {
         let path = path_of(rt.alloc(), start, name.as_str())?;
-        let found = self.names.looks.folder_at(rt, path.as_str())?;
+        let names = &mut self.names;
+        let found = names
+            .looks
+            .folder_below(rt, path.as_str(), &mut names.unread)?;
         let Some(identity) = new_folder(above.above.as_slice(), found) else {
             return Ok(());
         };
@@ -271,7 +284,8 @@ impl TreeWalk {
         ensures gained { OnOk result (is_within ≡ true → (tree : Tree) → Agrees tree self.new.names.looks.looks
             → Gained self.old self.new [] (listed_box (string_bytes name) (tree.is_box path.now))) }
     {
-        let is_box = self.names.looks.is_mailbox(rt, path)?;
+        let names = &mut self.names;
+        let is_box = names.looks.is_mailbox(rt, path, false, &mut names.unread)?;
         self.names.add(rt.alloc(), name, is_within, is_box)
     }
 }

@@ -97,7 +97,7 @@ impl<'a> MemStores<'a> {
     fn lend(&mut self, store: &str, name: &str) -> Result<(), StoreFault> {
         self.said.hear(self.facts, store, name);
         if self.facts.has("locked", name) {
-            return Err(StoreFault::Locked);
+            return Err(StoreFault::Locked(None));
         }
         if self.facts.has("barred", name) {
             let why = self.why_barred(name);

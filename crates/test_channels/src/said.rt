@@ -84,6 +84,10 @@ impl Said {
 fn is_for(notice: &Notice, of: ChannelStores<'_>) -> bool {
     match notice {
         Notice::Skipped(store, name) => of.could_choose(store.as_str(), name.as_str()),
-        Notice::Unnamed(_) | Notice::Alert(..) => true,
+        Notice::Unnamed(_)
+        | Notice::Alert(..)
+        | Notice::Unread(_)
+        | Notice::FirstRun(..)
+        | Notice::Unpaired(..) => true,
     }
 }

@@ -159,7 +159,7 @@ impl Scene<'_> {
                 }
             }
             Err(LockFault::Refused(refusal)) => print_refusal(reported, refusal),
-            Err(LockFault::Held) => reported.say(&LockFault::Held),
+            Err(LockFault::Held(holder)) => reported.say(&LockFault::Held(holder)),
         }
     }
 }

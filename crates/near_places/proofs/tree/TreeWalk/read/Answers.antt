@@ -13,7 +13,7 @@ returns-in_err-look-clause-later g c = later_then c.names_in.ensures.later (late
 
 pub loop-part-preserved : goal.loop-part-preserved
 loop-part-preserved g c =
-    let asked : TreeWalk = record c.args.self.now { names = record c.args.self.now.names { looks = c.names_in.new.self } } in
+    let asked : TreeWalk = record c.args.self.now { names = record c.args.self.now.names { looks = c.names_in.new.self; unread = c.names_in.new.unread } } in
     subst (λ (names : List (List ℕ)). LookedAt c.args.start.now c.args.folder.now names asked c.look.new.self)
     (sym (map-append string_bytes c.loop-part.yielded (c.in-Some.part ∷ [])))
     (looked_at_more c.args.start.now c.args.folder.now (map string_bytes c.loop-part.yielded) (string_bytes c.in-Some.part) asked c.loop-part.self c.look.new.self
@@ -26,7 +26,7 @@ returns-clause-later g c = later_then c.names_in.ensures.later c.loop-part.invar
 
 pub returns-clause-gained : goal.returns-clause-gained
 returns-clause-gained g c = λ is tree agrees.
-    let asked : TreeWalk = record c.args.self.now { names = record c.args.self.now.names { looks = c.names_in.new.self } } in
+    let asked : TreeWalk = record c.args.self.now { names = record c.args.self.now.names { looks = c.names_in.new.self; unread = c.names_in.new.unread } } in
     let root : List ℕ = string_bytes c.args.start.now.root in
     let at : c.as_str-2.result.now ≡ root ++ string_bytes c.args.folder.now.way =
     c.as_str-2.ensures.value ∙ c.in_ok-path.ensures ∙ ap (λ (n : List ℕ). root ++ n) c.as_str.ensures.value in

@@ -10,7 +10,7 @@ use Rattle.near_places.proofs.tree.TreeWalk.visit.Goals as goal
 
 pub returns-in_default-clause-gained : goal.returns-in_default-clause-gained
 returns-in_default-clause-gained g c = λ is fits tree agrees.
-    let asked : TreeWalk = record c.args.self.now { names = record c.args.self.now.names { looks = c.folder_at.new.self } } in
+    let asked : TreeWalk = record c.args.self.now { names = record c.args.self.now.names { looks = c.folder_below.new.self; unread = c.folder_below.new.unread } } in
     let at : c.as_str-2.result.now ≡ string_bytes c.args.start.now.root ++ string_bytes c.args.name =
     c.as_str-2.ensures.value ∙ c.in_ok-path.ensures ∙ ap (λ (n : List ℕ). string_bytes c.args.start.now.root ++ n) c.as_str.ensures.value in
     let none : new_folder c.args.above.now.above.items c.in_ok-found.found ≡ None =
@@ -21,10 +21,10 @@ returns-in_default-clause-gained g c = λ is fits tree agrees.
 pub returns-then-is_at-clause-gained : goal.returns-then-is_at-clause-gained
 returns-then-is_at-clause-gained g c = λ is fits tree agrees.
     let name : List ℕ = string_bytes c.args.name in
-    let asked : TreeWalk = record c.args.self.now { names = record c.args.self.now.names { looks = c.folder_at.new.self } } in
+    let asked : TreeWalk = record c.args.self.now { names = record c.args.self.now.names { looks = c.folder_below.new.self; unread = c.folder_below.new.unread } } in
     let at : c.as_str-2.result.now ≡ string_bytes c.args.start.now.root ++ name =
     c.as_str-2.ensures.value ∙ c.in_ok-path.ensures ∙ ap (λ (n : List ℕ). string_bytes c.args.start.now.root ++ n) c.as_str.ensures.value in
-    let later : IsLater c.folder_at.new.self.looks c.keep.new.self.names.looks.looks =
+    let later : IsLater c.folder_below.new.self.looks c.keep.new.self.names.looks.looks =
     later_none _ _ (ap (λ (n : FolderNames). n.looks.looks) c.keep.ensures.same) in
     let child : new_folder c.args.above.now.above.items c.in_ok-found.found ≡ Some c.in-Some.identity =
     ap (λ (l : List Identity). new_folder l c.in_ok-found.found) (sym c.as_slice.ensures.value) ∙ sym c.new_folder.ensures ∙ c.in-Some.is in
@@ -38,15 +38,15 @@ returns-then-is_at-clause-gained g c = λ is fits tree agrees.
 
 pub returns-clause-later : goal.returns-clause-later
 returns-clause-later g c =
-    later_then c.folder_at.ensures.later (later_then (later_none _ _ (ap (λ (n : FolderNames). n.looks.looks) c.keep.ensures.same)) c.note.ensures.later)
+    later_then c.folder_below.ensures.later (later_then (later_none _ _ (ap (λ (n : FolderNames). n.looks.looks) c.keep.ensures.same)) c.note.ensures.later)
 
 pub returns-clause-gained : goal.returns-clause-gained
 returns-clause-gained g c = on_ok c.note.result (λ noted is fits tree agrees.
     let name : List ℕ = string_bytes c.args.name in
-    let asked : TreeWalk = record c.args.self.now { names = record c.args.self.now.names { looks = c.folder_at.new.self } } in
+    let asked : TreeWalk = record c.args.self.now { names = record c.args.self.now.names { looks = c.folder_below.new.self; unread = c.folder_below.new.unread } } in
     let at : c.as_str-2.result.now ≡ string_bytes c.args.start.now.root ++ name =
     c.as_str-2.ensures.value ∙ c.in_ok-path.ensures ∙ ap (λ (n : List ℕ). string_bytes c.args.start.now.root ++ n) c.as_str.ensures.value in
-    let later : IsLater c.folder_at.new.self.looks c.note.new.self.names.looks.looks =
+    let later : IsLater c.folder_below.new.self.looks c.note.new.self.names.looks.looks =
     later_then (later_none _ _ (ap (λ (n : FolderNames). n.looks.looks) c.keep.ensures.same)) c.note.ensures.later in
     let child : new_folder c.args.above.now.above.items c.in_ok-found.found ≡ Some c.in-Some.identity =
     ap (λ (l : List Identity). new_folder l c.in_ok-found.found) (sym c.as_slice.ensures.value) ∙ sym c.new_folder.ensures ∙ c.in-Some.is in
