@@ -15,7 +15,7 @@ import sys
 
 sys.path.insert(0, str(pathlib.Path(__file__).resolve().parents[1]))
 from oracle.mail import escaped
-from tests.scenes import server_edges, session_edges
+from tests.scenes import server_edges, session_edges, two_accounts
 from tests.support.edge_scene import EARLIER, FOUR, PAGE, QUICK, THREE, Edge, can_mount, disk, far, near, nobody_can_run, stopped
 from tests.support.explained import FINISHED
 from tests.support.places import MBSYNC, must_run, parser_of
@@ -446,7 +446,7 @@ def closed_streams(tally):
 
 SCENES = [odd_names, odd_name_with_uid, things_without_uid, things_with_unknown_uid, things_with_known_uid, flags_for_a_thing, in_the_way,
           things_for_our_files, removed_far, removed_near, earlier_server, no_look, no_permission, full_disk, read_only_disk, closed_streams,
-          *server_edges.SCENES, *session_edges.SCENES]
+          *server_edges.SCENES, *session_edges.SCENES, *two_accounts.SCENES]
 
 
 def main():

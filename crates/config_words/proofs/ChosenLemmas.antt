@@ -87,6 +87,31 @@ silent ws w name quiet = (
   },
 )
 
+-- where words choose a name, the last of them speaks of it and is not negated, or does not speak of it, and those before choose it
+pub chosen_cases : (ws : List (List ℕ)) (w name : List ℕ) → IsChosen (ws ++ w ∷ []) name
+    → (SpeaksOf name w × (is_negated w ≡ false)) ⊎ (IsChosen ws name × (¬ SpeaksOf name w))
+chosen_cases ws w name is =
+    elim (cut_at is.before is.word is.following ws w is.together) [
+      | inl last ↦ inl (
+        subst (λ (x : List ℕ). SpeaksOf name x) last.same is.speaks,
+        subst (λ (x : List ℕ). is_negated x ≡ false) last.same is.affirms,
+      )
+      | inr more ↦
+          let none : All (λ x. ¬ SpeaksOf name x) (more.between ++ w ∷ []) = subst (λ (l : List (List ℕ)). All (λ x. ¬ SpeaksOf name x) l) more.ends is.last in
+          inr (
+            record {
+              before = is.before;
+              word = is.word;
+              following = more.between;
+              together = more.others;
+              speaks = is.speaks;
+              last = all_first (λ x. ¬ SpeaksOf name x) more.between w none;
+              affirms = is.affirms;
+            },
+            all_last (λ x. ¬ SpeaksOf name x) more.between w none,
+          )
+    ]
+
 -- ---- the words up to a place of their list
 
 one_more : (items : List (List ℕ)) (i : ℕ) (w x : List ℕ) → i < length items → x ≡ get_or items i x → w ≡ x → take (i + 1) items ≡ take i items ++ w ∷ []

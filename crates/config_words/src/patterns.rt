@@ -133,7 +133,7 @@ fn is_match(pattern: &[u8], name: &[u8]) -> bool
 }
 
 /// The pattern of a word.
-fn pattern_of(word: &[u8]) -> &[u8]
+pub fn pattern_of(word: &[u8]) -> &[u8]
     ensures pattern { result.now ≡ pattern_of word.now }
     ensures short { length result.now ≤ length word.now }
 {
@@ -144,7 +144,7 @@ fn pattern_of(word: &[u8]) -> &[u8]
 }
 
 /// Whether a word stands for mailboxes that are not chosen.
-fn is_negated(word: &[u8]) -> bool
+pub fn is_negated(word: &[u8]) -> bool
     ensures { result ≡ is_negated word.now }
 {
     matches!(word, [b'!', ..])

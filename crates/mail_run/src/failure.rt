@@ -31,6 +31,14 @@ pub(crate) enum StartFailure {
         /// The name of the mailbox.
         mailbox: String,
     },
+    /// Two channels of the configuration would keep unlike mailboxes in one folder.
+    #[error("config channel {channel}: {shared}\n  write a MaildirStore for this channel alone, whose Path and Inbox no other one has, as ~/mail-work/ and ~/mail-work/INBOX: see mbsync(1), A second account")]
+    Shared {
+        /// The name of one channel.
+        channel: String,
+        /// Which folder it shares, and with what.
+        shared: String,
+    },
     /// The system gives no time, or one before 1970.
     #[error("cannot read the clock")]
     Clock,

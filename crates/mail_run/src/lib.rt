@@ -8,6 +8,7 @@ pub mod generator;
 mod no_world;
 pub mod run;
 mod screen;
+mod sharing;
 mod shown_stores;
 mod sources;
 pub mod world;

@@ -1,6 +1,6 @@
 //! What a command line asks for, over servers and folders.
 
-ghost use Rattle.std.specs.Prelude.{◌≡◌, false, None, OnOk};
+ghost use Rattle.std.specs.Prelude.{◌≡◌, false, None, IfOk, OnOk, map};
 ghost use Rattle.std.specs.List.{find};
 ghost use Rattle.channels.specs.Runs.{RunsOnly};
 ghost use Rattle.channels.specs.Settlings.{SettlesAll};
@@ -10,12 +10,15 @@ ghost use Rattle.mail_run.specs.Settled.{HasRunOnly, HasSettled};
 ghost use Rattle.mail_stores.specs.Listed.{HaveListed};
 ghost use Rattle.mail_stores.specs.Placed.{HaveStood};
 ghost use Rattle.mail_stores.specs.Records.{none_asked};
+ghost use Rattle.near_places.specs.Paths.{placed_paths};
+ghost use Rattle.near_places.specs.Shared.{AreAllApart};
 ghost use Rattle.std.specs.Int.NonZero.{non_zero_u32_get};
 
 use crate::boxes::{refused_channel, refused_name};
 use crate::failure::StartFailure;
 use crate::generator::generator;
 use crate::screen::{ProgressLine, Screen, Wiping};
+use crate::sharing::refuse_shared;
 use crate::shown_stores::ShownStores;
 use crate::sources::{open_config, read_fresh, read_home, read_seed};
 use channels::run::run_config;
@@ -52,18 +55,22 @@ pub(crate) struct Start {
 }
 
 /// Reads what a run needs: HOME, the configuration, which is that of this file if one is named, 32 random bytes and the clock, in this
-/// order.
+/// order. Of no two channels of the configuration the folders are shared (`refuse_shared`).
 pub(crate) fn start_of<R: Files + Env + Clock + AllocGlobal>(
     rt: &R,
     file: Option<&str>,
-) -> Result<Start, StartFailure> {
+) -> Result<Start, StartFailure>
+    ensures { IfOk result (λ start. AreAllApart start.config (map (placed_paths start.home) start.config.maildir_stores.items)) }
+{
     let home = read_home(rt)?;
     let config = open_config(rt, file, home.as_deref())?;
+    let home = Home::new(home);
     refuse_boxes(rt.alloc(), &config)?;
+    refuse_shared(rt, &config, &home)?;
     let seen_by = first_keywords(rt.alloc(), &config)?;
     Ok(Start {
         config,
-        home: Home::new(home),
+        home,
         seed: read_seed(rt)?,
         fresh: read_fresh(rt)?,
         notes: ServerNotes::new(rt.alloc())?,
@@ -95,8 +102,8 @@ fn refuse_boxes(alloc: Global, config: &Config) -> Result<(), StartFailure>
 
 /// Does what a command line asks for, over the servers and the folders of its configuration (`channels::run::run_config`). The file of the
 /// configuration is that of the command line, or else `.mbsyncrc` in HOME. It gives the exit status: 1 also where a file cannot be read,
-/// or where the configuration is a bad one or names a mailbox that no Maildir store can have, which `err` gets a line about
-/// (docs/MBSYNC.md, "What is printed").
+/// or where the configuration is a bad one, names a mailbox that no Maildir store can have, or would keep unlike mailboxes in one folder, which
+/// `err` gets a line about (docs/MBSYNC.md, "What is printed").
 ///
 /// Where there is a terminal, a line of it shows which mailbox is at work, and how many steps of its plan are logged; it is wiped before
 /// anything is written to `out` or `err`.

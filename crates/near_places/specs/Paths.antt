@@ -18,3 +18,16 @@ placed (Some home) (b ∷ bs) = if b == 126 && begins_with_slash bs then home ++
 abbrev pub folder_of : (home : Option (List ℕ)) (store : MaildirStore) (name : List ℕ) → List ℕ
 folder_of home store name =
     if pointwise nat_eq name (codes "INBOX") then placed home (string_bytes store.inbox) else placed home (string_bytes store.path) ++ name
+
+-- where the folders of a store are: what the folder of each mailbox but INBOX begins with, and the folder of INBOX
+pub record Places : Type 0 where
+  pub root : List ℕ
+  pub inbox : List ℕ
+
+-- those that a store names
+abbrev pub placed_paths : (home : Option (List ℕ)) (store : MaildirStore) → Places
+placed_paths home store = record { root = placed home (string_bytes store.path); inbox = placed home (string_bytes store.inbox) }
+
+-- the folder of the mailbox of this name. At the paths that a store names it is `folder_of`.
+abbrev pub folder_in : (places : Places) (name : List ℕ) → List ℕ
+folder_in places name = if pointwise nat_eq name (codes "INBOX") then places.inbox else places.root ++ name

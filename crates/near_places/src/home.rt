@@ -46,6 +46,17 @@ impl Home {
         }
     }
 
+    /// A path as a configuration writes it: with `~` instead of the home folder that it begins with.
+    pub fn shown(&self, alloc: Global, path: &str) -> Result<String, AllocError> {
+        match &self.path {
+            Some(home) => match path.strip_prefix(home.as_str()) {
+                Some(rest) if rest.starts_with('/') => format!(in alloc; "~{rest}"),
+                _ => String::from_str(alloc, path),
+            },
+            None => String::from_str(alloc, path),
+        }
+    }
+
     /// The folder of a near mailbox: that of Inbox for INBOX, and for another the path of the store directly followed by its name.
     pub fn folder_of(
         &self,

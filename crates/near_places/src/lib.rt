@@ -7,5 +7,8 @@ pub mod home;
 pub mod lock;
 pub mod looks;
 pub mod names;
+mod overlap;
 pub mod refusal;
+pub mod shared;
+pub mod store_paths;
 mod tree;
